@@ -1,0 +1,15 @@
+//! What every crate of Tydi stands on: texts, names, paths, levels and words of bits, each seen by contracts as the list,
+//! number or record that it stands for, and the small readers that all text formats share.
+#![tactic(auto)]
+
+mod level;
+mod list;
+mod memory;
+mod place;
+mod text;
+
+pub use level::Level;
+pub use list::List;
+pub use memory::Memory;
+pub use place::Place;
+pub use text::Text;

@@ -1,0 +1,111 @@
+ghost use Rattle.std.specs.Prelude.{◌≡◌, ◌≤◌, ◌<◌, [], ◌∷◌, ◌++◌, take, length, slice_get, ◌↔◌, IsTrue, IfOk, OnOk, OnErr, OnSome};
+ghost use Rattle.std.specs.Option.{option_copied};
+ghost use Rattle.std.specs.Slice.Iter.{iter_rest};
+
+use crate::memory::Memory;
+use std::alloc::Global;
+use std::marker::Model;
+use std::slice;
+
+/// A `Vec` that contracts see as the list of its elements. Two are equal exactly where their elements are.
+#[derive(Debug, Drop)]
+pub struct List<T> {
+    elements: Vec<T>,
+}
+
+impl<T> Model for List<T> {
+    ghost use Rattle.std.specs.Prelude.{List};
+    ghost use Rattle.std.specs.Coded.{coded_list};
+
+    ghost Value = { List T };
+
+    ghost coded = { coded_list T.code };
+
+    ghost view = { λ list. list.elements.items };
+}
+
+impl<T> List<T> {
+    /// The empty list. It takes no memory.
+    pub fn new(alloc: Global) -> List<T>
+        ensures { result ≡ [] }
+    {
+        List {
+            elements: Vec::new(alloc),
+        }
+    }
+
+    pub fn from_vec(elements: Vec<T>) -> List<T>
+        ensures { result ≡ elements.items }
+    {
+        List { elements }
+    }
+
+    pub fn as_slice(&self) -> &[T]
+        ensures { result.now ≡ self.now }
+    {
+        self.elements.as_slice()
+    }
+
+    pub fn len(&self) -> usize
+        ensures { result ≡ length self.now }
+    {
+        self.elements.len()
+    }
+
+    pub fn is_empty(&self) -> bool
+        ensures { IsTrue result ↔ (self.now ≡ []) }
+    {
+        self.elements.is_empty()
+    }
+
+    pub fn get(&self, index: usize) -> Option<&T>
+        ensures value { option_copied result ≡ slice_get self.now index }
+        ensures within { OnSome result (index < length self.now) }
+    {
+        self.elements.get(index)
+    }
+
+    pub fn iter(&self) -> slice::Iter<'_, T>
+        ensures { iter_rest result ≡ self.now }
+    {
+        self.elements.iter()
+    }
+}
+
+impl<T: Drop> List<T> {
+    /// Adds an element at the end. After `Memory` the list is as before.
+    pub fn push(&mut self, element: T) -> Result<(), Memory>
+        ensures ok { OnOk result (self.new ≡ self.old ++ element ∷ []) }
+        ensures err { OnErr result (self.new ≡ self.old) }
+    {
+        self.elements.push(element)?;
+        Ok(())
+    }
+
+    /// Keeps the first elements, up to this many.
+    pub fn truncate(&mut self, len: usize)
+        ensures { self.new ≡ take len self.old }
+    {
+        self.elements.truncate(len);
+    }
+}
+
+impl<T: Copy> List<T> {
+    /// A copy of these elements.
+    pub fn from_slice(alloc: Global, elements: &[T]) -> Result<List<T>, Memory>
+        ensures { IfOk result (λ list. list ≡ elements.now) }
+    {
+        Ok(List {
+            elements: Vec::from_slice(alloc, elements)?,
+        })
+    }
+
+    /// Adds these elements at the end. After `Memory` the list is as before.
+    pub fn extend_from_slice(&mut self, elements: &[T]) -> Result<(), Memory>
+        ensures ok { OnOk result (self.new ≡ self.old ++ elements.now) }
+        ensures err { OnErr result (self.new ≡ self.old) }
+    {
+        self.elements.extend_from_slice(elements)?;
+        Ok(())
+    }
+}
