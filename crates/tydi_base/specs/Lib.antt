@@ -1,1 +1,3 @@
 pub mod Level
+pub mod Reading
+pub mod Decimal
