@@ -1,3 +1,4 @@
 pub mod Level
 pub mod Reading
 pub mod Decimal
+pub mod Pieces

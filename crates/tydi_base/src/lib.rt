@@ -6,6 +6,7 @@ mod decimal;
 mod level;
 mod list;
 mod memory;
+mod pieces;
 mod place;
 mod text;
 
@@ -13,5 +14,6 @@ pub use decimal::{decimals_are_read_as_spelled, read_decimal, write_decimal};
 pub use level::Level;
 pub use list::List;
 pub use memory::Memory;
+pub use pieces::{first_piece, pieces_are_parts};
 pub use place::Place;
 pub use text::Text;
