@@ -2,3 +2,4 @@ pub mod Level
 pub mod Reading
 pub mod Decimal
 pub mod Pieces
+pub mod Name

@@ -1,0 +1,108 @@
+//! Names: ASCII letters, digits and `_`.
+
+ghost use Rattle.std.specs.Prelude.{◌≡◌, IsTrue, IfOk};
+ghost use Rattle.std.specs.List.{list_all};
+ghost use Rattle.tydi_base.specs.Name as spec;
+
+use crate::list::List;
+use crate::memory::Memory;
+use std::alloc::Global;
+use std::marker::Model;
+
+/// A name (Tydi specification, names): ASCII letters, digits and `_`, with a letter first, no two `_` together, no `_`
+/// last, and not one of the words `Null`, `Bits`, `Group`, `Union` and `Stream`. Contracts see its bytes.
+#[derive(Debug, Drop)]
+pub struct Name {
+    bytes: List<u8>,
+}
+
+impl Model for Name {
+    ghost use Rattle.std.specs.Prelude.{List, ℕ, IsTrue};
+    ghost use Rattle.tydi_base.specs.Name.{is_name};
+
+    ghost Value = { List ℕ };
+
+    ghost view = { λ name. name.bytes };
+
+    ghost invariant = { λ name. IsTrue (is_name name.bytes) };
+}
+
+impl Name {
+    /// The name that a text is. `Ok(None)` exactly where it is none.
+    pub fn read(alloc: Global, text: &[u8]) -> Result<Option<Name>, Memory>
+        ensures { IfOk result (λ found. found ≡ spec.name_of text.now) }
+    {
+        if !is_name(text) {
+            return Ok(None);
+        }
+        let bytes = List::from_slice(alloc, text)?;
+        Ok(Some(Name { bytes }))
+    }
+
+    /// Its bytes.
+    pub fn as_bytes(&self) -> &[u8]
+        ensures value { result.now ≡ self.now }
+        ensures name { IsTrue (spec.is_name self.now) }
+    {
+        self.bytes.as_slice()
+    }
+}
+
+/// Whether a text is a name.
+pub fn is_name(text: &[u8]) -> bool
+    ensures { result ≡ spec.is_name text.now }
+{
+    begins_with_letter(text)
+        && has_name_bytes(text)
+        && !has_double_underscore(text)
+        && !ends_in_underscore(text)
+        && !is_reserved(text)
+}
+
+fn begins_with_letter(text: &[u8]) -> bool
+    ensures { result ≡ spec.begins_with_letter text.now }
+{
+    match text {
+        [] => false,
+        [first, ..] => first.is_ascii_alphabetic(),
+    }
+}
+
+fn has_name_bytes(text: &[u8]) -> bool
+    ensures { result ≡ list_all spec.is_name_byte text.now }
+{
+    text.iter()
+        .all(|byte| byte.is_ascii_alphanumeric() || *byte == b'_')
+}
+
+fn has_double_underscore(text: &[u8]) -> bool
+    ensures { result ≡ spec.has_double_underscore text.now }
+{
+    let mut previous = 0;
+    for byte in text {
+        if previous == b'_' && *byte == b'_' {
+            return true;
+        }
+        previous = *byte;
+    }
+    false
+}
+
+fn ends_in_underscore(text: &[u8]) -> bool
+    ensures { result ≡ spec.ends_in_underscore text.now }
+{
+    match text {
+        [] => false,
+        [.., last] => *last == b'_',
+    }
+}
+
+fn is_reserved(text: &[u8]) -> bool
+    ensures { result ≡ spec.is_reserved text.now }
+{
+    text == b"Null".as_slice()
+        || text == b"Bits".as_slice()
+        || text == b"Group".as_slice()
+        || text == b"Union".as_slice()
+        || text == b"Stream".as_slice()
+}
