@@ -1,3 +1,4 @@
 pub mod ReadingLaws
 pub mod DecimalLaws
 pub mod PieceLaws
+pub mod PathLaws

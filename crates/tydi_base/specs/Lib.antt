@@ -3,3 +3,4 @@ pub mod Reading
 pub mod Decimal
 pub mod Pieces
 pub mod Name
+pub mod Path

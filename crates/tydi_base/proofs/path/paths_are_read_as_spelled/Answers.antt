@@ -1,0 +1,8 @@
+use Rattle.tydi_base.proofs.PathLaws.{path_of-path_text, path_of-some}
+use Rattle.tydi_base.proofs.path.paths_are_read_as_spelled.Goals as goal
+
+pub returns-clause-spelled : goal.returns-clause-spelled
+returns-clause-spelled c = path_of-path_text
+
+pub returns-clause-read : goal.returns-clause-read
+returns-clause-read c = path_of-some
