@@ -2,3 +2,4 @@ pub mod ReadingLaws
 pub mod DecimalLaws
 pub mod PieceLaws
 pub mod PathLaws
+pub mod PathLoops

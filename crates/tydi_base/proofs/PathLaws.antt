@@ -1,16 +1,14 @@
 -- Paths: what is spelled is read, and what is read is spelled so.
-use Rattle.std.proofs.Common.{◌≡◌, ◌≢◌, ℕ, ◌+◌, ◌<◌, ◌≤◌, Bool, true, false, ◌&&◌, cond, eqb, List, [], ◌∷◌, ◌++◌, length, get_or, take, drop, Option, Some, None, refl, sym, ap, ◌∙◌, arith, All, append_assoc, inl, inr, ◌⊎◌}
-use Rattle.std.specs.List.{list_all, join_with_byte, AllByRecursion}
+use Rattle.std.proofs.Common.{◌≡◌, ◌≢◌, ℕ, ◌<◌, Bool, true, false, ◌&&◌, cond, eqb, List, [], ◌∷◌, length, get_or, Some, refl, sym, ap, ◌∙◌, arith, All}
+use Rattle.std.specs.List.{list_all, join_with_byte}
 use Rattle.std.specs.Str.{bytes_eq}
 use Rattle.std.proofs.lemmas.Bool.Decides.{nat_tests}
-use Rattle.std.proofs.lemmas.Grind.{common_steps}
-use Rattle.std.proofs.lemmas.List.Elements.{All-get_or, All-from_get_or, All-head, All-tail}
-use Rattle.std.proofs.lemmas.List.Folds.{list_all-append}
+use Rattle.std.proofs.lemmas.List.Elements.{All-get_or, All-from_get_or, All-head}
 use Rattle.std.proofs.lemmas.List.Sums.{AllPass-from_list_all, list_all-from_AllPass}
 use Rattle.std.proofs.lemmas.List.Splits.{length-slice_split}
 use Rattle.std.proofs.lemmas.Option.{cond_some}
 use Rattle.std.proofs.lemmas.Slice.Eq.{bytes_eq-Decides}
-use Rattle.tydi_base.specs.Name.{is_name, is_name_byte, begins_with_letter, has_double_underscore, ends_in_underscore, is_reserved, name_of}
+use Rattle.tydi_base.specs.Name.{is_name, is_name_byte, begins_with_letter}
 use Rattle.tydi_base.specs.Pieces.{pieces_of, Lacks}
 use Rattle.tydi_base.specs.Path.{names_of, joined_path, split_path, PathsAreReadAsSpelled, PathsAreSpelledAsRead}
 use Rattle.tydi_base.proofs.PieceLaws.{pieces_of-join, join-pieces_of}

@@ -17,7 +17,7 @@ pub use level::Level;
 pub use list::List;
 pub use memory::Memory;
 pub use name::{Name, is_name};
-pub use path::{paths_are_read_as_spelled, Path};
+pub use path::{Path, paths_are_read_as_spelled};
 pub use pieces::{first_piece, pieces_are_parts};
 pub use place::Place;
 pub use text::Text;

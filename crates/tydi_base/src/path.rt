@@ -72,8 +72,7 @@ impl Path {
 pub fn paths_are_read_as_spelled()
     ensures spelled { spec.PathsAreReadAsSpelled }
     ensures read { spec.PathsAreSpelledAsRead }
-{
-}
+{}
 
 /// The names between the separators of a text. `Ok(None)` exactly where a piece is no name.
 fn read_names(alloc: Global, text: &[u8], separator: u8) -> Result<Option<List<Name>>, Memory>
