@@ -21,3 +21,6 @@ pub use path::{Path, paths_are_read_as_spelled};
 pub use pieces::{first_piece, pieces_are_parts};
 pub use place::Place;
 pub use text::Text;
+
+#[cfg(test)]
+mod reading_tests;
