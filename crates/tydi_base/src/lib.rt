@@ -2,12 +2,14 @@
 //! number or record that it stands for, and the small readers that all text formats share.
 #![tactic(auto)]
 
+mod bits;
 mod level;
 mod list;
 mod memory;
 mod place;
 mod text;
 
+pub use bits::Bits;
 pub use level::Level;
 pub use list::List;
 pub use memory::Memory;
