@@ -2,8 +2,12 @@
 use Rattle.std.proofs.Common.{◌≡◌, ◌∙◌, sym, Decides, bytes_eq, ℕ, zero, suc, ◌+◌, ◌-◌, ◌*◌, ◌/◌, ◌%◌, ◌^◌, ◌<◌, ◌≤◌, min, Bool, true, false, eqb, cond, List, [], ◌∷◌, ◌++◌, length, get_or, take, drop, replicate, flat_map, refl, ap, arith, rules, length-append, append_assoc}
 use Rattle.std.proofs.Math.Nat.{pow-succ'}
 use Rattle.std.proofs.lemmas.Bool.Decides.{nat_tests}
-use Rattle.std.proofs.lemmas.Slice.Eq.{bytes_eq-Decides}
+use Rattle.std.proofs.lemmas.Slice.Eq.{bytes_eq-Decides, slice_eq-Decides}
 use Rattle.std.proofs.lemmas.Bool.{eqb-true}
+use Rattle.std.proofs.Math.Bool.{beq}
+use Rattle.std.specs.Cmp.Lexicographic.{pointwise}
+use Rattle.std.specs.Cmp.{booleans_Decides}
+use Rattle.std.specs.Bool.{one_answer}
 use Rattle.std.proofs.lemmas.Grind.{common_steps, flat_map-append}
 use Rattle.std.proofs.lemmas.List.{append-nil, append_cancel_left, length-replicate, replicate-append-replicate, take-append-drop, take-replicate, drop-replicate, drop_at, take_at}
 use Rattle.tydi_base.specs.Bits.{bits_of, number_of_bits, zero_bits, unpack, IsPacked}
@@ -181,3 +185,8 @@ pub other_width : (width other_width : ℕ) (a b : List ℕ) (word other : List 
 other_width width other a b word other_word word_is other_is packed_a packed_b differ =
     ( λ holds. absurd (differ (eqb-true width other holds)),
       λ same. absurd (differ (sym (length_packed width a packed_a) ∙ ap length (word_is ∙ same ∙ sym other_is) ∙ length_packed other b packed_b)) )
+
+-- what decides whether two words are the same is what `==` of their bits answers
+pub compared : (a b : List Bool) {result : Bool} → Decides result (a ≡ b) → result ≡ pointwise beq a b
+compared a b {result = result} decides =
+    one_answer result (pointwise beq a b) decides (slice_eq-Decides booleans_Decides a b (pointwise beq a b) refl)

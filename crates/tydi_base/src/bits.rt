@@ -1,4 +1,8 @@
 ghost use Rattle.std.specs.Prelude.{◌≡◌, ◌↔◌, length, IsTrue, IfOk};
+ghost use Rattle.std.proofs.Common.{rules};
+ghost use Rattle.std.proofs.Math.Bool.{beq};
+ghost use Rattle.std.specs.Cmp.Lexicographic.{pointwise};
+ghost use Rattle.std.specs.Cmp.Rules.{comparing};
 ghost use Rattle.tydi_base.specs.Bits.{zero_bits};
 
 use crate::memory::Memory;
@@ -42,13 +46,24 @@ impl Bits {
     {
         self.len
     }
+}
+
+impl PartialEq for Bits {
+    ghost eq = { pointwise beq };
+
+    ghost laws = { Prim.search (comparing, rules) };
 
     /// Whether it is the same word: as wide, and with the same bits.
-    pub fn equals(&self, other: &Bits) -> bool
-        ensures { IsTrue result ↔ (self.now ≡ other.now) }
+    fn eq(&self, other: &Bits) -> bool
+        ensures eq { result ≡ pointwise beq self.now other.now }
+        ensures same { IsTrue result ↔ (self.now ≡ other.now) }
     {
         let bytes = self.bytes.as_slice();
         let others = other.bytes.as_slice();
         self.len == other.len && bytes == others
     }
+}
+
+impl Eq for Bits {
+    ghost laws = { Prim.search (comparing, rules) };
 }
