@@ -1,9 +1,9 @@
 -- Words of bits: the bits of a number, and of the bytes that keep them.
 use Rattle.std.proofs.Common.{◌≡◌, ◌∙◌, sym, Decides, bytes_eq, ℕ, zero, suc, ◌+◌, ◌-◌, ◌*◌, ◌/◌, ◌%◌, ◌^◌, ◌<◌, ◌≤◌, min, Bool, true, false, eqb, cond, List, [], ◌∷◌, ◌++◌, length, get_or, take, drop, replicate, flat_map, refl, ap, arith, rules, length-append, append_assoc}
-use Rattle.std.proofs.Math.Nat.{pow-succ'}
+use Rattle.std.proofs.Math.Nat.{mul_assoc, pow-succ', zero-add, suc-add}
 use Rattle.std.proofs.lemmas.Bool.Decides.{nat_tests}
 use Rattle.std.proofs.lemmas.Slice.Eq.{bytes_eq-Decides, slice_eq-Decides}
-use Rattle.std.proofs.lemmas.Bool.{eqb-true}
+use Rattle.std.proofs.lemmas.Bool.{eqb-true, eq-eqb, ne_eqb}
 use Rattle.std.proofs.Math.Bool.{beq}
 use Rattle.std.specs.Cmp.Lexicographic.{pointwise}
 use Rattle.std.specs.Cmp.{booleans_Decides}
@@ -35,12 +35,55 @@ number_of_bits-bits_of (suc count) number below =
     let half : number / 2 < 2 ^ count = omega (arith, pow-succ' 2 count)
     in omega (arith, bit_value number, number_of_bits-bits_of count (number / 2) half)
 
+pub number_of_bits-below : (bits : List Bool) → number_of_bits bits < 2 ^ length bits
+unfolding number_of_bits
+number_of_bits-below [] = omega arith
+number_of_bits-below (true ∷ bits) =
+    omega (arith, pow-succ' 2 (length bits), number_of_bits-below bits)
+number_of_bits-below (false ∷ bits) =
+    omega (arith, pow-succ' 2 (length bits), number_of_bits-below bits)
+
+half_of : (number : ℕ) → 2 * number / 2 ≡ number
+half_of number = omega arith
+
+half_of_more : (number : ℕ) → (1 + 2 * number) / 2 ≡ number
+half_of_more number = omega arith
+
+-- a word's bits are those of its number, and zeros behind them
+pub bits_of-number_of_bits : (bits : List Bool) (pad : ℕ)
+    → bits_of (length bits + pad) (number_of_bits bits) ≡ bits ++ zero_bits pad
+unfolding bits_of number_of_bits
+bits_of-number_of_bits [] pad = rw zero-add (bits_of-zero pad)
+bits_of-number_of_bits (true ∷ bits) pad =
+    let odd : eqb ((1 + 2 * number_of_bits bits) % 2) 1 ≡ true = eq-eqb _ _ (omega arith)
+    in rw (suc-add, odd, half_of_more) (ap (λ (rest : List Bool). true ∷ rest) (bits_of-number_of_bits bits pad))
+bits_of-number_of_bits (false ∷ bits) pad =
+    let even : eqb ((0 + 2 * number_of_bits bits) % 2) 1 ≡ false = ne_eqb _ _ (λ odd. omega arith)
+    in rw (suc-add, even, zero-add, half_of) (ap (λ (rest : List Bool). false ∷ rest) (bits_of-number_of_bits bits pad))
+
 -- numbers of so many bits that have the same bits are the same
 pub bits_of_same : (count a b : ℕ) → a < 2 ^ count → b < 2 ^ count → bits_of count a ≡ bits_of count b → a ≡ b
 bits_of_same count a b below_a below_b same =
     let first = number_of_bits-bits_of count a below_a
     in let second = number_of_bits-bits_of count b below_b
     in cc (ap number_of_bits same)
+
+-- the bits of a number in two parts
+pub bits_of-add : (low_count high_count low high : ℕ)
+    → low < 2 ^ low_count
+    → bits_of (low_count + high_count) (2 ^ low_count * high + low) ≡ bits_of low_count low ++ bits_of high_count high
+unfolding bits_of
+bits_of-add zero high_count low high below =
+    let same : 2 ^ 0 * high + low ≡ high = omega arith
+    in rw (zero-add, same) refl
+bits_of-add (suc low_count) high_count low high below =
+    let scaled : 2 ^ suc low_count * high ≡ 2 * (2 ^ low_count * high) =
+      rw (pow-succ' 2 low_count) (mul_assoc 2 (2 ^ low_count) high)
+    in let last : (2 ^ suc low_count * high + low) % 2 ≡ low % 2 = omega (arith, scaled)
+    in let rest : (2 ^ suc low_count * high + low) / 2 ≡ 2 ^ low_count * high + low / 2 = omega (arith, scaled)
+    in let half : low / 2 < 2 ^ low_count = omega (arith, pow-succ' 2 low_count)
+    in rw (suc-add, last, rest)
+        (ap (λ (bits : List Bool). eqb (low % 2) 1 ∷ bits) (bits_of-add low_count high_count (low / 2) high half))
 
 -- ---- the bits of bytes
 

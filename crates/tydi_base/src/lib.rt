@@ -3,6 +3,7 @@
 #![tactic(auto)]
 
 mod bits;
+mod hex;
 mod level;
 mod list;
 mod memory;
@@ -10,6 +11,7 @@ mod place;
 mod text;
 
 pub use bits::Bits;
+pub use hex::hexadecimal_is_read_as_spelled;
 pub use level::Level;
 pub use list::List;
 pub use memory::Memory;
