@@ -56,10 +56,10 @@ unfolding bits_of number_of_bits
 bits_of-number_of_bits [] pad = rw zero-add (bits_of-zero pad)
 bits_of-number_of_bits (true ∷ bits) pad =
     let odd : eqb ((1 + 2 * number_of_bits bits) % 2) 1 ≡ true = eq-eqb _ _ (omega arith)
-    in rw (suc-add, odd, half_of_more) (ap (λ (rest : List Bool). true ∷ rest) (bits_of-number_of_bits bits pad))
+    in rw (suc-add (length bits) pad, odd, half_of_more) (ap (λ (rest : List Bool). true ∷ rest) (bits_of-number_of_bits bits pad))
 bits_of-number_of_bits (false ∷ bits) pad =
     let even : eqb ((0 + 2 * number_of_bits bits) % 2) 1 ≡ false = ne_eqb _ _ (λ odd. omega arith)
-    in rw (suc-add, even, zero-add, half_of) (ap (λ (rest : List Bool). false ∷ rest) (bits_of-number_of_bits bits pad))
+    in rw (suc-add (length bits) pad, even, zero-add, half_of) (ap (λ (rest : List Bool). false ∷ rest) (bits_of-number_of_bits bits pad))
 
 -- numbers of so many bits that have the same bits are the same
 pub bits_of_same : (count a b : ℕ) → a < 2 ^ count → b < 2 ^ count → bits_of count a ≡ bits_of count b → a ≡ b

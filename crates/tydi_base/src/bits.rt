@@ -1,10 +1,12 @@
-ghost use Rattle.std.specs.Prelude.{◌≡◌, ◌↔◌, length, IsTrue, IfOk};
+ghost use Rattle.std.specs.Prelude.{◌≡◌, ◌↔◌, ◌+◌, ◌/◌, not, drop, length, IsTrue, IfOk};
 ghost use Rattle.std.proofs.Common.{rules};
 ghost use Rattle.std.proofs.Math.Bool.{beq};
 ghost use Rattle.std.specs.Cmp.Lexicographic.{pointwise};
 ghost use Rattle.std.specs.Cmp.Rules.{comparing};
-ghost use Rattle.tydi_base.specs.Bits.{zero_bits};
+ghost use Rattle.tydi_base.specs.Bits.{unpack, zero_bits};
+ghost use Rattle.tydi_base.specs.Hex.{fitted, no_ones, word_at};
 
+use crate::hex::push_digits;
 use crate::memory::Memory;
 use smallvec::SmallVec;
 use std::alloc::Global;
@@ -40,11 +42,51 @@ impl Bits {
         Ok(Bits { len: width, bytes })
     }
 
+    /// The word of this width that these hexadecimal digits spell, the highest first. None exactly where they are not as many
+    /// as spell such a word, one of them is no digit, or a one stands at or above the width.
+    pub fn from_hexadecimal(alloc: Global, width: usize, digits: &[u8]) -> Result<Option<Bits>, Memory>
+        ensures { IfOk result (λ read. read ≡ word_at width digits.now) }
+    {
+        if digits.len() != width.div_ceil(4) {
+            return Ok(None);
+        }
+        let mut bytes = SmallVec::with_capacity(alloc, width.div_ceil(8))?;
+        if !push_digits(digits, &mut bytes) {
+            return Ok(None);
+        }
+        Ok(fitted(width, bytes))
+    }
+
     /// Its width: how many bits it has.
     pub fn len(&self) -> usize
         ensures { result ≡ length self.now }
     {
         self.len
+    }
+}
+
+// Whether a one stands at or above this width in the bytes of a word.
+fn has_ones_from(width: usize, bytes: &[u8]) -> bool
+    requires { length bytes.now ≡ (width + 7) / 8 }
+    ensures { result ≡ not (no_ones (drop width (unpack bytes.now))) }
+{
+    let used = width % 8;
+    if used == 0 {
+        return false;
+    }
+    let above = bytes[width / 8] >> used;
+    above != 0
+}
+
+// These bytes as a word of this width. None where a one stands at or above the width.
+fn fitted(width: usize, bytes: SmallVec<u8, 16>) -> Option<Bits>
+    requires { length bytes.items ≡ (width + 7) / 8 }
+    ensures { result ≡ fitted width (unpack bytes.items) }
+{
+    if has_ones_from(width, bytes.as_slice()) {
+        None
+    } else {
+        Some(Bits { len: width, bytes })
     }
 }
 
