@@ -8,6 +8,8 @@ mod level;
 mod list;
 mod memory;
 mod place;
+#[cfg(test)]
+mod tests;
 mod text;
 
 pub use bits::Bits;
