@@ -1,15 +1,17 @@
 -- Words of bits: the bits of a number, and of the bytes that keep them.
-use Rattle.std.proofs.Common.{◌≡◌, ◌∙◌, sym, Decides, bytes_eq, ℕ, zero, suc, ◌+◌, ◌-◌, ◌*◌, ◌/◌, ◌%◌, ◌^◌, ◌<◌, ◌≤◌, min, Bool, true, false, eqb, cond, List, [], ◌∷◌, ◌++◌, length, get_or, take, drop, replicate, flat_map, refl, ap, arith, rules, length-append, append_assoc}
+use Rattle.std.proofs.Common.{inl, inr, ◌≡◌, ◌∙◌, sym, Decides, bytes_eq, ℕ, zero, suc, ◌+◌, ◌-◌, ◌*◌, ◌/◌, ◌%◌, ◌^◌, ◌<◌, ◌≤◌, min, Bool, true, false, eqb, cond, List, [], ◌∷◌, ◌++◌, length, get_or, take, drop, replicate, flat_map, refl, ap, arith, rules, length-append, append_assoc}
 use Rattle.std.proofs.Math.Nat.{mul_assoc, pow-succ', zero-add, suc-add}
 use Rattle.std.proofs.lemmas.Bool.Decides.{nat_tests}
 use Rattle.std.proofs.lemmas.Slice.Eq.{bytes_eq-Decides, slice_eq-Decides}
-use Rattle.std.proofs.lemmas.Bool.{eqb-true, eq-eqb, ne_eqb}
+use Rattle.std.proofs.lemmas.Bool.{eqb-true, eq-eqb, ne_eqb, cases_lt}
 use Rattle.std.proofs.Math.Bool.{beq}
 use Rattle.std.specs.Cmp.Lexicographic.{pointwise}
 use Rattle.std.specs.Cmp.{booleans_Decides}
 use Rattle.std.specs.Bool.{one_answer}
 use Rattle.std.proofs.lemmas.Grind.{common_steps, flat_map-append}
-use Rattle.std.proofs.lemmas.List.{append-nil, append_cancel_left, length-replicate, replicate-append-replicate, take-append-drop, take-replicate, drop-replicate, drop_at, take_at}
+use Rattle.std.proofs.Math.Numerals.{one-add}
+use Rattle.std.proofs.lemmas.Nat.{shr-shr}
+use Rattle.std.proofs.lemmas.List.{length-take, get_or_append_left, get_or-append_right, get_or-take, append-nil, append_cancel_left, length-replicate, replicate-append-replicate, take-append-drop, take-replicate, drop-replicate, drop_at, take_at}
 use Rattle.tydi_base.specs.Bits.{bits_of, number_of_bits, zero_bits, unpack, IsPacked}
 
 -- ---- the bits of a number
@@ -233,3 +235,43 @@ other_width width other a b word other_word word_is other_is packed_a packed_b d
 pub compared : (a b : List Bool) {result : Bool} → Decides result (a ≡ b) → result ≡ pointwise beq a b
 compared a b {result = result} decides =
     one_answer result (pointwise beq a b) decides (slice_eq-Decides booleans_Decides a b (pointwise beq a b) refl)
+
+-- ---- a bit at a place
+
+get_or-bits_of : (count number index : ℕ)
+    → index < count
+    → get_or (bits_of count number) index false ≡ eqb (number / 2 ^ index % 2) 1
+unfolding bits_of
+get_or-bits_of zero number index below = absurd (omega arith)
+get_or-bits_of (suc count) number zero below = let same : number / 1 ≡ number = omega arith in rw same refl
+get_or-bits_of (suc count) number (suc index) below =
+    get_or-bits_of count (number / 2) index (omega arith)
+    ∙ ap (λ (shifted : ℕ). eqb (shifted % 2) 1) (shr-shr number 1 index ∙ ap (λ (shift : ℕ). number / 2 ^ shift) (one-add index))
+
+pub get_or-unpack : (bytes : List ℕ) (index : ℕ)
+    → index < 8 * length bytes
+    → get_or (unpack bytes) index false ≡ eqb (get_or bytes (index / 8) 0 / 2 ^ (index % 8) % 2) 1
+get_or-unpack [] index below = absurd (omega arith)
+get_or-unpack (byte ∷ bytes) index below =
+    elim (cases_lt index 8) [
+      inl near ↦
+        let first : index / 8 ≡ 0 = omega arith
+        in let place : index % 8 ≡ index = omega arith
+        in rw (unpack-cons, first, place)
+          (get_or_append_left (bits_of 8 byte) (unpack bytes) false index (rw length-bits_of near) ∙ get_or-bits_of 8 byte index near)
+      | inr far ↦
+        let next : index / 8 ≡ suc ((index - 8) / 8) = omega arith
+        in let place : index % 8 ≡ (index - 8) % 8 = omega arith
+        in rw (unpack-cons, next, place)
+          (get_or-append_right (bits_of 8 byte) (unpack bytes) 8 index false (length-bits_of 8 byte) far
+            ∙ get_or-unpack bytes (index - 8) (omega arith)) ]
+
+-- the same in a word
+pub get_or-packed : (width index : ℕ) (bytes : List ℕ) (word : List Bool)
+    → take width (unpack bytes) ≡ word
+    → index < length word
+    → get_or (unpack bytes) index false ≡ get_or word index false
+get_or-packed width index bytes word word_is below =
+    let long : length word ≡ min width (length (unpack bytes)) = ap length (sym word_is) ∙ length-take width (unpack bytes)
+    in let within : index < width = omega arith
+    in sym (get_or-take width (unpack bytes) index false within) ∙ ap (λ (bits : List Bool). get_or bits index false) word_is

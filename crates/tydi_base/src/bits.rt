@@ -1,4 +1,4 @@
-ghost use Rattle.std.specs.Prelude.{◌≡◌, ◌↔◌, ◌+◌, ◌/◌, not, drop, length, IsTrue, IfOk};
+ghost use Rattle.std.specs.Prelude.{◌≡◌, ◌↔◌, ◌+◌, ◌*◌, ◌/◌, ◌<◌, not, false, get_or, drop, length, IsTrue, IfOk};
 ghost use Rattle.std.proofs.Common.{rules};
 ghost use Rattle.std.proofs.Math.Bool.{beq};
 ghost use Rattle.std.specs.Cmp.Lexicographic.{pointwise};
@@ -63,6 +63,23 @@ impl Bits {
     {
         self.len
     }
+
+    /// The bit at this place, from the lowest.
+    pub fn get(&self, index: usize) -> bool
+        requires { index < length self.now }
+        ensures { result ≡ get_or self.now index false }
+    {
+        bit_at(self.bytes.as_slice(), index)
+    }
+}
+
+// The bit at this place in bytes.
+fn bit_at(bytes: &[u8], index: usize) -> bool
+    requires { index < 8 * length bytes.now }
+    ensures { result ≡ get_or (unpack bytes.now) index false }
+{
+    let from = bytes[index / 8] >> (index % 8);
+    from % 2 == 1
 }
 
 // Whether a one stands at or above this width in the bytes of a word.
