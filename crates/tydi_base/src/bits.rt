@@ -1,9 +1,9 @@
-ghost use Rattle.std.specs.Prelude.{◌≡◌, ◌↔◌, ◌+◌, ◌*◌, ◌/◌, ◌<◌, not, false, get_or, drop, length, IsTrue, IfOk};
+ghost use Rattle.std.specs.Prelude.{◌≡◌, ◌↔◌, ◌+◌, ◌*◌, ◌/◌, ◌<◌, not, false, get_or, set, OnOk, OnErr, drop, length, IsTrue, IfOk};
 ghost use Rattle.std.proofs.Common.{rules};
 ghost use Rattle.std.proofs.Math.Bool.{beq};
 ghost use Rattle.std.specs.Cmp.Lexicographic.{pointwise};
 ghost use Rattle.std.specs.Cmp.Rules.{comparing};
-ghost use Rattle.tydi_base.specs.Bits.{unpack, zero_bits};
+ghost use Rattle.tydi_base.specs.Bits.{bits_of, unpack, zero_bits};
 ghost use Rattle.tydi_base.specs.Hex.{fitted, no_ones, word_at};
 
 use crate::hex::push_digits;
@@ -71,6 +71,24 @@ impl Bits {
     {
         bit_at(self.bytes.as_slice(), index)
     }
+
+    /// Writes the bit at this place, from the lowest.
+    pub fn put(&mut self, index: usize, bit: bool)
+        requires { index < length self.old }
+        ensures { self.new ≡ set self.old index bit }
+    {
+        put_at(self.bytes.as_mut_slice(), index, bit);
+    }
+
+    /// Becomes a copy of this word. After `Memory` it is as before.
+    pub fn copy_from(&mut self, other: &Bits) -> Result<(), Memory>
+        ensures ok { OnOk result (self.new ≡ other.now) }
+        ensures err { OnErr result (self.new ≡ self.old) }
+    {
+        replace_bytes(&mut self.bytes, other.bytes.as_slice())?;
+        self.len = other.len;
+        Ok(())
+    }
 }
 
 // The bit at this place in bytes.
@@ -80,6 +98,37 @@ fn bit_at(bytes: &[u8], index: usize) -> bool
 {
     let from = bytes[index / 8] >> (index % 8);
     from % 2 == 1
+}
+
+// A byte with its bit at this place written, from the lowest.
+fn with_bit(byte: u8, place: usize, bit: bool) -> u8
+    requires { place < 8 }
+    ensures { bits_of 8 result ≡ set (bits_of 8 byte) place bit }
+{
+    let from = byte >> place;
+    let below = byte - (from << place);
+    let written = from - from % 2 + bit as u8;
+    (written << place) + below
+}
+
+// Writes the bit at this place in bytes.
+fn put_at(bytes: &mut [u8], index: usize, bit: bool)
+    requires { index < 8 * length bytes.old }
+    ensures { unpack bytes.new ≡ set (unpack bytes.old) index bit }
+{
+    bytes[index / 8] = with_bit(bytes[index / 8], index % 8, bit);
+}
+
+// These bytes in place of those that stand there. After `Memory` they are as before.
+fn replace_bytes(bytes: &mut SmallVec<u8, 16>, others: &[u8]) -> Result<(), Memory>
+    ensures ok { OnOk result (bytes.new.items ≡ others.now) }
+    ensures err { OnErr result (bytes.new.items ≡ bytes.old.items) }
+{
+    let more = others.len().saturating_sub(bytes.len());
+    bytes.reserve(more)?;
+    bytes.clear();
+    bytes.extend_from_slice(others)?;
+    Ok(())
 }
 
 // Whether a one stands at or above this width in the bytes of a word.
