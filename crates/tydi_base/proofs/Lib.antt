@@ -3,3 +3,5 @@ pub mod DecimalLaws
 pub mod PieceLaws
 pub mod PathLaws
 pub mod PathLoops
+pub mod BitsLemmas
+pub mod HexLemmas

@@ -1,3 +1,5 @@
+pub mod Bits
+pub mod Hex
 pub mod Level
 pub mod Reading
 pub mod Decimal

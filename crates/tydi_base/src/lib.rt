@@ -2,7 +2,9 @@
 //! number or record that it stands for, and the small readers that all text formats share.
 #![tactic(auto)]
 
+mod bits;
 mod decimal;
+mod hex;
 mod level;
 mod list;
 mod memory;
@@ -10,9 +12,13 @@ mod name;
 mod path;
 mod pieces;
 mod place;
+#[cfg(test)]
+mod tests;
 mod text;
 
+pub use bits::Bits;
 pub use decimal::{decimals_are_read_as_spelled, read_decimal, write_decimal};
+pub use hex::hexadecimal_is_read_as_spelled;
 pub use level::Level;
 pub use list::List;
 pub use memory::Memory;

@@ -1,0 +1,462 @@
+-- Words of bits: the bits of a number, and of the bytes that keep them.
+use Rattle.std.proofs.Common.{subst, inl, inr, ◌≡◌, ◌∙◌, sym, Decides, bytes_eq, ℕ, zero, suc, ◌+◌, ◌-◌, ◌*◌, ◌/◌, ◌%◌, ◌^◌, ◌<◌, ◌≤◌, min, Bool, true, false, eqb, cond, List, [], ◌∷◌, ◌++◌, length, get_or, set, take, drop, replicate, flat_map, refl, ap, arith, rules, length-append, append_assoc}
+use Rattle.std.proofs.Math.Nat.{mul_comm, mul_assoc, pow-succ', zero-add, suc-add}
+use Rattle.std.proofs.lemmas.Bool.Decides.{nat_tests}
+use Rattle.std.proofs.lemmas.Slice.Eq.{bytes_eq-Decides, slice_eq-Decides}
+use Rattle.std.proofs.lemmas.Bool.{eqb-true, eq-eqb, ne_eqb, cases_lt}
+use Rattle.std.proofs.Math.Bool.{beq}
+use Rattle.std.specs.Cmp.Lexicographic.{pointwise}
+use Rattle.std.specs.Cmp.{booleans_Decides}
+use Rattle.std.specs.Bool.{one_answer}
+use Rattle.std.proofs.lemmas.Grind.{common_steps, flat_map-append}
+use Rattle.std.proofs.Math.Numerals.{one-add, add-one}
+use Rattle.std.proofs.lemmas.Nat.{shr-shr, shr_below, shr_split, mod_below, mul-add-lt, pow_pos, pow-add}
+use Rattle.std.specs.List.{refill}
+use Rattle.std.proofs.lemmas.List.{set_at, length-set, drop-set-lt, set-append_left, set-append_right, length-take, get_or_append_left, get_or-append_right, get_or-take, append-nil, append_cancel_left, length-replicate, replicate-append-replicate, take-append-drop, take-replicate, drop-replicate, drop_at, take_at}
+use Rattle.tydi_base.specs.Bits.{bits_of, number_of_bits, zero_bits, unpack, IsPacked}
+
+-- ---- the bits of a number
+
+pub length-bits_of : (count number : ℕ) → length (bits_of count number) ≡ count
+unfolding bits_of
+length-bits_of zero number = refl
+length-bits_of (suc count) number = ap suc (length-bits_of count (number / 2))
+
+pub bits_of-zero : (count : ℕ) → bits_of count 0 ≡ zero_bits count
+unfolding bits_of
+bits_of-zero zero = refl
+bits_of-zero (suc count) = ap (λ (bits : List Bool). false ∷ bits) (bits_of-zero count)
+
+-- what a bit of a number adds to it
+bit_value : (number : ℕ) → cond (eqb (number % 2) 1) 1 0 ≡ number % 2
+bit_value number = grind (arith, nat_tests)
+
+pub number_of_bits-bits_of : (count number : ℕ) → number < 2 ^ count → number_of_bits (bits_of count number) ≡ number
+unfolding bits_of number_of_bits
+number_of_bits-bits_of zero number below = omega arith
+number_of_bits-bits_of (suc count) number below =
+    let half : number / 2 < 2 ^ count = omega (arith, pow-succ' 2 count)
+    in omega (arith, bit_value number, number_of_bits-bits_of count (number / 2) half)
+
+pub number_of_bits-below : (bits : List Bool) → number_of_bits bits < 2 ^ length bits
+unfolding number_of_bits
+number_of_bits-below [] = omega arith
+number_of_bits-below (true ∷ bits) =
+    omega (arith, pow-succ' 2 (length bits), number_of_bits-below bits)
+number_of_bits-below (false ∷ bits) =
+    omega (arith, pow-succ' 2 (length bits), number_of_bits-below bits)
+
+half_of : (number : ℕ) → 2 * number / 2 ≡ number
+half_of number = omega arith
+
+half_of_more : (number : ℕ) → (1 + 2 * number) / 2 ≡ number
+half_of_more number = omega arith
+
+-- a word's bits are those of its number, and zeros behind them
+pub bits_of-number_of_bits : (bits : List Bool) (pad : ℕ)
+    → bits_of (length bits + pad) (number_of_bits bits) ≡ bits ++ zero_bits pad
+unfolding bits_of number_of_bits
+bits_of-number_of_bits [] pad = rw zero-add (bits_of-zero pad)
+bits_of-number_of_bits (true ∷ bits) pad =
+    let odd : eqb ((1 + 2 * number_of_bits bits) % 2) 1 ≡ true = eq-eqb _ _ (omega arith)
+    in rw (suc-add (length bits) pad, odd, half_of_more) (ap (λ (rest : List Bool). true ∷ rest) (bits_of-number_of_bits bits pad))
+bits_of-number_of_bits (false ∷ bits) pad =
+    let even : eqb ((0 + 2 * number_of_bits bits) % 2) 1 ≡ false = ne_eqb _ _ (λ odd. omega arith)
+    in rw (suc-add (length bits) pad, even, zero-add, half_of) (ap (λ (rest : List Bool). false ∷ rest) (bits_of-number_of_bits bits pad))
+
+-- numbers of so many bits that have the same bits are the same
+pub bits_of_same : (count a b : ℕ) → a < 2 ^ count → b < 2 ^ count → bits_of count a ≡ bits_of count b → a ≡ b
+bits_of_same count a b below_a below_b same =
+    let first = number_of_bits-bits_of count a below_a
+    in let second = number_of_bits-bits_of count b below_b
+    in cc (ap number_of_bits same)
+
+-- the bits of a number in two parts
+pub bits_of-add : (low_count high_count low high : ℕ)
+    → low < 2 ^ low_count
+    → bits_of (low_count + high_count) (2 ^ low_count * high + low) ≡ bits_of low_count low ++ bits_of high_count high
+unfolding bits_of
+bits_of-add zero high_count low high below =
+    let same : 2 ^ 0 * high + low ≡ high = omega arith
+    in rw (zero-add, same) refl
+bits_of-add (suc low_count) high_count low high below =
+    let scaled : 2 ^ suc low_count * high ≡ 2 * (2 ^ low_count * high) =
+      rw (pow-succ' 2 low_count) (mul_assoc 2 (2 ^ low_count) high)
+    in let last : (2 ^ suc low_count * high + low) % 2 ≡ low % 2 = omega (arith, scaled)
+    in let rest : (2 ^ suc low_count * high + low) / 2 ≡ 2 ^ low_count * high + low / 2 = omega (arith, scaled)
+    in let half : low / 2 < 2 ^ low_count = omega (arith, pow-succ' 2 low_count)
+    in rw (suc-add, last, rest)
+        (ap (λ (bits : List Bool). eqb (low % 2) 1 ∷ bits) (bits_of-add low_count high_count (low / 2) high half))
+
+-- ---- the bits of bytes
+
+pub unpack-cons : (byte : ℕ) (bytes : List ℕ) → unpack (byte ∷ bytes) ≡ bits_of 8 byte ++ unpack bytes
+unfolding unpack
+unpack-cons byte bytes = refl
+
+pub unpack-nil : unpack [] ≡ []
+unfolding unpack
+unpack-nil = refl
+
+pub unpack-append : (front rest : List ℕ) → unpack (front ++ rest) ≡ unpack front ++ unpack rest
+unfolding unpack
+unpack-append front rest = flat_map-append (bits_of 8) front rest
+
+pub unpack-push : (bytes : List ℕ) (byte : ℕ) → unpack (bytes ++ byte ∷ []) ≡ unpack bytes ++ bits_of 8 byte
+unpack-push bytes byte = simp (unpack-append, unpack-cons, unpack-nil, append-nil)
+
+pub length-unpack : (bytes : List ℕ) → length (unpack bytes) ≡ 8 * length bytes
+length-unpack [] = rw unpack-nil refl
+length-unpack (byte ∷ bytes) =
+    rw (unpack-cons, length-append) (omega (arith, length-bits_of 8 byte, length-unpack bytes))
+
+pub unpack-replicate_zero : (count : ℕ) → unpack (replicate count 0) ≡ zero_bits (8 * count)
+unpack-replicate_zero zero = unpack-nil
+unpack-replicate_zero (suc count) =
+    let rest = unpack-replicate_zero count
+    in let first = bits_of-zero 8
+    in let joined = replicate-append-replicate 8 (8 * count) false
+    in let more : 8 + 8 * count ≡ 8 * suc count = omega arith
+    in let split = unpack-cons 0 (replicate count 0)
+    in cc
+
+-- bytes that have the same bits are the same
+pub unpack_same : (a b : List ℕ)
+    → ((k : ℕ) → get_or a k 0 < 256)
+    → ((k : ℕ) → get_or b k 0 < 256)
+    → length a ≡ length b
+    → unpack a ≡ unpack b
+    → a ≡ b
+unpack_same [] [] bytes_a bytes_b lengths same = refl
+unpack_same [] (y ∷ ys) bytes_a bytes_b lengths same = cc
+unpack_same (x ∷ xs) [] bytes_a bytes_b lengths same = cc
+unpack_same (x ∷ xs) (y ∷ ys) bytes_a bytes_b lengths same =
+    let whole : bits_of 8 x ++ unpack xs ≡ bits_of 8 y ++ unpack ys =
+        cc (unpack-cons x xs, unpack-cons y ys)
+    in let front : bits_of 8 x ≡ bits_of 8 y =
+        cc (ap (take 8) whole, take_at (bits_of 8 x) (unpack xs) 8 (length-bits_of 8 x), take_at (bits_of 8 y) (unpack ys) 8 (length-bits_of 8 y))
+    in let rest : unpack xs ≡ unpack ys =
+        cc (ap (drop 8) whole, drop_at (bits_of 8 x) (unpack xs) 8 (length-bits_of 8 x), drop_at (bits_of 8 y) (unpack ys) 8 (length-bits_of 8 y))
+    in let head : x ≡ y = bits_of_same 8 x y (bytes_a 0) (bytes_b 0) front
+    in let tail : xs ≡ ys =
+        unpack_same xs ys (λ k. bytes_a (suc k)) (λ k. bytes_b (suc k)) (omega arith) rest
+    in cc
+
+-- ---- words in bytes
+
+pub length_packed : (width : ℕ) (bytes : List ℕ) → IsPacked width bytes → length (take width (unpack bytes)) ≡ width
+length_packed width bytes packed = grind (arith, common_steps, length-unpack bytes, packed.room)
+
+-- the bits of a word and the zeros behind it
+packed_whole : (width : ℕ) (bytes : List ℕ)
+    → IsPacked width bytes
+    → take width (unpack bytes) ++ zero_bits (8 * length bytes - width) ≡ unpack bytes
+packed_whole width bytes packed = rw (← packed.zeros) (take-append-drop width (unpack bytes))
+
+pub packed_same : (width : ℕ) (a b : List ℕ)
+    → IsPacked width a
+    → IsPacked width b
+    → ((k : ℕ) → get_or a k 0 < 256)
+    → ((k : ℕ) → get_or b k 0 < 256)
+    → take width (unpack a) ≡ take width (unpack b)
+    → a ≡ b
+packed_same width a b packed_a packed_b bytes_a bytes_b same =
+    let lengths : length a ≡ length b =
+        omega (arith, packed_a.room, packed_a.few, packed_b.room, packed_b.few)
+    in let first = packed_whole width a packed_a
+    in let second = packed_whole width b packed_b
+    in let bits : unpack a ≡ unpack b = cc
+    in unpack_same a b bytes_a bytes_b lengths bits
+
+pub zeros_packed : (width count : ℕ)
+    → count ≡ width / 8 + min 1 (width % 8)
+    → IsPacked width (replicate count 0)
+zeros_packed width count is_count =
+    let room : width ≤ 8 * count = omega arith
+    in let few : 8 * count < width + 8 = omega arith
+    in record {
+      room = rw length-replicate room;
+      few = rw length-replicate few;
+      zeros = rw (length-replicate, unpack-replicate_zero, drop-replicate) refl;
+    }
+
+pub take-unpack-zeros : (width count : ℕ)
+    → count ≡ width / 8 + min 1 (width % 8)
+    → take width (unpack (replicate count 0)) ≡ zero_bits width
+take-unpack-zeros width count is_count =
+    let room : width ≤ 8 * count = omega arith
+    in rw unpack-replicate_zero (take-replicate width (8 * count) false room)
+
+-- the bytes of two words tell whether the words are the same
+pub packed_decides : (width : ℕ) (a b : List ℕ) (result : Bool)
+    → IsPacked width a
+    → IsPacked width b
+    → ((k : ℕ) → get_or a k 0 < 256)
+    → ((k : ℕ) → get_or b k 0 < 256)
+    → result ≡ bytes_eq a b
+    → Decides result (take width (unpack a) ≡ take width (unpack b))
+packed_decides width a b result packed_a packed_b bytes_a bytes_b is_result =
+    let decides = bytes_eq-Decides a b
+    in ( λ holds. ap (λ bytes. take width (unpack bytes)) (decides.0 (sym is_result ∙ holds)),
+      λ same. is_result ∙ decides.1 (packed_same width a b packed_a packed_b bytes_a bytes_b same) )
+
+-- the same, of two words of one width
+pub same_word : (width other_width : ℕ) (a b bytes others : List ℕ) (word other : List Bool) {result : Bool}
+    → take width (unpack a) ≡ word
+    → take other_width (unpack b) ≡ other
+    → IsPacked width a
+    → IsPacked other_width b
+    → bytes ≡ a
+    → others ≡ b
+    → ((k : ℕ) → get_or bytes k 0 < 256)
+    → ((k : ℕ) → get_or others k 0 < 256)
+    → width ≡ other_width
+    → result ≡ bytes_eq bytes others
+    → Decides result (word ≡ other)
+same_word width other_width a b bytes others word other {result = result} word_is other_is packed_a packed_b are_a are_b fit_a fit_b widths is_result =
+    let packed_b : IsPacked width b = rw widths packed_b
+    in let told : Decides result (take width (unpack a) ≡ take width (unpack b)) =
+        packed_decides width a b result packed_a packed_b (rw (← are_a) fit_a) (rw (← are_b) fit_b) (rw (← are_a, ← are_b) is_result)
+    in ( λ holds. sym word_is ∙ told.0 holds ∙ rw widths other_is,
+      λ same. told.1 (word_is ∙ same ∙ sym (rw widths other_is)) )
+
+-- words of two widths differ
+pub other_width : (width other_width : ℕ) (a b : List ℕ) (word other : List Bool)
+    → take width (unpack a) ≡ word
+    → take other_width (unpack b) ≡ other
+    → IsPacked width a
+    → IsPacked other_width b
+    → (width ≡ other_width → ⊥)
+    → Decides (eqb width other_width) (word ≡ other)
+other_width width other a b word other_word word_is other_is packed_a packed_b differ =
+    ( λ holds. absurd (differ (eqb-true width other holds)),
+      λ same. absurd (differ (sym (length_packed width a packed_a) ∙ ap length (word_is ∙ same ∙ sym other_is) ∙ length_packed other b packed_b)) )
+
+-- what decides whether two words are the same is what `==` of their bits answers
+pub compared : (a b : List Bool) {result : Bool} → Decides result (a ≡ b) → result ≡ pointwise beq a b
+compared a b {result = result} decides =
+    one_answer result (pointwise beq a b) decides (slice_eq-Decides booleans_Decides a b (pointwise beq a b) refl)
+
+-- ---- a bit at a place
+
+get_or-bits_of : (count number index : ℕ)
+    → index < count
+    → get_or (bits_of count number) index false ≡ eqb (number / 2 ^ index % 2) 1
+unfolding bits_of
+get_or-bits_of zero number index below = absurd (omega arith)
+get_or-bits_of (suc count) number zero below = let same : number / 1 ≡ number = omega arith in rw same refl
+get_or-bits_of (suc count) number (suc index) below =
+    get_or-bits_of count (number / 2) index (omega arith)
+    ∙ ap (λ (shifted : ℕ). eqb (shifted % 2) 1) (shr-shr number 1 index ∙ ap (λ (shift : ℕ). number / 2 ^ shift) (one-add index))
+
+pub get_or-unpack : (bytes : List ℕ) (index : ℕ)
+    → index < 8 * length bytes
+    → get_or (unpack bytes) index false ≡ eqb (get_or bytes (index / 8) 0 / 2 ^ (index % 8) % 2) 1
+get_or-unpack [] index below = absurd (omega arith)
+get_or-unpack (byte ∷ bytes) index below =
+    elim (cases_lt index 8) [
+      inl near ↦
+        let first : index / 8 ≡ 0 = omega arith
+        in let place : index % 8 ≡ index = omega arith
+        in rw (unpack-cons, first, place)
+          (get_or_append_left (bits_of 8 byte) (unpack bytes) false index (rw length-bits_of near) ∙ get_or-bits_of 8 byte index near)
+      | inr far ↦
+        let next : index / 8 ≡ suc ((index - 8) / 8) = omega arith
+        in let place : index % 8 ≡ (index - 8) % 8 = omega arith
+        in rw (unpack-cons, next, place)
+          (get_or-append_right (bits_of 8 byte) (unpack bytes) 8 index false (length-bits_of 8 byte) far
+            ∙ get_or-unpack bytes (index - 8) (omega arith)) ]
+
+-- the same in a word
+pub get_or-packed : (width index : ℕ) (bytes : List ℕ) (word : List Bool)
+    → take width (unpack bytes) ≡ word
+    → index < length word
+    → get_or (unpack bytes) index false ≡ get_or word index false
+get_or-packed width index bytes word word_is below =
+    let long : length word ≡ min width (length (unpack bytes)) = ap length (sym word_is) ∙ length-take width (unpack bytes)
+    in let within : index < width = omega arith
+    in sym (get_or-take width (unpack bytes) index false within) ∙ ap (λ (bits : List Bool). get_or bits index false) word_is
+
+-- ---- a bit written
+
+bits_of-odd : (count half bit_value : ℕ) (bit : Bool)
+    → bit_value ≡ cond bit 1 0
+    → bits_of (suc count) (2 * half + bit_value) ≡ bit ∷ bits_of count half
+unfolding bits_of
+bits_of-odd count half bit_value true is_one =
+    let odd : eqb ((2 * half + bit_value) % 2) 1 ≡ true = eq-eqb _ _ (omega arith)
+    in let rest : (2 * half + bit_value) / 2 ≡ half = omega arith
+    in rw (odd, rest) refl
+bits_of-odd count half bit_value false is_zero =
+    let even : eqb ((2 * half + bit_value) % 2) 1 ≡ false = ne_eqb _ _ (λ odd. omega arith)
+    in let rest : (2 * half + bit_value) / 2 ≡ half = omega arith
+    in rw (even, rest) refl
+
+set-append_at : (front rest : List Bool) (head bit : Bool) (at : ℕ)
+    → length front ≡ at
+    → set (front ++ head ∷ rest) at bit ≡ front ++ bit ∷ rest
+set-append_at front rest head bit at many = set_at front head rest bit at many
+
+-- a number with one of its bits written
+pub bits_of-written : (place more from below written bit_value : ℕ) (bit : Bool)
+    → below < 2 ^ place
+    → bit_value ≡ cond bit 1 0
+    → written ≡ from - from % 2 + bit_value
+    → bits_of (place + suc more) (2 ^ place * written + below) ≡ set (bits_of (place + suc more) (2 ^ place * from + below)) place bit
+unfolding bits_of
+bits_of-written place more from below written bit_value bit small is_value is_written =
+    let new_form : written ≡ 2 * (from / 2) + bit_value = omega arith
+    in let new_bits : bits_of (suc more) written ≡ bit ∷ bits_of more (from / 2) =
+      rw new_form (bits_of-odd more (from / 2) bit_value bit is_value)
+    in bits_of-add place (suc more) below written small
+      ∙ ap (λ (high : List Bool). bits_of place below ++ high) new_bits
+      ∙ sym (set-append_at (bits_of place below) (bits_of more (from / 2)) (eqb (from % 2) 1) bit place (length-bits_of place below))
+      ∙ sym (ap (λ (bits : List Bool). set bits place bit) (bits_of-add place (suc more) below from small))
+
+pub set-unpack : (bytes : List ℕ) (index byte : ℕ) (bit : Bool)
+    → index < 8 * length bytes
+    → bits_of 8 byte ≡ set (bits_of 8 (get_or bytes (index / 8) 0)) (index % 8) bit
+    → unpack (set bytes (index / 8) byte) ≡ set (unpack bytes) index bit
+set-unpack [] index byte bit below same = absurd (omega arith)
+set-unpack (first ∷ bytes) index byte bit below same =
+    elim (cases_lt index 8) [
+      inl near ↦
+        let quotient : index / 8 ≡ 0 = omega arith
+        in let place : index % 8 ≡ index = omega arith
+        in let same_here : bits_of 8 byte ≡ set (bits_of 8 first) index bit = rw (quotient, place) at same
+        in rw (quotient, unpack-cons byte bytes, unpack-cons first bytes, same_here)
+          (sym (set-append_left (bits_of 8 first) (unpack bytes) index bit (rw length-bits_of near)))
+      | inr far ↦
+        let quotient : index / 8 ≡ suc ((index - 8) / 8) = omega arith
+        in let place : index % 8 ≡ (index - 8) % 8 = omega arith
+        in let same_there : bits_of 8 byte ≡ set (bits_of 8 (get_or bytes ((index - 8) / 8) 0)) ((index - 8) % 8) bit =
+          rw (quotient, place) at same
+        in rw (quotient, unpack-cons first (set bytes ((index - 8) / 8) byte), unpack-cons first bytes)
+          (ap (λ (bits : List Bool). bits_of 8 first ++ bits) (set-unpack bytes (index - 8) byte bit (omega arith) same_there)
+            ∙ sym (set-append_right (bits_of 8 first) (unpack bytes) 8 index bit (length-bits_of 8 first) far)) ]
+
+whole_byte : (place : ℕ) → place < 8 → place + suc (7 - place) ≡ 8
+whole_byte place within = omega arith
+
+cond_le_one : (bit : Bool) → cond bit 1 0 ≤ 1
+cond_le_one true = omega arith
+cond_le_one false = omega arith
+
+parts_sum : (byte from_part rest written_part product : ℕ)
+    → product ≡ written_part
+    → from_part + rest ≡ byte
+    → byte < 256
+    → written_part + rest < 256
+    → written_part % 256 + (byte - from_part % 256) ≡ product + rest
+parts_sum byte from_part rest written_part product same split fits all = omega arith
+
+written_byte : (place byte from below written bit_value number : ℕ) (bit : Bool)
+    → place + suc (7 - place) ≡ 8
+    → byte ≡ 2 ^ place * from + below
+    → number ≡ 2 ^ place * written + below
+    → below < 2 ^ place
+    → bit_value ≡ cond bit 1 0
+    → written ≡ from - from % 2 + bit_value
+    → bits_of 8 number ≡ set (bits_of 8 byte) place bit
+written_byte place byte from below written bit_value number bit eight old new small is_value is_written =
+    let told = bits_of-written place (7 - place) from below written bit_value bit small is_value is_written
+    in let told8 : bits_of 8 (2 ^ place * written + below) ≡ set (bits_of 8 (2 ^ place * from + below)) place bit =
+      subst (λ (count : ℕ). bits_of count (2 ^ place * written + below) ≡ set (bits_of count (2 ^ place * from + below)) place bit) eight told
+    in rw (old, new) told8
+
+take_set : (width index : ℕ) (bits : List Bool) (bit : Bool) → take width (set bits index bit) ≡ set (take width bits) index bit
+take_set zero index bits bit = refl
+take_set (suc width) index [] bit = refl
+take_set (suc width) zero (first ∷ bits) bit = refl
+take_set (suc width) (suc index) (first ∷ bits) bit = ap (λ (rest : List Bool). first ∷ rest) (take_set width index bits bit)
+
+-- a byte's parts at a place, its bits from there on written, fit a byte
+pub written_fits : (byte place bit_value : ℕ)
+    → byte < 256
+    → place < 8
+    → bit_value ≤ 1
+    → (byte / 2 ^ place - byte / 2 ^ place % 2 + bit_value) * 2 ^ place + byte % 2 ^ place < 256
+written_fits byte place bit_value fits within small =
+    let eight : 7 - place + suc place ≡ 8 = omega arith
+    in let whole : byte < 2 ^ (7 - place + suc place) = rw eight fits
+    in let half : byte / 2 ^ suc place < 2 ^ (7 - place) = shr_below byte (7 - place) (suc place) whole
+    in let halved : byte / 2 ^ place / 2 ≡ byte / 2 ^ suc place = shr-shr byte place 1 ∙ ap (λ (shift : ℕ). byte / 2 ^ shift) (add-one place)
+    in let room : 2 * 2 ^ (7 - place) ≡ 2 ^ suc (7 - place) = sym (pow-succ' 2 (7 - place))
+    in let written : byte / 2 ^ place - byte / 2 ^ place % 2 + bit_value < 2 ^ suc (7 - place) = omega arith
+    in let below : byte % 2 ^ place < 2 ^ place = mod_below byte (2 ^ place) (pow_pos place)
+    in let bound = mul-add-lt (byte / 2 ^ place - byte / 2 ^ place % 2 + bit_value) (2 ^ place) (byte % 2 ^ place) (2 ^ suc (7 - place)) written below
+    in let product : 2 ^ place * 2 ^ suc (7 - place) ≡ 256 = sym (pow-add 2 place (suc (7 - place))) ∙ ap (λ (count : ℕ). 2 ^ count) (whole_byte place within)
+    in rw (← product) bound
+
+-- the sum of the parts fits a byte
+pub with_bit_fits : (byte place bit_value : ℕ) (bit : Bool)
+    → byte < 256
+    → place < 8
+    → bit_value ≡ cond bit 1 0
+    → (byte / 2 ^ place - byte / 2 ^ place % 2 + bit_value) * 2 ^ place % 256
+        + (byte - byte / 2 ^ place * 2 ^ place % 256)
+      < 256
+with_bit_fits byte place bit_value bit fits within is_value =
+    let small : bit_value ≤ 1 = rw is_value (cond_le_one bit)
+    in let all = written_fits byte place bit_value fits within small
+    in let split : byte / 2 ^ place * 2 ^ place + byte % 2 ^ place ≡ byte = shr_split byte place
+    in omega arith
+
+-- a byte with one of its bits written, by its parts
+pub bits_of-with_bit : (byte place bit_value : ℕ) (bit : Bool)
+    → byte < 256
+    → place < 8
+    → bit_value ≡ cond bit 1 0
+    → bits_of 8
+        ((byte / 2 ^ place - byte / 2 ^ place % 2 + bit_value) * 2 ^ place % 256
+          + (byte - byte / 2 ^ place * 2 ^ place % 256))
+      ≡ set (bits_of 8 byte) place bit
+bits_of-with_bit byte place bit_value bit fits within is_value =
+    let small : bit_value ≤ 1 = rw is_value (cond_le_one bit)
+    in let all = written_fits byte place bit_value fits within small
+    in let split : byte / 2 ^ place * 2 ^ place + byte % 2 ^ place ≡ byte = shr_split byte place
+    in let old : byte ≡ 2 ^ place * (byte / 2 ^ place) + byte % 2 ^ place = omega (arith, mul_comm (2 ^ place) (byte / 2 ^ place))
+    in let new : (byte / 2 ^ place - byte / 2 ^ place % 2 + bit_value) * 2 ^ place % 256 + (byte - byte / 2 ^ place * 2 ^ place % 256)
+        ≡ 2 ^ place * (byte / 2 ^ place - byte / 2 ^ place % 2 + bit_value) + byte % 2 ^ place =
+      parts_sum _ _ _ _ _ (mul_comm (2 ^ place) (byte / 2 ^ place - byte / 2 ^ place % 2 + bit_value)) split fits all
+    in written_byte place byte (byte / 2 ^ place) (byte % 2 ^ place) _ bit_value _ bit (whole_byte place within) old new
+        (mod_below byte (2 ^ place) (pow_pos place)) is_value refl
+
+-- ---- a bit of a word written
+
+refill_whole : (old new : List ℕ) → length new ≡ length old → refill (length old) old new ≡ new
+refill_whole old new same = take_at new (drop (length new) old) (length old) same
+
+length-put : (old new : List ℕ) (index : ℕ) (bit : Bool)
+    → unpack new ≡ set (unpack old) index bit
+    → length new ≡ length old
+length-put old new index bit written =
+    let lengths : length (unpack new) ≡ length (unpack old) = ap length written ∙ length-set (unpack old) index bit
+    in omega (arith, length-unpack old, length-unpack new)
+
+pub put_packed : (width index : ℕ) (old new : List ℕ) (word : List Bool) (bit : Bool)
+    → IsPacked width old
+    → take width (unpack old) ≡ word
+    → index < length word
+    → unpack new ≡ set (unpack old) index bit
+    → IsPacked width (refill (length old) old new)
+put_packed width index old new word bit packed word_is below written =
+    let same : length new ≡ length old = length-put old new index bit written
+    in let wide : length word ≡ width = ap length (sym word_is) ∙ length_packed width old packed
+    in let within : index < width = omega arith
+    in rw (refill_whole old new same) (record {
+      room = rw same packed.room;
+      few = rw same packed.few;
+      zeros = rw (written, same) (drop-set-lt width (unpack old) index bit within ∙ packed.zeros);
+    })
+
+pub put_view : (width index : ℕ) (old new : List ℕ) (word : List Bool) (bit : Bool)
+    → IsPacked width old
+    → take width (unpack old) ≡ word
+    → index < length word
+    → unpack new ≡ set (unpack old) index bit
+    → take width (unpack (refill (length old) old new)) ≡ set word index bit
+put_view width index old new word bit packed word_is below written =
+    let same : length new ≡ length old = length-put old new index bit written
+    in rw (refill_whole old new same, written)
+        (take_set width index (unpack old) bit ∙ ap (λ (bits : List Bool). set bits index bit) word_is)

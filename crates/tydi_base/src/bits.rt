@@ -1,0 +1,177 @@
+ghost use Rattle.std.specs.Prelude.{◌≡◌, ◌↔◌, ◌+◌, ◌*◌, ◌/◌, ◌<◌, not, false, get_or, set, OnOk, OnErr, drop, length, IsTrue, IfOk};
+ghost use Rattle.std.proofs.Common.{rules};
+ghost use Rattle.std.proofs.Math.Bool.{beq};
+ghost use Rattle.std.specs.Cmp.Lexicographic.{pointwise};
+ghost use Rattle.std.specs.Cmp.Rules.{comparing};
+ghost use Rattle.tydi_base.specs.Bits.{bits_of, unpack, zero_bits};
+ghost use Rattle.tydi_base.specs.Hex.{fitted, no_ones, word_at};
+
+use crate::hex::push_digits;
+use crate::memory::Memory;
+use smallvec::SmallVec;
+use std::alloc::Global;
+use std::marker::Model;
+
+/// A word of bits, which contracts see as the list of its bits, lowest first. Words of up to 128 bits take no memory.
+#[derive(Debug, Drop)]
+pub struct Bits {
+    len: usize,
+    bytes: SmallVec<u8, 16>,
+}
+
+impl Model for Bits {
+    ghost use Rattle.std.specs.Prelude.{List, Bool, take};
+    ghost use Rattle.std.specs.Coded.{coded_list, coded_bool};
+    ghost use Rattle.tydi_base.specs.Bits.{unpack, IsPacked};
+
+    ghost Value = { List Bool };
+
+    ghost coded = { coded_list coded_bool };
+
+    ghost view = { λ bits. take bits.len (unpack bits.bytes.items) };
+
+    ghost invariant = { λ bits. IsPacked bits.len bits.bytes.items };
+}
+
+impl Bits {
+    /// The word of this width that is all zeros.
+    pub fn zeros(alloc: Global, width: usize) -> Result<Bits, Memory>
+        ensures { IfOk result (λ bits. bits ≡ zero_bits width) }
+    {
+        let bytes = SmallVec::from_elem(alloc, 0, width.div_ceil(8))?;
+        Ok(Bits { len: width, bytes })
+    }
+
+    /// The word of this width that these hexadecimal digits spell, the highest first. None exactly where they are not as many
+    /// as spell such a word, one of them is no digit, or a one stands at or above the width.
+    pub fn from_hexadecimal(alloc: Global, width: usize, digits: &[u8]) -> Result<Option<Bits>, Memory>
+        ensures { IfOk result (λ read. read ≡ word_at width digits.now) }
+    {
+        if digits.len() != width.div_ceil(4) {
+            return Ok(None);
+        }
+        let mut bytes = SmallVec::with_capacity(alloc, width.div_ceil(8))?;
+        if !push_digits(digits, &mut bytes) {
+            return Ok(None);
+        }
+        Ok(fitted(width, bytes))
+    }
+
+    /// Its width: how many bits it has.
+    pub fn len(&self) -> usize
+        ensures { result ≡ length self.now }
+    {
+        self.len
+    }
+
+    /// The bit at this place, from the lowest.
+    pub fn get(&self, index: usize) -> bool
+        requires { index < length self.now }
+        ensures { result ≡ get_or self.now index false }
+    {
+        bit_at(self.bytes.as_slice(), index)
+    }
+
+    /// Writes the bit at this place, from the lowest.
+    pub fn put(&mut self, index: usize, bit: bool)
+        requires { index < length self.old }
+        ensures { self.new ≡ set self.old index bit }
+    {
+        put_at(self.bytes.as_mut_slice(), index, bit);
+    }
+
+    /// Becomes a copy of this word. After `Memory` it is as before.
+    pub fn copy_from(&mut self, other: &Bits) -> Result<(), Memory>
+        ensures ok { OnOk result (self.new ≡ other.now) }
+        ensures err { OnErr result (self.new ≡ self.old) }
+    {
+        replace_bytes(&mut self.bytes, other.bytes.as_slice())?;
+        self.len = other.len;
+        Ok(())
+    }
+}
+
+// The bit at this place in bytes.
+fn bit_at(bytes: &[u8], index: usize) -> bool
+    requires { index < 8 * length bytes.now }
+    ensures { result ≡ get_or (unpack bytes.now) index false }
+{
+    let from = bytes[index / 8] >> (index % 8);
+    from % 2 == 1
+}
+
+// A byte with its bit at this place written, from the lowest.
+fn with_bit(byte: u8, place: usize, bit: bool) -> u8
+    requires { place < 8 }
+    ensures { bits_of 8 result ≡ set (bits_of 8 byte) place bit }
+{
+    let from = byte >> place;
+    let below = byte - (from << place);
+    let written = from - from % 2 + bit as u8;
+    (written << place) + below
+}
+
+// Writes the bit at this place in bytes.
+fn put_at(bytes: &mut [u8], index: usize, bit: bool)
+    requires { index < 8 * length bytes.old }
+    ensures { unpack bytes.new ≡ set (unpack bytes.old) index bit }
+{
+    bytes[index / 8] = with_bit(bytes[index / 8], index % 8, bit);
+}
+
+// These bytes in place of those that stand there. After `Memory` they are as before.
+fn replace_bytes(bytes: &mut SmallVec<u8, 16>, others: &[u8]) -> Result<(), Memory>
+    ensures ok { OnOk result (bytes.new.items ≡ others.now) }
+    ensures err { OnErr result (bytes.new.items ≡ bytes.old.items) }
+{
+    let more = others.len().saturating_sub(bytes.len());
+    bytes.reserve(more)?;
+    bytes.clear();
+    bytes.extend_from_slice(others)?;
+    Ok(())
+}
+
+// Whether a one stands at or above this width in the bytes of a word.
+fn has_ones_from(width: usize, bytes: &[u8]) -> bool
+    requires { length bytes.now ≡ (width + 7) / 8 }
+    ensures { result ≡ not (no_ones (drop width (unpack bytes.now))) }
+{
+    let used = width % 8;
+    if used == 0 {
+        return false;
+    }
+    let above = bytes[width / 8] >> used;
+    above != 0
+}
+
+// These bytes as a word of this width. None where a one stands at or above the width.
+fn fitted(width: usize, bytes: SmallVec<u8, 16>) -> Option<Bits>
+    requires { length bytes.items ≡ (width + 7) / 8 }
+    ensures { result ≡ fitted width (unpack bytes.items) }
+{
+    if has_ones_from(width, bytes.as_slice()) {
+        None
+    } else {
+        Some(Bits { len: width, bytes })
+    }
+}
+
+impl PartialEq for Bits {
+    ghost eq = { pointwise beq };
+
+    ghost laws = { Prim.search (comparing, rules) };
+
+    /// Whether it is the same word: as wide, and with the same bits.
+    fn eq(&self, other: &Bits) -> bool
+        ensures eq { result ≡ pointwise beq self.now other.now }
+        ensures same { IsTrue result ↔ (self.now ≡ other.now) }
+    {
+        let bytes = self.bytes.as_slice();
+        let others = other.bytes.as_slice();
+        self.len == other.len && bytes == others
+    }
+}
+
+impl Eq for Bits {
+    ghost laws = { Prim.search (comparing, rules) };
+}

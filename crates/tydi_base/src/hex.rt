@@ -1,0 +1,64 @@
+ghost use Rattle.std.specs.Prelude.{◌≡◌, ◌+◌, ◌-◌, ◌/◌, ◌<◌, [], ℕ, List, Bool, Some, None, length, MatchBool, IfSome, IsTrue};
+ghost use Rattle.smallvec.specs.SmallVec.{HasRoomFor};
+ghost use Rattle.tydi_base.specs.Bits.{unpack};
+ghost use Rattle.tydi_base.specs.Hex.{hex_of, digit_of, byte_of_digits, bits_of_digits, whole_bytes, word_at};
+
+use smallvec::SmallVec;
+
+/// A word's spelling is read as that word, and a word is read from its spelling alone.
+pub fn hexadecimal_is_read_as_spelled()
+    ensures spelled { (bits : List Bool) → word_at (length bits) (hex_of bits) ≡ Some bits }
+    ensures read { (width : ℕ) (digits : List ℕ) (bits : List Bool) → word_at width digits ≡ Some bits
+        → (digits ≡ hex_of bits) × (length bits ≡ width) }
+{
+}
+
+// The value of a digit, 0 to 15.
+#[tactic(auto, unfolding(crate::specs::Hex::digit_of))]
+fn digit_value(byte: u8) -> Option<u8>
+    ensures value { result ≡ digit_of byte }
+    ensures below { IfSome result (λ value. value < 16) }
+{
+    match byte {
+        b'0'..=b'9' => Some(byte - b'0'),
+        b'a'..=b'f' => Some(byte - b'a' + 10),
+        _ => None,
+    }
+}
+
+// The value of two digits, the first of them the higher.
+#[tactic(auto, unfolding(crate::specs::Hex::byte_of_digits))]
+fn byte_value(high: u8, low: u8) -> Option<u8>
+    ensures { result ≡ byte_of_digits high low }
+{
+    let below = digit_value(low)?;
+    let above = digit_value(high)?;
+    Some(16 * above + below)
+}
+
+/// Packs these digits, two to a byte, the last of them lowest. False where one is no digit.
+pub(crate) fn push_digits(digits: &[u8], bytes: &mut SmallVec<u8, 16>) -> bool
+    requires empty { bytes.old.items ≡ [] }
+    requires room { HasRoomFor bytes.old ((length digits.now + 1) / 2) }
+    ensures bits { MatchBool result (whole_bytes digits.now ≡ Some (unpack bytes.new.items)) (bits_of_digits digits.now ≡ None) }
+    ensures len { IsTrue result → length bytes.new.items ≡ (length digits.now + 1) / 2 }
+{
+    let mut at = digits.len();
+    'pairs: while at > 1 {
+        at -= 2;
+        match byte_value(digits[at], digits[at + 1]) {
+            Some(byte) => bytes.push_reserved(byte),
+            None => return false,
+        }
+    }
+    if at == 0 {
+        return true;
+    }
+    match digit_value(digits[0]) {
+        Some(value) => {
+            bytes.push_reserved(value);
+            true
+        }
+        None => false,
+    }
+}
