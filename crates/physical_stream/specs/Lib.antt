@@ -1,0 +1,10 @@
+pub mod Breaks
+pub mod Counts
+pub mod Cycles
+pub mod Ending
+pub mod First
+pub mod Items
+pub mod Params
+pub mod Rules
+pub mod Shape
+pub mod Signals

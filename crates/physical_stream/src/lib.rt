@@ -1,0 +1,20 @@
+//! A physical stream: its parameters, its transfers and the items that they carry, its cycles, and what the complexity
+//! rules say of them. The definitions in `specs/` are for all lanes, dimensions and levels; they are the standard that
+//! every layer above is proved against.
+#![tactic(auto)]
+
+mod end;
+mod head;
+mod item;
+mod params;
+mod row;
+mod rule;
+mod transfer;
+
+pub use end::End;
+pub use head::{Head, Header};
+pub use item::{Item, Tail};
+pub use params::Params;
+pub use row::Row;
+pub use rule::Rule;
+pub use transfer::Transfer;

@@ -1,0 +1,12 @@
+-- The store over the system's files, as far as a contract can see it.
+use Rattle.std.specs.Prelude.{ℕ, Bool, false, Result, Ok, Err}
+
+-- whether a file is started, and how many calls failed
+pub record FileStoreState : Type 0 where
+  pub is_started : Bool
+  pub faults : ℕ
+
+-- a file is started after a start that answered true, and after no other
+abbrev pub has_started : {E : Type 0} → Result Bool E → Bool
+has_started (Ok found) = found
+has_started (Err _) = false

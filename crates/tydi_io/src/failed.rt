@@ -1,0 +1,14 @@
+use std::error::Error;
+use std::fmt;
+
+/// A call of a store or a sink failed, and its count of faults rose. What the call left as it was, its contract says.
+#[derive(Clone, Copy, Debug, PartialEq, Eq)]
+pub struct Failed;
+
+impl fmt::Display for Failed {
+    fn fmt<W: fmt::Write>(&self, f: &mut fmt::Formatter<W>) -> fmt::Result {
+        f.write_str("the call failed")
+    }
+}
+
+impl Error for Failed {}

@@ -1,0 +1,116 @@
+ghost use Rattle.std.specs.Prelude.{◌≡◌, ℕ, ◌≤◌, true, false, Some, None, Ok, length, IfOk};
+ghost use Rattle.tydi_io.specs.Faults.{Rose, HasCause, one_more, faults_after};
+ghost use Rattle.tydi_io.specs.FileStore.{has_started};
+
+use crate::failed::Failed;
+use crate::store::Store;
+use std::fs;
+use std::io::{ErrorKind, Read};
+use std::marker::Model;
+use std::rt::Files;
+
+/// The system's files, by their paths. No contract tells what they hold.
+#[derive(Drop)]
+pub struct FileStore<'a, R: Files> {
+    files: &'a R,
+    started: Option<R::File>,
+    faults: u64,
+}
+
+impl<'a, R: Files> Model for FileStore<'a, R> {
+    ghost use Rattle.std.specs.Prelude.{is_some};
+    ghost use Rattle.tydi_io.specs.FileStore.{FileStoreState};
+
+    ghost Value = { FileStoreState };
+
+    ghost view = { λ s. record { is_started = is_some s.started; faults = s.faults } };
+}
+
+impl<'a, R: Files> FileStore<'a, R> {
+    /// A store over these files, none of them started.
+    pub fn new(files: &'a R) -> FileStore<'a, R>
+        ensures { result ≡ record { is_started = false; faults = 0 } }
+    {
+        FileStore {
+            files,
+            started: None,
+            faults: 0,
+        }
+    }
+
+    /// Counts a fault.
+    fn fault(&mut self) -> Failed
+        ensures state { self.new ≡ record self.old { faults = one_more self.old.faults } }
+        ensures later { self.old.faults ≤ self.new.faults }
+        ensures rose { Rose self.old.faults self.new.faults }
+    {
+        self.faults = self.faults.saturating_add(1);
+        Failed
+    }
+}
+
+impl<'a, R: Files> Store for FileStore<'a, R> {
+    ghost allowed = { λ _ _. true };
+
+    ghost files = { λ _. None };
+
+    ghost started = { λ _. None };
+
+    ghost faults = { λ store. store.faults };
+
+    fn start(&mut self, name: &str) -> Result<bool, Failed>
+        ensures state { self.new ≡ record {
+          is_started = has_started result;
+          faults = faults_after self.old.faults result;
+        } }
+        ensures missing { IfOk result (λ found. found ≡ false → self.new.faults ≡ self.old.faults) }
+        ensures cause { HasCause self.old.faults self.new.faults result }
+    {
+        self.started = None;
+        match fs::open(self.files, name) {
+            Ok(file) => {
+                self.started = Some(file);
+                Ok(true)
+            }
+            Err(error) if error.kind() == ErrorKind::NotFound => Ok(false),
+            Err(_) => Err(self.fault()),
+        }
+    }
+
+    fn pull(&mut self, into: &mut [u8]) -> Result<usize, Failed>
+        ensures none { self.old.is_started ≡ false → result ≡ Ok 0 }
+        ensures within { IfOk result (λ n. n ≤ length into.new) }
+        ensures state { self.new ≡ record self.old { faults = faults_after self.old.faults result } }
+        ensures cause { HasCause self.old.faults self.new.faults result }
+    {
+        let Some(file) = &mut self.started else {
+            return Ok(0);
+        };
+        match file.read(into) {
+            Ok(count) => Ok(count),
+            Err(_) => Err(self.fault()),
+        }
+    }
+}
+
+#[cfg(test)]
+mod tests {
+    use super::*;
+    use std::test::Fail;
+
+    #[test]
+    fn reads_what_the_system_has(rt: HostRuntime) -> Result<(), Fail> {
+        let mut store = FileStore::new(&rt);
+        let mut into = [1u8; 4];
+        assert_eq!(rt; store.pull(&mut into), Ok(0), "none is started");
+        assert_eq!(rt; store.start("/dev/zero"), Ok(true));
+        assert_eq!(rt; store.pull(&mut into), Ok(4));
+        assert_eq!(rt; into, [0u8; 4]);
+        assert_eq!(rt; store.start("/no such file"), Ok(false));
+        assert_eq!(rt; store.pull(&mut into), Ok(0), "none is started any more");
+        assert_eq!(rt; store.start("/dev/null/file"), Err(Failed), "no folder");
+        assert_eq!(rt; store.start("/"), Ok(true), "a folder opens");
+        assert_eq!(rt; store.pull(&mut into), Err(Failed), "and cannot be read");
+        Ok(())
+    }
+}

@@ -1,0 +1,79 @@
+ghost use Rattle.std.specs.Prelude.{◌≡◌, ◌<◌, ◌≤◌, None, length, IfOk};
+ghost use Rattle.tydi_io.specs.Faults.{HasCause, faults_after};
+
+use crate::failed::Failed;
+use crate::sink::Sink;
+use std::io::Write;
+use std::marker::Model;
+
+/// A writer that takes bytes. Contracts see how many calls failed, and not what the writer took.
+#[derive(Drop)]
+pub struct StreamSink<W: Write> {
+    writer: W,
+    faults: u64,
+}
+
+impl<W: Write> Model for StreamSink<W> {
+    ghost use Rattle.std.specs.Prelude.{ℕ};
+
+    ghost Value = { ℕ };
+
+    ghost view = { λ s. s.faults };
+}
+
+impl<W: Write> StreamSink<W> {
+    /// A sink over this writer.
+    pub fn new(writer: W) -> StreamSink<W>
+        ensures { result ≡ 0 }
+    {
+        StreamSink { writer, faults: 0 }
+    }
+}
+
+impl<W: Write> Sink for StreamSink<W> {
+    ghost taken = { λ _. None };
+
+    ghost faults = { λ faults. faults };
+
+    /// A writer that takes nothing of a piece that is not empty failed.
+    fn push(&mut self, piece: &[u8]) -> Result<usize, Failed>
+        ensures within { IfOk result (λ n. n ≤ length piece.now) }
+        ensures some { IfOk result (λ n. 0 < length piece.now → 0 < n) }
+        ensures state { self.new ≡ faults_after self.old result }
+        ensures cause { HasCause self.old self.new result }
+    {
+        match self.writer.write(piece) {
+            Ok(count) if count > 0 || piece.is_empty() => Ok(count),
+            _ => {
+                self.faults = self.faults.saturating_add(1);
+                Err(Failed)
+            }
+        }
+    }
+}
+
+#[cfg(test)]
+mod tests {
+    use super::*;
+    use std::test::Fail;
+
+    #[test]
+    fn passes_bytes_on(rt: HostRuntime) -> Result<(), Fail> {
+        let mut bytes = Vec::new(rt.alloc());
+        let mut sink = StreamSink::new(&mut bytes);
+        assert_eq!(rt; sink.push(b"ab"), Ok(2));
+        assert_eq!(rt; sink.push(b""), Ok(0));
+        assert_eq!(rt; sink.push(b"c"), Ok(1));
+        assert_eq!(rt; bytes.as_slice(), b"abc".as_slice());
+        Ok(())
+    }
+
+    #[test]
+    fn a_writer_that_takes_nothing_fails(rt: HostRuntime) {
+        let mut room = [0u8; 1];
+        let mut sink = StreamSink::new(&mut room[..]);
+        assert_eq!(rt; sink.push(b"ab"), Ok(1));
+        assert_eq!(rt; sink.push(b"b"), Err(Failed));
+        assert_eq!(rt; sink.push(b""), Ok(0));
+    }
+}
