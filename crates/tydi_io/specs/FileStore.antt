@@ -1,9 +1,10 @@
 -- The store over the system's files, as far as a contract can see it.
-use Rattle.std.specs.Prelude.{ℕ, Bool, false, Result, Ok, Err}
+use Rattle.std.specs.Prelude.{ℕ, List, Bool, false, Option, Result, Ok, Err}
 
--- whether a file is started, and how many calls failed
+-- whether a file is started, what it has left where its reader tells, and how many calls failed
 pub record FileStoreState : Type 0 where
   pub is_started : Bool
+  pub left : Option (List ℕ)
   pub faults : ℕ
 
 -- a file is started after a start that answered true, and after no other

@@ -5,3 +5,4 @@ pub mod MemStore
 pub mod Sink
 pub mod Started
 pub mod Store
+pub mod StreamSink

@@ -1,5 +1,5 @@
 -- The store in memory: its state, and the state after each call.
-use Rattle.std.specs.Prelude.{◌≡◌, ℕ, ◌+◌, ◌<◌, ◌≤◌, List, [], ◌∷◌, Bool, Option, Some, None, Result, Ok, Err, length, min, cond, slice_get, unwrap_or, option_map}
+use Rattle.std.specs.Prelude.{ℕ, List, [], ◌∷◌, Bool, Option, Some, None, Result, Ok, Err, length, min, cond, slice_get, unwrap_or, option_map}
 use Rattle.std.specs.Str.{bytes_eq}
 use Rattle.tydi_io.specs.Faults.{one_more, faults_after}
 use Rattle.tydi_io.specs.Store.{Files, started_at, left_of, given_more}

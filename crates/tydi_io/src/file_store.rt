@@ -1,4 +1,5 @@
 ghost use Rattle.std.specs.Prelude.{◌≡◌, ℕ, ◌≤◌, true, false, Some, None, Ok, length, IfOk};
+ghost use Rattle.std.specs.Io.KnownBytes.{ReadConsumes};
 ghost use Rattle.tydi_io.specs.Faults.{Rose, HasCause, one_more, faults_after};
 ghost use Rattle.tydi_io.specs.FileStore.{has_started};
 
@@ -9,7 +10,8 @@ use std::io::{ErrorKind, Read};
 use std::marker::Model;
 use std::rt::Files;
 
-/// The system's files, by their paths. No contract tells what they hold.
+/// The system's files, by their paths. As a `Store` it does not tell what they hold. An error of the system is `Failed`, but
+/// that no such file is there is an answer. A folder may be started, and its pull fails.
 #[derive(Drop)]
 pub struct FileStore<'a, R: Files> {
     files: &'a R,
@@ -18,18 +20,22 @@ pub struct FileStore<'a, R: Files> {
 }
 
 impl<'a, R: Files> Model for FileStore<'a, R> {
-    ghost use Rattle.std.specs.Prelude.{is_some};
+    ghost use Rattle.std.specs.Prelude.{is_some, option_and_then};
     ghost use Rattle.tydi_io.specs.FileStore.{FileStoreState};
 
     ghost Value = { FileStoreState };
 
-    ghost view = { λ s. record { is_started = is_some s.started; faults = s.faults } };
+    ghost view = { λ s. record {
+      is_started = is_some s.started;
+      left = option_and_then R.File.remaining s.started;
+      faults = s.faults;
+    } };
 }
 
 impl<'a, R: Files> FileStore<'a, R> {
     /// A store over these files, none of them started.
     pub fn new(files: &'a R) -> FileStore<'a, R>
-        ensures { result ≡ record { is_started = false; faults = 0 } }
+        ensures { result ≡ record { is_started = false; left = None; faults = 0 } }
     {
         FileStore {
             files,
@@ -59,10 +65,8 @@ impl<'a, R: Files> Store for FileStore<'a, R> {
     ghost faults = { λ store. store.faults };
 
     fn start(&mut self, name: &str) -> Result<bool, Failed>
-        ensures state { self.new ≡ record {
-          is_started = has_started result;
-          faults = faults_after self.old.faults result;
-        } }
+        ensures started { self.new.is_started ≡ has_started result }
+        ensures faults { self.new.faults ≡ faults_after self.old.faults result }
         ensures missing { IfOk result (λ found. found ≡ false → self.new.faults ≡ self.old.faults) }
         ensures cause { HasCause self.old.faults self.new.faults result }
     {
@@ -80,7 +84,11 @@ impl<'a, R: Files> Store for FileStore<'a, R> {
     fn pull(&mut self, into: &mut [u8]) -> Result<usize, Failed>
         ensures none { self.old.is_started ≡ false → result ≡ Ok 0 }
         ensures within { IfOk result (λ n. n ≤ length into.new) }
-        ensures state { self.new ≡ record self.old { faults = faults_after self.old.faults result } }
+        ensures started { self.new.is_started ≡ self.old.is_started }
+
+        // What is read is handed on as it comes.
+        ensures bytes { ReadConsumes self.old.left self.new.left result into.new }
+        ensures faults { self.new.faults ≡ faults_after self.old.faults result }
         ensures cause { HasCause self.old.faults self.new.faults result }
     {
         let Some(file) = &mut self.started else {

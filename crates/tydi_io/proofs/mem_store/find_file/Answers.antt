@@ -1,5 +1,5 @@
 -- The file whose name is equal is the first of that name.
-use Rattle.std.proofs.Common.{◌≡◌, List, ℕ, true, arith}
+use Rattle.std.proofs.Common.{◌≡◌, true, arith}
 use Rattle.std.specs.Str.{bytes_eq}
 use Rattle.tydi_io.specs.MemStore.{name_at}
 use Rattle.tydi_io.proofs.Files.{name_at-found, file_in-found}
