@@ -1,6 +1,6 @@
 //! Names: ASCII letters, digits and `_`.
 
-ghost use Rattle.std.specs.Prelude.{◌≡◌, IsTrue, IfOk};
+ghost use Rattle.std.specs.Prelude.{◌≡◌, IsTrue, IfOk, OnErr};
 ghost use Rattle.std.specs.List.{list_all};
 ghost use Rattle.tydi_base.specs.Name as spec;
 
@@ -28,9 +28,10 @@ impl Model for Name {
 }
 
 impl Name {
-    /// The name that a text is. `Ok(None)` exactly where it is none.
+    /// The name that a text is. `Ok(None)` exactly where it is none, which takes no memory.
     pub fn read(alloc: Global, text: &[u8]) -> Result<Option<Name>, Memory>
-        ensures { IfOk result (λ found. found ≡ spec.name_of text.now) }
+        ensures ok { IfOk result (λ found. found ≡ spec.name_of text.now) }
+        ensures err { OnErr result (IsTrue (spec.is_name text.now)) }
     {
         if !is_name(text) {
             return Ok(None);
