@@ -1,0 +1,16 @@
+use Rattle.std.proofs.Common.{◌≡◌, ◌+◌, ◌-◌, ◌<◌, ◌≤◌, length}
+use Rattle.tydi_tool.proofs.LoadingLemmas.{PulledFrom}
+use Rattle.tydi_tool.proofs.loading.pull_all.Given as goal
+
+abbrev pub invariant-pulls : goal.invariant-pulls
+invariant-pulls g l = record {
+  allowed : g.S.Store.allowed l.store ≡ g.S.Store.allowed l.fn.store;
+  files : g.S.Store.files l.store ≡ g.S.Store.files l.fn.store;
+  counted : g.S.Store.faults l.fn.store ≤ g.S.Store.faults l.store;
+  pulled : PulledFrom (g.S.Store.files l.fn.store) (g.S.Store.started l.fn.store) (g.S.Store.started l.store) l.bytes;
+  within : length l.bytes ≤ l.limit + 1;
+  room : 0 < length l.piece
+}
+
+abbrev pub decreases-pulls : goal.decreases-pulls
+decreases-pulls g l = l.limit + 1 - length l.bytes

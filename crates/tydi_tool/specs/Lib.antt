@@ -1,0 +1,9 @@
+pub mod Delivery
+pub mod HeaderText
+pub mod Lines
+pub mod Loading
+pub mod Outcome
+pub mod RowText
+pub mod Survey
+pub mod Trace
+pub mod Words

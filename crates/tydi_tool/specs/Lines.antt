@@ -1,0 +1,36 @@
+-- The lines that a run writes (this project's own).
+use Rattle.std.specs.Prelude.{ℕ, List, [], ◌∷◌, ◌++◌, codes, decimal}
+use Rattle.tydi_base.specs.Path.{path_text}
+use Rattle.physical_stream.specs.Rules.{number_of_rule, name_of_rule}
+use Rattle.physical_stream.specs.declared.rule.Rule.{Rule}
+use Rattle.tydi_tool.specs.declared.refusal.Refusal.{Refusal}
+use Rattle.tydi_tool.specs.declared.refusal.Refusal.TheVariants as refusals
+
+abbrev pub name_of_refusal : Refusal → List ℕ
+name_of_refusal refusals.NoFile = codes "NoFile"
+name_of_refusal refusals.TooLong = codes "TooLong"
+name_of_refusal refusals.BadTrace = codes "BadTrace"
+name_of_refusal refusals.Unsupported = codes "Unsupported"
+
+-- a fault that names a file
+abbrev pub file_line : List ℕ → List ℕ → List ℕ
+file_line name word = codes "tydi: " ++ name ++ codes " " ++ word ++ codes "\n"
+
+abbrev pub refusal_line : Refusal → List ℕ → List ℕ
+refusal_line refusal word = file_line (name_of_refusal refusal) word
+
+abbrev pub read_fault_line : List ℕ → List ℕ
+read_fault_line word = file_line (codes "ReadFault") word
+
+abbrev pub offence_line : ℕ → List (List ℕ) → Rule → List ℕ
+offence_line cycle path rule =
+    codes "offence cycle " ++ decimal cycle ++ codes " stream " ++ path_text path ++ codes " rule " ++ decimal (number_of_rule rule) ++ codes " " ++ name_of_rule rule ++ codes "\n"
+
+abbrev pub pending_line : List (List ℕ) → List ℕ
+pending_line path = codes "unfinished stream " ++ path_text path ++ codes " pending\n"
+
+abbrev pub unclosed_line : List (List ℕ) → ℕ → List ℕ
+unclosed_line path open_at = codes "unfinished stream " ++ path_text path ++ codes " open " ++ decimal open_at ++ codes "\n"
+
+abbrev pub counts_line : List (List ℕ) → ℕ → ℕ → List ℕ
+counts_line path transfers packets = codes "stream " ++ path_text path ++ codes " transfers " ++ decimal transfers ++ codes " packets " ++ decimal packets ++ codes "\n"

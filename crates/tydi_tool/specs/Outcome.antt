@@ -1,0 +1,60 @@
+-- What a run writes, and how it ends (this project's own).
+use Rattle.std.specs.Prelude.{◌≡◌, ℕ, ◌≤◌, ◌⊎◌, List, [], ◌∷◌, ◌++◌, length, take, Option, Some, None, option_map, codes}
+use Rattle.tydi_tool.specs.declared.answer.Answer.{Answer}
+use Rattle.tydi_tool.specs.declared.answer.Answer.TheVariants as answers
+use Rattle.tydi_tool.specs.declared.answer.Reply.{Reply}
+use Rattle.tydi_tool.specs.declared.answer.Reply.TheVariants as replies
+use Rattle.tydi_tool.specs.declared.status.Status.{Status}
+use Rattle.tydi_tool.specs.declared.status.Status.TheVariants as statuses
+
+abbrev pub exit_code : Status → ℕ
+exit_code statuses.Done = 0
+exit_code statuses.Refused = 1
+exit_code statuses.Usage = 2
+exit_code statuses.ReadFault = 3
+exit_code statuses.WriteFault = 4
+exit_code statuses.Memory = 5
+exit_code statuses.Verdict = 6
+
+abbrev pub usage_line : List ℕ
+usage_line = codes "tydi: Usage\n"
+
+abbrev pub memory_line : List ℕ
+memory_line = codes "tydi: Memory\n"
+
+abbrev pub write_fault_line : List ℕ
+write_fault_line = codes "tydi: WriteFault\n"
+
+-- what an answer gives to out, what it gives to err, and how it ends
+abbrev pub out_of_answer : Answer → List ℕ
+out_of_answer answers.Usage = []
+out_of_answer (answers.Refused line) = []
+out_of_answer (answers.Verdict line) = line
+out_of_answer (answers.Done text) = text
+
+abbrev pub err_of_answer : Answer → List ℕ
+err_of_answer answers.Usage = usage_line
+err_of_answer (answers.Refused line) = line
+err_of_answer (answers.Verdict line) = []
+err_of_answer (answers.Done text) = []
+
+abbrev pub status_of_answer : Answer → Status
+status_of_answer answers.Usage = statuses.Usage
+status_of_answer (answers.Refused line) = statuses.Refused
+status_of_answer (answers.Verdict line) = statuses.Verdict
+status_of_answer (answers.Done text) = statuses.Done
+
+abbrev pub out_of : Reply → List ℕ
+out_of (replies.Says a) = out_of_answer a
+out_of (replies.ReadFault line) = []
+out_of replies.Memory = []
+
+abbrev pub err_of : Reply → List ℕ
+err_of (replies.Says a) = err_of_answer a
+err_of (replies.ReadFault line) = line
+err_of replies.Memory = memory_line
+
+abbrev pub status_of : Reply → Status
+status_of (replies.Says a) = status_of_answer a
+status_of (replies.ReadFault line) = statuses.ReadFault
+status_of replies.Memory = statuses.Memory

@@ -1,0 +1,46 @@
+-- The commands that words spell (this project's own).
+use Rattle.std.specs.Prelude.{ℕ, ◌*◌, ◌^◌, Bool, true, false, not, ◌==◌, ◌&&◌, if◌then◌else◌, List, [], ◌∷◌, Option, Some, None, codes, IsTrue}
+use Rattle.std.specs.List.{AllByRecursion}
+use Rattle.std.specs.Str.{bytes_eq}
+use Rattle.tydi_tool.specs.declared.words.Command.{Command}
+use Rattle.tydi_tool.specs.declared.words.Command.TheVariants as commands
+
+-- a command with its words, apart from where they lie in memory
+pub data Request : Type 0 where
+  Check : List ℕ → Request
+
+abbrev pub request_from : Command → Request
+request_from (commands.Check trace) = Check trace.now
+
+-- a word that is not empty and does not begin with `-`
+abbrev pub is_word : List ℕ → Bool
+is_word [] = false
+is_word (c ∷ cs) = not (c == 45)
+
+-- `check TRACE`
+abbrev pub check_request : List (List ℕ) → Option Request
+check_request (trace ∷ []) = if is_word trace then Some (Check trace) else None
+check_request words = None
+
+-- the command that the words spell: the command's own word, and then exactly its words
+abbrev pub request_of : List (List ℕ) → Option Request
+request_of [] = None
+request_of (command ∷ words) = if bytes_eq command (codes "check") then check_request words else None
+
+-- a file that a command names, and the most bytes that it may have
+pub record FileWord : Type 0 where
+  pub word : List ℕ
+  pub limit : ℕ
+
+-- 64 MiB
+abbrev pub trace_limit : ℕ
+trace_limit = 64 * 2 ^ 20
+
+-- the files of a command, in the order in which they are read
+abbrev pub file_words : Request → List FileWord
+file_words (Check trace) = record { word = trace; limit = trace_limit } ∷ []
+
+-- the store may start each file of the command
+abbrev pub Allows : (List ℕ → Bool) → Option Request → Type 0
+Allows allowed None = Unit {0}
+Allows allowed (Some request) = AllByRecursion (λ file. IsTrue (allowed file.word)) (file_words request)

@@ -1,0 +1,44 @@
+ghost use Rattle.std.specs.Prelude.{◌≡◌, option_map};
+ghost use Rattle.tydi_tool.specs.Words.{request_of, request_from, is_word, check_request};
+
+use tydi_base::Text;
+
+/// A command, with the words that belong to it.
+pub enum Command<'a> {
+    /// Check a trace by rules 1 to 10.
+    Check {
+        /// The file of the trace.
+        trace: &'a Text,
+    },
+}
+
+/// The command that the words after the program's name spell. None exactly where they spell none. It takes no memory.
+pub fn words_of<'a>(words: &'a [Text]) -> Option<Command<'a>>
+    ensures { option_map request_from result ≡ request_of words.now }
+{
+    let (command, rest) = words.split_first()?;
+    if command.as_str() == "check" {
+        check_of(rest)
+    } else {
+        None
+    }
+}
+
+fn check_of<'a>(words: &'a [Text]) -> Option<Command<'a>>
+    ensures { option_map request_from result ≡ check_request words.now }
+{
+    match words {
+        [trace] if is_word(trace) => Some(Command::Check { trace }),
+        _ => None,
+    }
+}
+
+/// A word that is not empty and does not begin with `-`.
+fn is_word(word: &Text) -> bool
+    ensures { result ≡ is_word word.now }
+{
+    match word.as_bytes() {
+        [] | [b'-', ..] => false,
+        _ => true,
+    }
+}
