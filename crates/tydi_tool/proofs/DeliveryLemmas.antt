@@ -41,6 +41,7 @@ ErrFails-from reply text line (Ok u) (Err e) rose out_old out_new err_old err_ne
     let some' : 0 < length (err_of reply) = subst (λ (l : List ℕ). 0 < length l) is_line some in
     record {
       rose = cause refl;
+      some = some';
       ends = refl;
       out = subst (λ (t : List ℕ). Adds out_old out_new t) (is_text ∙ out_is_empty reply some') out;
       err = subst (λ (l : List ℕ). AddsFront err_old err_new l) is_line err

@@ -1,2 +1,5 @@
+pub mod AnswerLemmas
 pub mod DeliveryLemmas
 pub mod LoadingLemmas
+pub mod ReplyLemmas
+pub mod RunLemmas

@@ -1,5 +1,5 @@
 -- What the two sinks hold after a run (this project's own).
-use Rattle.std.specs.Prelude.{◌≡◌, ℕ, ◌≤◌, ◌⊎◌, List, [], ◌++◌, length, take, Option, option_map}
+use Rattle.std.specs.Prelude.{◌≡◌, ℕ, ◌<◌, ◌≤◌, ◌⊎◌, List, [], ◌++◌, length, take, Option, option_map}
 use Rattle.tydi_tool.specs.declared.answer.Reply.{Reply}
 use Rattle.tydi_tool.specs.declared.status.Status.{Status}
 use Rattle.tydi_tool.specs.declared.status.Status.TheVariants as statuses
@@ -21,16 +21,18 @@ pub record IsTold (reply : Reply) (status : Status) (out_old out_new err_old err
   pub out : Adds out_old out_new (out_of reply)
   pub err : Adds err_old err_new (err_of reply)
 
--- out failed: it has a front of its text, and err the line of WriteFault, or, where err failed too, a front of it
+-- out failed over a text that is not empty: it has a front of its text, and err the line of WriteFault, or, where err failed too, a front of it
 pub record OutFails (out_rose err_rose : Type 0) (reply : Reply) (status : Status) (out_old out_new err_old err_new : Option (List ℕ)) : Type 0 where
   pub rose : out_rose
+  pub some : 0 < length (out_of reply)
   pub ends : status ≡ statuses.WriteFault
   pub out : AddsFront out_old out_new (out_of reply)
   pub err : Adds err_old err_new write_fault_line ⊎ (err_rose × AddsFront err_old err_new write_fault_line)
 
--- err failed: it has a front of its line, and out is as before
+-- err failed over a line: it has a front of its line, and out is as before
 pub record ErrFails (err_rose : Type 0) (reply : Reply) (status : Status) (out_old out_new err_old err_new : Option (List ℕ)) : Type 0 where
   pub rose : err_rose
+  pub some : 0 < length (err_of reply)
   pub ends : status ≡ statuses.WriteFault
   pub out : Adds out_old out_new []
   pub err : AddsFront err_old err_new (err_of reply)

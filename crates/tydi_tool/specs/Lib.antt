@@ -1,9 +1,13 @@
+pub mod Answers
 pub mod Delivery
 pub mod HeaderText
+pub mod Judging
 pub mod Lines
 pub mod Loading
 pub mod Outcome
+pub mod Replies
 pub mod RowText
+pub mod Run
 pub mod Survey
 pub mod Trace
 pub mod Words

@@ -2,15 +2,20 @@
 #![tactic(auto)]
 
 mod answer;
+mod commands;
 mod delivery;
+mod judging;
 mod loading;
 mod refusal;
+mod running;
 mod status;
 mod surveying;
+mod telling;
 mod trace;
 mod words;
 
 pub use answer::{Answer, Reply};
 pub use refusal::Refusal;
+pub use running::run;
 pub use status::Status;
 pub use words::{Command, words_of};

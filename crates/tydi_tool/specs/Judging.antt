@@ -1,0 +1,12 @@
+-- What is said of the text of a trace (this project's own).
+use Rattle.std.specs.Prelude.{ℕ, List}
+use Rattle.tydi_tool.specs.declared.answer.Reply.{Reply}
+use Rattle.tydi_tool.specs.declared.answer.Reply.TheVariants as replies
+use Rattle.tydi_tool.specs.RowText.{trace_of}
+use Rattle.tydi_tool.specs.Answers.{TellsReading}
+
+-- the answer on the text of the file of this word, or want of memory
+abbrev pub Judges : List ℕ → List ℕ → Reply → Type 0
+Judges word text (replies.Says a) = TellsReading word (trace_of text) a
+Judges word text (replies.ReadFault line) = ⊥
+Judges word text replies.Memory = Unit {0}

@@ -1,0 +1,101 @@
+-- What a run promises, clause by clause (this project's own). `request` is the command that the words spell, `told` the
+-- files of the store where it tells them; a sink's bytes stand for themselves where the sink tells them.
+use Rattle.std.specs.Prelude.{◌≡◌, ℕ, ◌⊎◌, List, [], ◌∷◌, Option, Some, None, IfSome}
+use Rattle.tydi_io.specs.Store.{Files}
+use Rattle.tydi_tool.specs.declared.answer.Answer.{Answer}
+use Rattle.tydi_tool.specs.declared.answer.Answer.TheVariants as answers
+use Rattle.tydi_tool.specs.declared.status.Status.{Status}
+use Rattle.tydi_tool.specs.declared.status.Status.TheVariants as statuses
+use Rattle.tydi_tool.specs.Words.{Request, FileWord, file_words}
+use Rattle.tydi_tool.specs.Lines.{read_fault_line}
+use Rattle.tydi_tool.specs.Outcome.{out_of_answer, err_of_answer, status_of_answer, usage_line, memory_line, write_fault_line}
+use Rattle.tydi_tool.specs.Delivery.{Adds, AddsFront}
+use Rattle.tydi_tool.specs.Replies.{IsOneOf, IsPulledOut, IsGivenOne, StartsWithin, NamesStarted}
+use Rattle.tydi_tool.specs.Answers.{Says}
+
+-- the files that the command names, none where there is no command
+abbrev pub files_of : Option Request → List FileWord
+files_of None = []
+files_of (Some request) = file_words request
+
+-- Usage comes only where the words spell no command; there it comes, or WriteFault, where err failed
+abbrev pub UsageExactly : Option Request → Type 0 → Status → Type 0
+UsageExactly request err_rose status =
+    (status ≡ statuses.Usage → request ≡ None) × (request ≡ None → (status ≡ statuses.Usage) ⊎ ((status ≡ statuses.WriteFault) × err_rose))
+
+-- the status of an answer: the run ended with no fault and with memory
+abbrev pub EndsInAnswer : Status → Type 0
+EndsInAnswer statuses.Done = Unit {0}
+EndsInAnswer statuses.Refused = Unit {0}
+EndsInAnswer statuses.Usage = Unit {0}
+EndsInAnswer statuses.Verdict = Unit {0}
+EndsInAnswer status = ⊥
+
+-- the run ended with the answer to the words and the files: out has exactly its text or verdict, err exactly its line
+pub record IsAnswered (told : Files) (request : Option Request) (status : Status) (out_old out_new err_old err_new : Option (List ℕ)) : Type 0 where
+  pub answer : Answer
+  pub says : Says told request answer
+  pub ends : status ≡ status_of_answer answer
+  pub out : Adds out_old out_new (out_of_answer answer)
+  pub err : Adds err_old err_new (err_of_answer answer)
+
+-- a read failed: out is as before, err has exactly the line, which names the started file, or, where none is started, the
+-- first file word that the store lacks
+pub record TellsRead (told : Option Files) (request : Option Request) (started : Option (List ℕ × ℕ)) (out_old out_new err_old err_new : Option (List ℕ)) : Type 0 where
+  pub file : FileWord
+  pub named : IsOneOf (files_of request) file
+  pub starts : IfSome told (λ known. NamesStarted known (files_of request) started file.word)
+  pub out : Adds out_old out_new []
+  pub err : Adds err_old err_new (read_fault_line file.word)
+
+-- out has its old bytes, and then a front of what the answer gives to it
+pub record HasFront (told : Files) (request : Option Request) (out_old out_new : Option (List ℕ)) : Type 0 where
+  pub answer : Answer
+  pub says : Says told request answer
+  pub front : AddsFront out_old out_new (out_of_answer answer)
+
+-- in every case: out is as before, or has such a front
+abbrev pub OutFront : Files → Option Request → (out_old out_new : Option (List ℕ)) → Type 0
+OutFront told request out_old out_new = Adds out_old out_new [] ⊎ HasFront told request out_old out_new
+
+-- the statuses with which out is as before
+abbrev pub LeavesOut : Status → Type 0
+LeavesOut statuses.Refused = Unit {0}
+LeavesOut statuses.Usage = Unit {0}
+LeavesOut statuses.ReadFault = Unit {0}
+LeavesOut status = ⊥
+
+-- an answer that gives nothing to out
+abbrev pub IsRefusal : Answer → Type 0
+IsRefusal answers.Usage = Unit {0}
+IsRefusal (answers.Refused line) = Unit {0}
+IsRefusal answer = ⊥
+
+-- a line that err may take: that of the answer to the words and the files, that of a failed read where the store's faults
+-- rose, that of a failed write where out's faults rose, or that of want of memory
+pub record IsLineOfAnswer (told : Option Files) (request : Option Request) (line : List ℕ) : Type 0 where
+  pub answer : Answer
+  pub says : IfSome told (λ known. Says known request answer)
+  pub is : line ≡ err_of_answer answer
+
+pub record IsLineOfRead (store_rose : Type 0) (request : Option Request) (line : List ℕ) : Type 0 where
+  pub rose : store_rose
+  pub file : FileWord
+  pub named : IsOneOf (files_of request) file
+  pub is : line ≡ read_fault_line file.word
+
+abbrev pub IsLine : Option Files → Option Request → (store_rose out_rose : Type 0) → List ℕ → Type 0
+IsLine told request store_rose out_rose line =
+    IsLineOfAnswer told request line ⊎ (IsLineOfRead store_rose request line ⊎ ((out_rose × (line ≡ write_fault_line)) ⊎ (line ≡ memory_line)))
+
+-- in every case: err has its old bytes, and then a front of one such line
+pub record ErrFront (told : Option Files) (request : Option Request) (store_rose out_rose : Type 0) (err_old err_new : Option (List ℕ)) : Type 0 where
+  pub line : List ℕ
+  pub is : IsLine told request store_rose out_rose line
+  pub front : AddsFront err_old err_new line
+
+-- the file that is started at the end. Without a command nothing was started. With an answer a file of the command was given
+-- to its end, or to one byte past its limit; in every case none was started, or one, within its limit.
+abbrev pub StartedAtEnd : Files → Option Request → Status → (old new : Option (List ℕ × ℕ)) → Type 0
+StartedAtEnd told None status old new = new ≡ old
+StartedAtEnd told (Some request) status old new = StartsWithin told (file_words request) old new × (EndsInAnswer status → IsPulledOut told (file_words request) new)

@@ -1,0 +1,69 @@
+ghost use Rattle.std.specs.Prelude.{◌≡◌, ◌⊎◌, IsTrue};
+ghost use Rattle.tydi_io.specs.Faults.{Rose};
+ghost use Rattle.tydi_tool.specs.Words.{Check, request_of, Allows};
+ghost use Rattle.tydi_tool.specs.Replies.{Replies, RepliesTo, RepliesToError};
+ghost use Rattle.tydi_tool.specs.Lines.{refusal_line};
+ghost use Rattle.tydi_tool.specs.declared.answer.Answer.TheVariants as answers;
+ghost use Rattle.tydi_tool.specs.declared.answer.Reply.TheVariants as replies;
+
+use crate::answer::{Answer, Reply};
+use crate::judging::judge_trace;
+use crate::loading::{LoadError, load};
+use crate::refusal::Refusal;
+use crate::telling::{read_fault, refuse};
+use crate::words::{Command, words_of};
+use std::alloc::Global;
+use tydi_base::{Memory, Text};
+use tydi_io::Store;
+
+/// The most bytes of a trace: 64 MiB.
+const TRACE_LIMIT: usize = 67_108_864;
+
+/// What the tool replies to these words.
+pub(crate) fn reply_to<S: Store>(alloc: Global, words: &[Text], store: &mut S) -> Reply
+    requires { Allows (S.allowed store.old) (request_of words.now) }
+    ensures replies { Replies (request_of words.now) (S.files store.old) (S.started store.old) (S.started store.new)
+        (Rose (S.faults store.old) (S.faults store.new)) result }
+{
+    match words_of(words) {
+        None => Reply::Says(Answer::Usage),
+        Some(Command::Check { trace }) => check(alloc, trace, store),
+    }
+}
+
+/// `check TRACE`.
+fn check<S: Store>(alloc: Global, trace: &Text, store: &mut S) -> Reply
+    requires { IsTrue (S.allowed store.old trace.now) }
+    ensures replies { RepliesTo (Check trace.now) (S.files store.old) (S.started store.old) (S.started store.new)
+        (Rose (S.faults store.old) (S.faults store.new)) result }
+{
+    match load(alloc, store, trace, TRACE_LIMIT) {
+        Ok(bytes) => judge_trace(alloc, trace, bytes.as_slice()),
+        Err(error) => reply_to_error(alloc, trace, error),
+    }
+}
+
+/// What is replied where a file was not loaded.
+fn reply_to_error(alloc: Global, word: &Text, error: LoadError) -> Reply
+    ensures { RepliesToError word.now error result }
+{
+    match error {
+        LoadError::NoFile => refused(alloc, Refusal::NoFile, word),
+        LoadError::TooLong => refused(alloc, Refusal::TooLong, word),
+        LoadError::ReadFault => match read_fault(alloc, word) {
+            Ok(line) => Reply::ReadFault(line),
+            Err(Memory) => Reply::Memory,
+        },
+        LoadError::Memory => Reply::Memory,
+    }
+}
+
+/// The line of a refusal, or want of memory for it.
+fn refused(alloc: Global, refusal: Refusal, word: &Text) -> Reply
+    ensures { (result ≡ replies.Says (answers.Refused (refusal_line refusal word.now))) ⊎ (result ≡ replies.Memory) }
+{
+    match refuse(alloc, refusal, word) {
+        Ok(line) => Reply::Says(Answer::Refused(line)),
+        Err(Memory) => Reply::Memory,
+    }
+}
