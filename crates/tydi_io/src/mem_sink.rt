@@ -1,7 +1,6 @@
-ghost use Rattle.std.specs.Prelude.{◌≡◌, ◌+◌, ◌<◌, ◌≤◌, ◌↔◌, [], ◌++◌, Some, length, vec_len, vec_capacity, IsErr, IfOk};
+ghost use Rattle.std.specs.Prelude.{◌≡◌, ◌+◌, ◌<◌, ◌≤◌, ◌↔◌, ◌++◌, Some, length, vec_len, vec_capacity, IsErr, IfOk};
 ghost use Rattle.tydi_io.specs.Faults.{HasCause};
 ghost use Rattle.tydi_io.specs.MemSink.{push_count, PushFails, sink_at_first, sink_after_push};
-ghost use Rattle.tydi_io.specs.Sink.{after_push};
 
 use crate::calls::Calls;
 use crate::failed::Failed;

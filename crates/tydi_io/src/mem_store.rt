@@ -1,7 +1,7 @@
-ghost use Rattle.std.specs.Prelude.{◌≡◌, ◌+◌, ◌^◌, ◌<◌, ◌≤◌, ◌↔◌, List, Bool, true, false, Some, None, length, take, drop, min, IsTrue, IsErr, IsOkAnd, IfOk, IfSome, IfNone, Contains, option_map};
+ghost use Rattle.std.specs.Prelude.{◌≡◌, ◌+◌, ◌^◌, ◌<◌, ◌≤◌, ◌↔◌, true, false, Some, length, take, drop, min, IsErr, IsOkAnd, IfOk, IfSome, IfNone, Contains, option_map};
 ghost use Rattle.std.specs.Option.{option_copied};
 ghost use Rattle.tydi_io.specs.Faults.{HasCause};
-ghost use Rattle.tydi_io.specs.Store.{started_at, left_of, Finds, Pulls};
+ghost use Rattle.tydi_io.specs.Store.{Finds, Pulls};
 ghost use Rattle.tydi_io.specs.MemStore.{file_in, name_at, bytes_at, pull_count, store_at_first, store_after_start, store_after_pull};
 
 use crate::calls::Calls;
