@@ -2,6 +2,7 @@ pub mod Answers
 pub mod Delivery
 pub mod HeaderText
 pub mod Judging
+pub mod Laws
 pub mod Lines
 pub mod Loading
 pub mod Outcome

@@ -5,6 +5,7 @@ mod answer;
 mod commands;
 mod delivery;
 mod judging;
+mod laws;
 mod loading;
 mod refusal;
 mod running;
@@ -15,6 +16,7 @@ mod trace;
 mod words;
 
 pub use answer::{Answer, Reply};
+pub use laws::answers_are_one;
 pub use refusal::Refusal;
 pub use running::run;
 pub use status::Status;
