@@ -10,8 +10,7 @@ pub fn hexadecimal_is_read_as_spelled()
     ensures spelled { (bits : List Bool) → word_at (length bits) (hex_of bits) ≡ Some bits }
     ensures read { (width : ℕ) (digits : List ℕ) (bits : List Bool) → word_at width digits ≡ Some bits
         → (digits ≡ hex_of bits) × (length bits ≡ width) }
-{
-}
+{}
 
 // The value of a digit, 0 to 15.
 #[tactic(auto, unfolding(crate::specs::Hex::digit_of))]
