@@ -1,5 +1,5 @@
 -- Words of bits: the bits of a number, and of the bytes that keep them.
-use Rattle.std.proofs.Common.{subst, inl, inr, ◌≡◌, ◌∙◌, sym, Decides, bytes_eq, ℕ, zero, suc, ◌+◌, ◌-◌, ◌*◌, ◌/◌, ◌%◌, ◌^◌, ◌<◌, ◌≤◌, min, Bool, true, false, eqb, cond, List, [], ◌∷◌, ◌++◌, length, get_or, set, take, drop, replicate, flat_map, refl, ap, arith, rules, length-append, append_assoc}
+use Rattle.std.proofs.Common.{subst, inl, inr, ◌≡◌, ◌∙◌, sym, Decides, bytes_eq, ℕ, zero, suc, ◌+◌, ◌-◌, ◌*◌, ◌/◌, ◌%◌, ◌^◌, ◌<◌, ◌≤◌, min, Bool, true, false, eqb, cond, List, [], ◌∷◌, ◌++◌, length, get_or, set, take, drop, replicate, refl, ap, arith, length-append}
 use Rattle.std.proofs.Math.Nat.{mul_comm, mul_assoc, pow-succ', zero-add, suc-add}
 use Rattle.std.proofs.lemmas.Bool.Decides.{nat_tests}
 use Rattle.std.proofs.lemmas.Slice.Eq.{bytes_eq-Decides, slice_eq-Decides}
@@ -12,7 +12,7 @@ use Rattle.std.proofs.lemmas.Grind.{common_steps, flat_map-append}
 use Rattle.std.proofs.Math.Numerals.{one-add, add-one}
 use Rattle.std.proofs.lemmas.Nat.{shr-shr, shr_below, shr_split, mod_below, mul-add-lt, pow_pos, pow-add}
 use Rattle.std.specs.List.{refill}
-use Rattle.std.proofs.lemmas.List.{set_at, length-set, drop-set-lt, set-append_left, set-append_right, length-take, get_or_append_left, get_or-append_right, get_or-take, append-nil, append_cancel_left, length-replicate, replicate-append-replicate, take-append-drop, take-replicate, drop-replicate, drop_at, take_at}
+use Rattle.std.proofs.lemmas.List.{set_at, length-set, drop-set-lt, set-append_left, set-append_right, length-take, get_or_append_left, get_or-append_right, get_or-take, append-nil, length-replicate, replicate-append-replicate, take-append-drop, take-replicate, drop-replicate, drop_at, take_at}
 use Rattle.tydi_base.specs.Bits.{bits_of, number_of_bits, zero_bits, unpack, IsPacked}
 
 -- ---- the bits of a number
@@ -81,12 +81,12 @@ bits_of-add zero high_count low high below =
     in rw (zero-add, same) refl
 bits_of-add (suc low_count) high_count low high below =
     let scaled : 2 ^ suc low_count * high ≡ 2 * (2 ^ low_count * high) =
-      rw (pow-succ' 2 low_count) (mul_assoc 2 (2 ^ low_count) high)
+    rw (pow-succ' 2 low_count) (mul_assoc 2 (2 ^ low_count) high)
     in let last : (2 ^ suc low_count * high + low) % 2 ≡ low % 2 = omega (arith, scaled)
     in let rest : (2 ^ suc low_count * high + low) / 2 ≡ 2 ^ low_count * high + low / 2 = omega (arith, scaled)
     in let half : low / 2 < 2 ^ low_count = omega (arith, pow-succ' 2 low_count)
     in rw (suc-add, last, rest)
-        (ap (λ (bits : List Bool). eqb (low % 2) 1 ∷ bits) (bits_of-add low_count high_count (low / 2) high half))
+    (ap (λ (bits : List Bool). eqb (low % 2) 1 ∷ bits) (bits_of-add low_count high_count (low / 2) high half))
 
 -- ---- the bits of bytes
 
@@ -132,14 +132,14 @@ unpack_same [] (y ∷ ys) bytes_a bytes_b lengths same = cc
 unpack_same (x ∷ xs) [] bytes_a bytes_b lengths same = cc
 unpack_same (x ∷ xs) (y ∷ ys) bytes_a bytes_b lengths same =
     let whole : bits_of 8 x ++ unpack xs ≡ bits_of 8 y ++ unpack ys =
-        cc (unpack-cons x xs, unpack-cons y ys)
+    cc (unpack-cons x xs, unpack-cons y ys)
     in let front : bits_of 8 x ≡ bits_of 8 y =
-        cc (ap (take 8) whole, take_at (bits_of 8 x) (unpack xs) 8 (length-bits_of 8 x), take_at (bits_of 8 y) (unpack ys) 8 (length-bits_of 8 y))
+    cc (ap (take 8) whole, take_at (bits_of 8 x) (unpack xs) 8 (length-bits_of 8 x), take_at (bits_of 8 y) (unpack ys) 8 (length-bits_of 8 y))
     in let rest : unpack xs ≡ unpack ys =
-        cc (ap (drop 8) whole, drop_at (bits_of 8 x) (unpack xs) 8 (length-bits_of 8 x), drop_at (bits_of 8 y) (unpack ys) 8 (length-bits_of 8 y))
+    cc (ap (drop 8) whole, drop_at (bits_of 8 x) (unpack xs) 8 (length-bits_of 8 x), drop_at (bits_of 8 y) (unpack ys) 8 (length-bits_of 8 y))
     in let head : x ≡ y = bits_of_same 8 x y (bytes_a 0) (bytes_b 0) front
     in let tail : xs ≡ ys =
-        unpack_same xs ys (λ k. bytes_a (suc k)) (λ k. bytes_b (suc k)) (omega arith) rest
+    unpack_same xs ys (λ k. bytes_a (suc k)) (λ k. bytes_b (suc k)) (omega arith) rest
     in cc
 
 -- ---- words in bytes
@@ -162,7 +162,7 @@ pub packed_same : (width : ℕ) (a b : List ℕ)
     → a ≡ b
 packed_same width a b packed_a packed_b bytes_a bytes_b same =
     let lengths : length a ≡ length b =
-        omega (arith, packed_a.room, packed_a.few, packed_b.room, packed_b.few)
+    omega (arith, packed_a.room, packed_a.few, packed_b.room, packed_b.few)
     in let first = packed_whole width a packed_a
     in let second = packed_whole width b packed_b
     in let bits : unpack a ≡ unpack b = cc
@@ -197,8 +197,10 @@ pub packed_decides : (width : ℕ) (a b : List ℕ) (result : Bool)
     → Decides result (take width (unpack a) ≡ take width (unpack b))
 packed_decides width a b result packed_a packed_b bytes_a bytes_b is_result =
     let decides = bytes_eq-Decides a b
-    in ( λ holds. ap (λ bytes. take width (unpack bytes)) (decides.0 (sym is_result ∙ holds)),
-      λ same. is_result ∙ decides.1 (packed_same width a b packed_a packed_b bytes_a bytes_b same) )
+    in (
+      λ holds. ap (λ bytes. take width (unpack bytes)) (decides.0 (sym is_result ∙ holds)),
+      λ same. is_result ∙ decides.1 (packed_same width a b packed_a packed_b bytes_a bytes_b same),
+    )
 
 -- the same, of two words of one width
 pub same_word : (width other_width : ℕ) (a b bytes others : List ℕ) (word other : List Bool) {result : Bool}
@@ -216,9 +218,11 @@ pub same_word : (width other_width : ℕ) (a b bytes others : List ℕ) (word ot
 same_word width other_width a b bytes others word other {result = result} word_is other_is packed_a packed_b are_a are_b fit_a fit_b widths is_result =
     let packed_b : IsPacked width b = rw widths packed_b
     in let told : Decides result (take width (unpack a) ≡ take width (unpack b)) =
-        packed_decides width a b result packed_a packed_b (rw (← are_a) fit_a) (rw (← are_b) fit_b) (rw (← are_a, ← are_b) is_result)
-    in ( λ holds. sym word_is ∙ told.0 holds ∙ rw widths other_is,
-      λ same. told.1 (word_is ∙ same ∙ sym (rw widths other_is)) )
+    packed_decides width a b result packed_a packed_b (rw (← are_a) fit_a) (rw (← are_b) fit_b) (rw (← are_a, ← are_b) is_result)
+    in (
+      λ holds. sym word_is ∙ told.0 holds ∙ rw widths other_is,
+      λ same. told.1 (word_is ∙ same ∙ sym (rw widths other_is)),
+    )
 
 -- words of two widths differ
 pub other_width : (width other_width : ℕ) (a b : List ℕ) (word other : List Bool)
@@ -228,9 +232,10 @@ pub other_width : (width other_width : ℕ) (a b : List ℕ) (word other : List 
     → IsPacked other_width b
     → (width ≡ other_width → ⊥)
     → Decides (eqb width other_width) (word ≡ other)
-other_width width other a b word other_word word_is other_is packed_a packed_b differ =
-    ( λ holds. absurd (differ (eqb-true width other holds)),
-      λ same. absurd (differ (sym (length_packed width a packed_a) ∙ ap length (word_is ∙ same ∙ sym other_is) ∙ length_packed other b packed_b)) )
+other_width width other a b word other_word word_is other_is packed_a packed_b differ = (
+  λ holds. absurd (differ (eqb-true width other holds)),
+  λ same. absurd (differ (sym (length_packed width a packed_a) ∙ ap length (word_is ∙ same ∙ sym other_is) ∙ length_packed other b packed_b)),
+)
 
 -- what decides whether two words are the same is what `==` of their bits answers
 pub compared : (a b : List Bool) {result : Bool} → Decides result (a ≡ b) → result ≡ pointwise beq a b
@@ -255,17 +260,18 @@ pub get_or-unpack : (bytes : List ℕ) (index : ℕ)
 get_or-unpack [] index below = absurd (omega arith)
 get_or-unpack (byte ∷ bytes) index below =
     elim (cases_lt index 8) [
-      inl near ↦
-        let first : index / 8 ≡ 0 = omega arith
-        in let place : index % 8 ≡ index = omega arith
-        in rw (unpack-cons, first, place)
+      | inl near ↦
+          let first : index / 8 ≡ 0 = omega arith
+          in let place : index % 8 ≡ index = omega arith
+          in rw (unpack-cons, first, place)
           (get_or_append_left (bits_of 8 byte) (unpack bytes) false index (rw length-bits_of near) ∙ get_or-bits_of 8 byte index near)
       | inr far ↦
-        let next : index / 8 ≡ suc ((index - 8) / 8) = omega arith
-        in let place : index % 8 ≡ (index - 8) % 8 = omega arith
-        in rw (unpack-cons, next, place)
+          let next : index / 8 ≡ suc ((index - 8) / 8) = omega arith
+          in let place : index % 8 ≡ (index - 8) % 8 = omega arith
+          in rw (unpack-cons, next, place)
           (get_or-append_right (bits_of 8 byte) (unpack bytes) 8 index false (length-bits_of 8 byte) far
-            ∙ get_or-unpack bytes (index - 8) (omega arith)) ]
+          ∙ get_or-unpack bytes (index - 8) (omega arith))
+    ]
 
 -- the same in a word
 pub get_or-packed : (width index : ℕ) (bytes : List ℕ) (word : List Bool)
@@ -307,11 +313,11 @@ unfolding bits_of
 bits_of-written place more from below written bit_value bit small is_value is_written =
     let new_form : written ≡ 2 * (from / 2) + bit_value = omega arith
     in let new_bits : bits_of (suc more) written ≡ bit ∷ bits_of more (from / 2) =
-      rw new_form (bits_of-odd more (from / 2) bit_value bit is_value)
+    rw new_form (bits_of-odd more (from / 2) bit_value bit is_value)
     in bits_of-add place (suc more) below written small
-      ∙ ap (λ (high : List Bool). bits_of place below ++ high) new_bits
-      ∙ sym (set-append_at (bits_of place below) (bits_of more (from / 2)) (eqb (from % 2) 1) bit place (length-bits_of place below))
-      ∙ sym (ap (λ (bits : List Bool). set bits place bit) (bits_of-add place (suc more) below from small))
+    ∙ ap (λ (high : List Bool). bits_of place below ++ high) new_bits
+    ∙ sym (set-append_at (bits_of place below) (bits_of more (from / 2)) (eqb (from % 2) 1) bit place (length-bits_of place below))
+    ∙ sym (ap (λ (bits : List Bool). set bits place bit) (bits_of-add place (suc more) below from small))
 
 pub set-unpack : (bytes : List ℕ) (index byte : ℕ) (bit : Bool)
     → index < 8 * length bytes
@@ -320,20 +326,21 @@ pub set-unpack : (bytes : List ℕ) (index byte : ℕ) (bit : Bool)
 set-unpack [] index byte bit below same = absurd (omega arith)
 set-unpack (first ∷ bytes) index byte bit below same =
     elim (cases_lt index 8) [
-      inl near ↦
-        let quotient : index / 8 ≡ 0 = omega arith
-        in let place : index % 8 ≡ index = omega arith
-        in let same_here : bits_of 8 byte ≡ set (bits_of 8 first) index bit = rw (quotient, place) at same
-        in rw (quotient, unpack-cons byte bytes, unpack-cons first bytes, same_here)
+      | inl near ↦
+          let quotient : index / 8 ≡ 0 = omega arith
+          in let place : index % 8 ≡ index = omega arith
+          in let same_here : bits_of 8 byte ≡ set (bits_of 8 first) index bit = rw (quotient, place) at same
+          in rw (quotient, unpack-cons byte bytes, unpack-cons first bytes, same_here)
           (sym (set-append_left (bits_of 8 first) (unpack bytes) index bit (rw length-bits_of near)))
       | inr far ↦
-        let quotient : index / 8 ≡ suc ((index - 8) / 8) = omega arith
-        in let place : index % 8 ≡ (index - 8) % 8 = omega arith
-        in let same_there : bits_of 8 byte ≡ set (bits_of 8 (get_or bytes ((index - 8) / 8) 0)) ((index - 8) % 8) bit =
+          let quotient : index / 8 ≡ suc ((index - 8) / 8) = omega arith
+          in let place : index % 8 ≡ (index - 8) % 8 = omega arith
+          in let same_there : bits_of 8 byte ≡ set (bits_of 8 (get_or bytes ((index - 8) / 8) 0)) ((index - 8) % 8) bit =
           rw (quotient, place) at same
-        in rw (quotient, unpack-cons first (set bytes ((index - 8) / 8) byte), unpack-cons first bytes)
+          in rw (quotient, unpack-cons first (set bytes ((index - 8) / 8) byte), unpack-cons first bytes)
           (ap (λ (bits : List Bool). bits_of 8 first ++ bits) (set-unpack bytes (index - 8) byte bit (omega arith) same_there)
-            ∙ sym (set-append_right (bits_of 8 first) (unpack bytes) 8 index bit (length-bits_of 8 first) far)) ]
+          ∙ sym (set-append_right (bits_of 8 first) (unpack bytes) 8 index bit (length-bits_of 8 first) far))
+    ]
 
 whole_byte : (place : ℕ) → place < 8 → place + suc (7 - place) ≡ 8
 whole_byte place within = omega arith
@@ -361,7 +368,7 @@ written_byte : (place byte from below written bit_value number : ℕ) (bit : Boo
 written_byte place byte from below written bit_value number bit eight old new small is_value is_written =
     let told = bits_of-written place (7 - place) from below written bit_value bit small is_value is_written
     in let told8 : bits_of 8 (2 ^ place * written + below) ≡ set (bits_of 8 (2 ^ place * from + below)) place bit =
-      subst (λ (count : ℕ). bits_of count (2 ^ place * written + below) ≡ set (bits_of count (2 ^ place * from + below)) place bit) eight told
+    subst (λ (count : ℕ). bits_of count (2 ^ place * written + below) ≡ set (bits_of count (2 ^ place * from + below)) place bit) eight told
     in rw (old, new) told8
 
 take_set : (width index : ℕ) (bits : List Bool) (bit : Bool) → take width (set bits index bit) ≡ set (take width bits) index bit
@@ -394,8 +401,8 @@ pub with_bit_fits : (byte place bit_value : ℕ) (bit : Bool)
     → place < 8
     → bit_value ≡ cond bit 1 0
     → (byte / 2 ^ place - byte / 2 ^ place % 2 + bit_value) * 2 ^ place % 256
-        + (byte - byte / 2 ^ place * 2 ^ place % 256)
-      < 256
+    + (byte - byte / 2 ^ place * 2 ^ place % 256)
+    < 256
 with_bit_fits byte place bit_value bit fits within is_value =
     let small : bit_value ≤ 1 = rw is_value (cond_le_one bit)
     in let all = written_fits byte place bit_value fits within small
@@ -408,19 +415,19 @@ pub bits_of-with_bit : (byte place bit_value : ℕ) (bit : Bool)
     → place < 8
     → bit_value ≡ cond bit 1 0
     → bits_of 8
-        ((byte / 2 ^ place - byte / 2 ^ place % 2 + bit_value) * 2 ^ place % 256
-          + (byte - byte / 2 ^ place * 2 ^ place % 256))
-      ≡ set (bits_of 8 byte) place bit
+    ((byte / 2 ^ place - byte / 2 ^ place % 2 + bit_value) * 2 ^ place % 256
+    + (byte - byte / 2 ^ place * 2 ^ place % 256))
+    ≡ set (bits_of 8 byte) place bit
 bits_of-with_bit byte place bit_value bit fits within is_value =
     let small : bit_value ≤ 1 = rw is_value (cond_le_one bit)
     in let all = written_fits byte place bit_value fits within small
     in let split : byte / 2 ^ place * 2 ^ place + byte % 2 ^ place ≡ byte = shr_split byte place
     in let old : byte ≡ 2 ^ place * (byte / 2 ^ place) + byte % 2 ^ place = omega (arith, mul_comm (2 ^ place) (byte / 2 ^ place))
     in let new : (byte / 2 ^ place - byte / 2 ^ place % 2 + bit_value) * 2 ^ place % 256 + (byte - byte / 2 ^ place * 2 ^ place % 256)
-        ≡ 2 ^ place * (byte / 2 ^ place - byte / 2 ^ place % 2 + bit_value) + byte % 2 ^ place =
-      parts_sum _ _ _ _ _ (mul_comm (2 ^ place) (byte / 2 ^ place - byte / 2 ^ place % 2 + bit_value)) split fits all
+    ≡ 2 ^ place * (byte / 2 ^ place - byte / 2 ^ place % 2 + bit_value) + byte % 2 ^ place =
+    parts_sum _ _ _ _ _ (mul_comm (2 ^ place) (byte / 2 ^ place - byte / 2 ^ place % 2 + bit_value)) split fits all
     in written_byte place byte (byte / 2 ^ place) (byte % 2 ^ place) _ bit_value _ bit (whole_byte place within) old new
-        (mod_below byte (2 ^ place) (pow_pos place)) is_value refl
+    (mod_below byte (2 ^ place) (pow_pos place)) is_value refl
 
 -- ---- a bit of a word written
 
@@ -459,4 +466,4 @@ pub put_view : (width index : ℕ) (old new : List ℕ) (word : List Bool) (bit 
 put_view width index old new word bit packed word_is below written =
     let same : length new ≡ length old = length-put old new index bit written
     in rw (refill_whole old new same, written)
-        (take_set width index (unpack old) bit ∙ ap (λ (bits : List Bool). set bits index bit) word_is)
+    (take_set width index (unpack old) bit ∙ ap (λ (bits : List Bool). set bits index bit) word_is)

@@ -1,13 +1,12 @@
 -- Words of bits in hexadecimal: what is spelled is read, and what is read is spelled so.
-use Rattle.std.proofs.Common.{◌≡◌, ◌∙◌, sym, ℕ, zero, suc, ◌+◌, ◌-◌, ◌*◌, ◌/◌, ◌%◌, ◌^◌, ◌<◌, ◌≤◌, min, Bool, true, false, not, ◌&&◌, eqb, ltb, leb, cond, if◌then◌else◌, List, [], ◌∷◌, ◌++◌, length, get_or, take, drop, replicate, Option, Some, None, option_map, option_and_then, refl, ap, arith, rules, length-append, append_assoc}
-use Rattle.std.proofs.lemmas.Bool.{eqb-true, eq-eqb, ne_eqb, ltb-true, ltb-false, leb-true, leb-false, lt-ltb, le-ltb, le-leb, lt-leb}
+use Rattle.std.proofs.Common.{◌≡◌, ◌∙◌, sym, ℕ, zero, suc, ◌+◌, ◌-◌, ◌*◌, ◌/◌, ◌%◌, ◌^◌, ◌<◌, ◌≤◌, Bool, true, false, not, ◌&&◌, eqb, if◌then◌else◌, List, [], ◌∷◌, ◌++◌, length, get_or, take, drop, Option, Some, None, option_map, option_and_then, refl, ap, arith, length-append, append_assoc}
+use Rattle.std.proofs.lemmas.Bool.{eqb-true, eq-eqb, ne_eqb}
 use Rattle.std.proofs.lemmas.Bool.Decides.{nat_tests}
 use Rattle.std.proofs.Math.Nat.{pow-le-pow_right, pow-succ', zero-add, suc-add, le_refl}
 use Rattle.std.proofs.Math.Numerals.{one-add}
 use Rattle.std.proofs.lemmas.Nat.{shr-shr, shr_below}
-use Rattle.std.proofs.lemmas.Grind.{common_steps}
 use Rattle.std.proofs.lemmas.Option.{cond_some}
-use Rattle.std.proofs.lemmas.List.{drop-drop, drop-append-le, take-append-le, drop_more, drop_all, length-take, length-drop, append-nil, length-replicate, replicate-append-replicate, take-append-drop, length_push, drop_at, take_at}
+use Rattle.std.proofs.lemmas.List.{drop-drop, drop-append-le, take-append-le, drop_more, drop_all, length-take, length-drop, append-nil, take-append-drop, drop_at, take_at}
 use Rattle.tydi_base.specs.Bits.{bits_of, number_of_bits, zero_bits, unpack, IsPacked}
 use Rattle.tydi_base.specs.Hex.{byte_of_digits, whole_bytes, hex_digit, digit_of, hex_of, digits_for, bits_of_digits, no_ones, fitted, word_at}
 use Rattle.tydi_base.proofs.BitsLemmas.{bits_of-add, unpack-push, unpack-nil, length-unpack, length-bits_of, bits_of-zero, number_of_bits-bits_of, bits_of-number_of_bits, number_of_bits-below}
@@ -95,12 +94,12 @@ bits_of_digits-push : (digits : List ℕ) (digit value : ℕ) (high : List Bool)
 bits_of_digits-push [] digit value high is_value are_high =
     let none : [] ≡ high = cc (bits_of_digits-nil)
     in bits_of_digits-cons digit value [] [] bits_of_digits-nil is_value
-      ∙ ap (λ (rest : List Bool). Some rest) (sym (append-nil (bits_of 4 value)) ∙ ap (λ (rest : List Bool). bits_of 4 value ++ rest) none)
+    ∙ ap (λ (rest : List Bool). Some rest) (sym (append-nil (bits_of 4 value)) ∙ ap (λ (rest : List Bool). bits_of 4 value ++ rest) none)
 bits_of_digits-push (top ∷ digits) digit value high is_value are_high =
     let p = parts top digits high are_high
     in let rest = bits_of_digits-push digits digit value p.low is_value p.low_is
     in bits_of_digits-cons top p.value (digits ++ digit ∷ []) (bits_of 4 value ++ p.low) rest p.value_is
-      ∙ ap (λ (bits : List Bool). Some bits) (append_assoc (bits_of 4 value) p.low (bits_of 4 p.value) ∙ ap (λ (bits : List Bool). bits_of 4 value ++ bits) (sym p.bits_are))
+    ∙ ap (λ (bits : List Bool). Some bits) (append_assoc (bits_of 4 value) p.low (bits_of 4 p.value) ∙ ap (λ (bits : List Bool). bits_of 4 value ++ bits) (sym p.bits_are))
 
 -- ---- what is spelled is read
 
@@ -116,8 +115,8 @@ nibble_digit nibble pad four digits high are_high =
     in let below : number_of_bits nibble < 16 = omega (arith, number_of_bits-below nibble, at_most)
     in let bits : bits_of 4 (number_of_bits nibble) ≡ nibble ++ zero_bits pad = rw (← four) (bits_of-number_of_bits nibble pad)
     in bits_of_digits-push digits (hex_digit (number_of_bits nibble)) (number_of_bits nibble) high
-        (digit_of-hex_digit (number_of_bits nibble) below) are_high
-      ∙ ap (λ (low : List Bool). Some (low ++ high)) bits
+    (digit_of-hex_digit (number_of_bits nibble) below) are_high
+    ∙ ap (λ (low : List Bool). Some (low ++ high)) bits
 
 -- digits spell these bits and zeros above them
 record Spells (digits : List ℕ) (bits : List Bool) : Type 0 where
@@ -189,9 +188,11 @@ hex_of-digits (digit ∷ digits) bits is_bits =
     in let nibble = hex_of-nibble p.value first.1
     in let joined = hex_of-append p.low (length digits) (bits_of 4 p.value) rest.0
     in let many : length bits ≡ 4 * length (digit ∷ digits) =
-      rw (p.bits_are, length-append, length-bits_of) (omega (arith, rest.0))
-    in ( many,
-      ap hex_of p.bits_are ∙ joined ∙ rw (nibble, rest.1, first.0) refl )
+    rw (p.bits_are, length-append, length-bits_of) (omega (arith, rest.0))
+    in (
+      many,
+      ap hex_of p.bits_are ∙ joined ∙ rw (nibble, rest.1, first.0) refl,
+    )
 
 -- zeros above a word, less than a digit of them, are not spelled
 hex_of-padded : (bits : List Bool) (pad count : ℕ)
@@ -224,7 +225,7 @@ read_parts width digits word false bits many_is bits_are read = cc
 read_parts width digits word true None many_is bits_are read = cc
 read_parts width digits word true (Some bits) many_is bits_are read =
     let told : (no_ones (drop width bits) ≡ true) × (take width bits ≡ word) =
-      cond_some (no_ones (drop width bits)) (take width bits) word read
+    cond_some (no_ones (drop width bits)) (take width bits) word read
     in record {
       bits = bits;
       many = eqb-true _ _ many_is;
@@ -247,15 +248,17 @@ hex_of-word_at width digits word is_word =
     let r = word_at_read width digits word is_word
     in let whole = hex_of-digits digits r.bits r.bits_are
     in let long : length word ≡ width =
-      rw (← r.word_is, length-take) (omega (arith, whole.0, r.many))
+    rw (← r.word_is, length-take) (omega (arith, whole.0, r.many))
     in let pad_is : length (drop width r.bits) ≡ length r.bits - width = length-drop width r.bits
     in let few : length (drop width r.bits) < 4 = omega (arith, whole.0, r.many, pad_is)
     in let total : length word + length (drop width r.bits) ≡ 4 * length digits = omega (arith, whole.0, r.many, pad_is, long)
     in let bits : r.bits ≡ word ++ zero_bits (length (drop width r.bits)) =
-      sym (take-append-drop width r.bits)
-      ∙ rw r.word_is (ap (λ (rest : List Bool). word ++ rest) (zeros_from_no_ones (drop width r.bits) r.high))
-    in ( sym whole.1 ∙ ap hex_of bits ∙ hex_of-padded word _ (length digits) few total,
-      long )
+    sym (take-append-drop width r.bits)
+    ∙ rw r.word_is (ap (λ (rest : List Bool). word ++ rest) (zeros_from_no_ones (drop width r.bits) r.high))
+    in (
+      sym whole.1 ∙ ap hex_of bits ∙ hex_of-padded word _ (length digits) few total,
+      long,
+    )
 
 -- ---- packed bytes
 
@@ -298,7 +301,7 @@ bits_of_digits-pair high low byte digits bits are_bits is_byte =
     in let first = bits_of_digits-cons low p.below digits bits are_bits p.below_is
     in let second = bits_of_digits-cons high p.above (low ∷ digits) (bits ++ bits_of 4 p.below) first p.above_is
     in let whole : bits_of 8 byte ≡ bits_of 4 p.below ++ bits_of 4 p.above =
-      ap (bits_of 8) p.byte_is ∙ bits_of-pair p.above p.below small.1
+    ap (bits_of 8) p.byte_is ∙ bits_of-pair p.above p.below small.1
     in second ∙ ap (λ (all : List Bool). Some all) (append_assoc bits (bits_of 4 p.below) (bits_of 4 p.above) ∙ ap (λ (byte : List Bool). bits ++ byte) (sym whole))
 
 -- one byte more, from the two digits before
@@ -311,10 +314,10 @@ pub packed_more : (digits bytes : List ℕ) (at next byte : ℕ)
 packed_more digits bytes at next byte is_next within are_bits is_byte =
     let first : drop at digits ≡ get_or digits at 0 ∷ drop (at + 1) digits = drop_more digits at 0 (omega arith)
     in let second : drop (at + 1) digits ≡ get_or digits (at + 1) 0 ∷ drop ((at + 1) + 1) digits =
-      drop_more digits (at + 1) 0 (omega arith)
+    drop_more digits (at + 1) 0 (omega arith)
     in let place : (at + 1) + 1 ≡ next = omega arith
     in let rest : drop at digits ≡ get_or digits at 0 ∷ get_or digits (at + 1) 0 ∷ drop next digits =
-      first ∙ ap (λ (tail : List ℕ). get_or digits at 0 ∷ tail) (second ∙ rw place refl)
+    first ∙ ap (λ (tail : List ℕ). get_or digits at 0 ∷ tail) (second ∙ rw place refl)
     in rw (rest, unpack-push) (bits_of_digits-pair _ _ byte (drop next digits) (unpack bytes) are_bits is_byte)
 
 bits_of_digits-below : (digits : List ℕ) (digit : ℕ) → bits_of_digits digits ≡ None → bits_of_digits (digit ∷ digits) ≡ None
@@ -330,8 +333,8 @@ none_from_end (digit ∷ digits) (suc at) none = bits_of_digits-below digits dig
 no_pair_by : (high low : ℕ) (digits : List ℕ) (bits : Option (List Bool)) (above below : Option ℕ)
     → option_and_then (λ (below : ℕ). option_map (λ (above : ℕ). 16 * above + below) above) below ≡ None
     → option_and_then (λ (low : List Bool). option_map (λ (value : ℕ). low ++ bits_of 4 value) above)
-        (option_and_then (λ (low : List Bool). option_map (λ (value : ℕ). low ++ bits_of 4 value) below) bits)
-      ≡ None
+    (option_and_then (λ (low : List Bool). option_map (λ (value : ℕ). low ++ bits_of 4 value) below) bits)
+    ≡ None
 no_pair_by high low digits None above below none = refl
 no_pair_by high low digits (Some bits) above None none = refl
 no_pair_by high low digits (Some bits) None (Some below) none = refl
@@ -352,9 +355,9 @@ pub none_from_pair : (digits : List ℕ) (at : ℕ)
 none_from_pair digits at within none =
     let first : drop at digits ≡ get_or digits at 0 ∷ drop (at + 1) digits = drop_more digits at 0 (omega arith)
     in let second : drop (at + 1) digits ≡ get_or digits (at + 1) 0 ∷ drop ((at + 1) + 1) digits =
-      drop_more digits (at + 1) 0 (omega arith)
+    drop_more digits (at + 1) 0 (omega arith)
     in let rest : drop at digits ≡ get_or digits at 0 ∷ get_or digits (at + 1) 0 ∷ drop ((at + 1) + 1) digits =
-      first ∙ ap (λ (tail : List ℕ). get_or digits at 0 ∷ tail) second
+    first ∙ ap (λ (tail : List ℕ). get_or digits at 0 ∷ tail) second
     in none_from_end digits at (rw rest (no_pair _ _ (drop ((at + 1) + 1) digits) none))
 
 no_digit : (digit : ℕ) (digits : List ℕ) (bits : Option (List Bool))
@@ -396,9 +399,9 @@ whole_odd (digit ∷ digits) bytes at value first lengths are_bits is_value =
     in let all = bits_of_digits-cons digit value digits (unpack bytes) rest is_value
     in let small = hex_digit-digit_of digit value is_value
     in let byte : bits_of 8 value ≡ bits_of 4 value ++ zero_bits 4 =
-      ap (bits_of 8) (sym (zero-add value)) ∙ bits_of-add 4 4 value 0 small.1 ∙ ap (λ (high : List Bool). bits_of 4 value ++ high) (bits_of-zero 4)
+    ap (bits_of 8) (sym (zero-add value)) ∙ bits_of-add 4 4 value 0 small.1 ∙ ap (λ (high : List Bool). bits_of 4 value ++ high) (bits_of-zero 4)
     in rw (all, odd, unpack-push, byte)
-        (ap (λ (bits : List Bool). Some bits) (append_assoc (unpack bytes) (bits_of 4 value) (zero_bits 4)))
+    (ap (λ (bits : List Bool). Some bits) (append_assoc (unpack bytes) (bits_of 4 value) (zero_bits 4)))
 
 pub none_packed : (digits bytes : List ℕ) → bytes ≡ [] → bits_of_digits (drop (length digits) digits) ≡ Some (unpack bytes)
 none_packed digits bytes none =
@@ -430,21 +433,21 @@ drop-unpack_last : (width : ℕ) (bytes : List ℕ)
     → drop width (unpack bytes) ≡ bits_of (8 - width % 8) (get_or bytes (width / 8) 0 / 2 ^ (width % 8))
 drop-unpack_last width bytes some many =
     let rest : drop (width / 8) bytes ≡ get_or bytes (width / 8) 0 ∷ [] =
-      drop_more bytes (width / 8) 0 (omega arith)
-      ∙ ap (λ (tail : List ℕ). get_or bytes (width / 8) 0 ∷ tail) (drop_all (width / 8 + 1) bytes (omega arith))
+    drop_more bytes (width / 8) 0 (omega arith)
+    ∙ ap (λ (tail : List ℕ). get_or bytes (width / 8) 0 ∷ tail) (drop_all (width / 8 + 1) bytes (omega arith))
     in let whole : unpack bytes ≡ unpack (take (width / 8) bytes) ++ bits_of 8 (get_or bytes (width / 8) 0) =
-      ap unpack (sym (take-append-drop (width / 8) bytes) ∙ ap (λ (tail : List ℕ). take (width / 8) bytes ++ tail) rest)
-      ∙ unpack-push (take (width / 8) bytes) (get_or bytes (width / 8) 0)
+    ap unpack (sym (take-append-drop (width / 8) bytes) ∙ ap (λ (tail : List ℕ). take (width / 8) bytes ++ tail) rest)
+    ∙ unpack-push (take (width / 8) bytes) (get_or bytes (width / 8) 0)
     in let front_length : length (unpack (take (width / 8) bytes)) ≡ 8 * (width / 8) =
-      rw (length-unpack, length-take) (omega arith)
+    rw (length-unpack, length-take) (omega arith)
     in let place : width ≡ 8 * (width / 8) + width % 8 = omega arith
     in let parts : 8 ≡ width % 8 + (8 - width % 8) = omega arith
     in ap (λ (at : ℕ). drop at (unpack bytes)) place
-      ∙ sym (drop-drop (width % 8) (8 * (width / 8)) (unpack bytes))
-      ∙ ap (λ (bits : List Bool). drop (width % 8) (drop (8 * (width / 8)) bits)) whole
-      ∙ ap (drop (width % 8)) (drop_at (unpack (take (width / 8) bytes)) (bits_of 8 (get_or bytes (width / 8) 0)) (8 * (width / 8)) front_length)
-      ∙ ap (λ (count : ℕ). drop (width % 8) (bits_of count (get_or bytes (width / 8) 0))) parts
-      ∙ drop-bits_of (width % 8) (8 - width % 8) (get_or bytes (width / 8) 0)
+    ∙ sym (drop-drop (width % 8) (8 * (width / 8)) (unpack bytes))
+    ∙ ap (λ (bits : List Bool). drop (width % 8) (drop (8 * (width / 8)) bits)) whole
+    ∙ ap (drop (width % 8)) (drop_at (unpack (take (width / 8) bytes)) (bits_of 8 (get_or bytes (width / 8) 0)) (8 * (width / 8)) front_length)
+    ∙ ap (λ (count : ℕ). drop (width % 8) (bits_of count (get_or bytes (width / 8) 0))) parts
+    ∙ drop-bits_of (width % 8) (8 - width % 8) (get_or bytes (width / 8) 0)
 
 pub no_ones-last : (width : ℕ) (bytes : List ℕ)
     → 0 < width % 8
@@ -455,8 +458,8 @@ no_ones-last width bytes some many below =
     let parts : 8 - width % 8 + width % 8 ≡ 8 = omega arith
     in let byte : get_or bytes (width / 8) 0 < 2 ^ (8 - width % 8 + width % 8) = rw parts below
     in rw (drop-unpack_last width bytes some many)
-        (no_ones-bits_of (8 - width % 8) (get_or bytes (width / 8) 0 / 2 ^ (width % 8))
-          (shr_below (get_or bytes (width / 8) 0) (8 - width % 8) (width % 8) byte))
+    (no_ones-bits_of (8 - width % 8) (get_or bytes (width / 8) 0 / 2 ^ (width % 8))
+    (shr_below (get_or bytes (width / 8) 0) (8 - width % 8) (width % 8) byte))
 
 pub no_ones-full : (width : ℕ) (bytes : List ℕ)
     → width % 8 ≡ 0
@@ -477,8 +480,8 @@ packed_fitted width bytes many none =
       room = omega arith;
       few = omega arith;
       zeros =
-        zeros_from_no_ones (drop width (unpack bytes)) none
-        ∙ ap zero_bits (length-drop width (unpack bytes) ∙ ap (λ (count : ℕ). count - width) (length-unpack bytes));
+          zeros_from_no_ones (drop width (unpack bytes)) none
+          ∙ ap zero_bits (length-drop width (unpack bytes) ∙ ap (λ (count : ℕ). count - width) (length-unpack bytes));
     }
 
 pub fitted-some : (width : ℕ) (bits : List Bool) → no_ones (drop width bits) ≡ true → fitted width bits ≡ Some (take width bits)

@@ -1,4 +1,4 @@
--- Words of bits, lowest bit first (Tydi specification, bits and bit oriented data). How bytes keep them is this project's own.
+-- Words of bits, lowest bit first (Tydi specification). How bytes keep them is this project's own.
 use Rattle.std.specs.Prelude.{◌≡◌, ℕ, zero, suc, ◌+◌, ◌-◌, ◌*◌, ◌/◌, ◌%◌, ◌<◌, ◌≤◌, Bool, false, eqb, cond, List, [], ◌∷◌, length, drop, replicate, flat_map}
 
 -- so many bits of a number, lowest first

@@ -44,7 +44,11 @@ impl Bits {
 
     /// The word of this width that these hexadecimal digits spell, the highest first. None exactly where they are not as many
     /// as spell such a word, one of them is no digit, or a one stands at or above the width.
-    pub fn from_hexadecimal(alloc: Global, width: usize, digits: &[u8]) -> Result<Option<Bits>, Memory>
+    pub fn from_hexadecimal(
+        alloc: Global,
+        width: usize,
+        digits: &[u8],
+    ) -> Result<Option<Bits>, Memory>
         ensures { IfOk result (λ read. read ≡ word_at width digits.now) }
     {
         if digits.len() != width.div_ceil(4) {

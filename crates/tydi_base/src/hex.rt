@@ -10,19 +10,21 @@ pub fn hexadecimal_is_read_as_spelled()
     ensures spelled { (bits : List Bool) → word_at (length bits) (hex_of bits) ≡ Some bits }
     ensures read { (width : ℕ) (digits : List ℕ) (bits : List Bool) → word_at width digits ≡ Some bits
         → (digits ≡ hex_of bits) × (length bits ≡ width) }
-{
-}
+{}
 
-// The value of a digit, 0 to 15.
+// The value of a digit, 0 to 15. It branches on nothing but whether the byte is a digit, since that is foreseen and which
+// digit it is is not.
 #[tactic(auto, unfolding(crate::specs::Hex::digit_of))]
 fn digit_value(byte: u8) -> Option<u8>
     ensures value { result ≡ digit_of byte }
     ensures below { IfSome result (λ value. value < 16) }
 {
-    match byte {
-        b'0'..=b'9' => Some(byte - b'0'),
-        b'a'..=b'f' => Some(byte - b'a' + 10),
-        _ => None,
+    let letter = (byte >= b'a') as u8;
+    let value = byte.wrapping_sub(b'0' + 39 * letter);
+    if value < 10 + 6 * letter {
+        Some(value)
+    } else {
+        None
     }
 }
 

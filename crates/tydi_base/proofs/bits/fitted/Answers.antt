@@ -1,4 +1,4 @@
-use Rattle.std.proofs.Common.{◌≡◌, not, true, false, drop, ap, sym}
+use Rattle.std.proofs.Common.{◌≡◌, true, false, drop, sym}
 use Rattle.std.proofs.lemmas.Bool.{not-true, not-false}
 use Rattle.tydi_base.specs.Bits.{unpack}
 use Rattle.tydi_base.specs.Hex.{no_ones}
@@ -15,7 +15,7 @@ invariant_of-result c = packed_fitted c.args.width c.args.bytes.items c.requires
 pub returns-then-has_ones_from : goal.returns-then-has_ones_from
 returns-then-has_ones_from c =
     let some : no_ones (drop c.args.width (unpack c.args.bytes.items)) ≡ false =
-      rw (← c.as_slice.ensures) (not-true _ (sym c.if-has_ones_from.ensures))
+    rw (← c.as_slice.ensures) (not-true _ (sym c.if-has_ones_from.ensures))
     in sym (fitted-none c.args.width (unpack c.args.bytes.items) some)
 
 pub returns-else-has_ones_from : goal.returns-else-has_ones_from

@@ -1,4 +1,4 @@
-use Rattle.std.proofs.Common.{◌≡◌, ◌≤◌, Bool, true, false, cond, arith, refl}
+use Rattle.std.proofs.Common.{◌≡◌, Bool, true, false, cond, arith, refl}
 use Rattle.tydi_base.proofs.BitsLemmas.{bits_of-with_bit, with_bit_fits}
 use mir.Val.{bool_byte}
 use Rattle.tydi_base.proofs.bits.with_bit.Goals as goal
@@ -15,4 +15,4 @@ overflow_add-result c =
 pub returns : goal.returns
 returns c =
     bits_of-with_bit c.args.byte c.args.place (bool_byte c.args.bit) c.args.bit (omega arith) c.requires
-        (bool_byte_is c.args.bit)
+    (bool_byte_is c.args.bit)

@@ -1,4 +1,4 @@
-use Rattle.std.proofs.Common.{◌≡◌, ◌∙◌, ◌+◌, ◌/◌, length, arith, sym}
+use Rattle.std.proofs.Common.{◌∙◌, arith, sym}
 use Rattle.tydi_base.proofs.HexLemmas.{fitted-word_at, word_at-length, word_at-none}
 use Rattle.tydi_base.proofs.bits.Bits.from_hexadecimal.Goals as goal
 

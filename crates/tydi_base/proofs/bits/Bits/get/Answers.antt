@@ -5,7 +5,7 @@ use Rattle.tydi_base.proofs.bits.Bits.get.Goals as goal
 pub bit_at-requires : goal.bit_at-requires
 bit_at-requires c =
     let width : length c.args.self.now ≡ c.self.inside.len =
-      ap length (sym c.self.view_is) ∙ length_packed c.self.inside.len c.self.inside.bytes.items c.self.invariant
+    ap length (sym c.self.view_is) ∙ length_packed c.self.inside.len c.self.inside.bytes.items c.self.invariant
     in let bytes : length c.as_slice.result.now ≡ length c.self.inside.bytes.items = ap length c.as_slice.ensures
     in omega (arith, c.self.invariant.room, c.requires)
 

@@ -1,4 +1,4 @@
-use Rattle.std.proofs.Common.{◌≡◌, length, sym}
+use Rattle.std.proofs.Common.{sym}
 use Rattle.tydi_base.proofs.BitsLemmas.{length_packed}
 use Rattle.tydi_base.proofs.bits.Bits.len.Goals as goal
 

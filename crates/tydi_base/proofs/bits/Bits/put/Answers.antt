@@ -10,9 +10,9 @@ written c = rw (← c.as_mut_slice.ensures.value) c.put_at.ensures
 pub invariant_of-self : goal.invariant_of-self
 invariant_of-self c =
     put_packed c.self.inside.len c.args.index c.self.inside.bytes.items c.put_at.new.bytes c.args.self.now c.args.bit
-        c.self.invariant c.self.view_is c.requires (written (goal.at.invariant_of-self c).After-put_at)
+    c.self.invariant c.self.view_is c.requires (written (goal.at.invariant_of-self c).After-put_at)
 
 pub returns : goal.returns
 returns c =
     put_view c.self.inside.len c.args.index c.self.inside.bytes.items c.put_at.new.bytes c.args.self.now c.args.bit
-        c.self.invariant c.self.view_is c.requires (written (goal.at.returns c).After-put_at)
+    c.self.invariant c.self.view_is c.requires (written (goal.at.returns c).After-put_at)

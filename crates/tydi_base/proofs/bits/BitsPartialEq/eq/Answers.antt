@@ -8,13 +8,13 @@ same_width c =
     let fit : (k : ℕ) → get_or c.as_slice-bytes.result.now k 0 < 256 = search rules
     in let others_fit : (k : ℕ) → get_or c.as_slice-others.result.now k 0 < 256 = search rules
     in same_word c.self.inside.len c.other.inside.len _ _ _ _ _ _ c.self.view_is c.other.view_is c.self.invariant
-        c.other.invariant c.as_slice-bytes.ensures c.as_slice-others.ensures fit others_fit c.if-self-other.true c.eq.ensures
+    c.other.invariant c.as_slice-bytes.ensures c.as_slice-others.ensures fit others_fit c.if-self-other.true c.eq.ensures
 
 two_widths : (c : Else-self-other)
     → Decides (eqb c.self.inside.len c.other.inside.len) (c.args.self.now ≡ c.args.other.now)
 two_widths c =
     other_width c.self.inside.len c.other.inside.len _ _ _ _ c.self.view_is c.other.view_is c.self.invariant
-        c.other.invariant c.if-self-other.false
+    c.other.invariant c.if-self-other.false
 
 pub returns-then-self-other : goal.returns-then-self-other
 returns-then-self-other c = record { eq = compared _ _ (same_width c); same = same_width c }
