@@ -3,4 +3,3 @@ pub mod DeliveryLemmas
 pub mod LoadingLemmas
 pub mod ReplyLemmas
 pub mod RunLemmas
-pub mod WordLemmas
