@@ -5,5 +5,6 @@ pub mod Loading
 pub mod Outcome
 pub mod RowText
 pub mod Survey
+pub mod Surveying
 pub mod Trace
 pub mod Words
