@@ -7,6 +7,7 @@ mod loading;
 mod refusal;
 mod status;
 mod surveying;
+mod telling;
 mod trace;
 mod words;
 
