@@ -1,6 +1,5 @@
 -- The survey of a plain stream: its first broken cycle, its counts, and what they say of all rules.
-use Rattle.std.proofs.Common.{◌≡◌, ◌∙◌, ◌+◌, ◌-◌, ◌<◌, ◌≤◌, ◌⊎◌, inl, inr, ℕ, zero, suc, Bool, true, false, IsTrue, ◌↔◌, ◌==◌, ◌&&◌, ◌||◌, cond, if◌then◌else◌, List, [], ◌∷◌, ◌++◌, length, get_or, take, map, Option, None, Some, is_some, Bor, slice_get, count_by, refl, sym, ap, subst, arith, length-take}
-use Rattle.std.specs.List.{flat_map, sum_by}
+use Rattle.std.proofs.Common.{◌≡◌, ◌∙◌, ◌+◌, ◌<◌, ◌≤◌, inl, inr, ℕ, zero, suc, Bool, true, false, IsTrue, ◌==◌, ◌&&◌, ◌||◌, cond, if◌then◌else◌, List, [], ◌∷◌, length, get_or, take, Option, None, Some, is_some, Bor, slice_get, count_by, refl, sym, ap, subst, arith, length-take}
 use Rattle.std.specs.Option.{option_copied}
 use Rattle.std.proofs.lemmas.Bool.{cases_lt}
 use Rattle.std.proofs.lemmas.Grind.{flat_map-append}
@@ -19,7 +18,6 @@ use Rattle.physical_stream.specs.First.{Offence, Offends, IsFirst, IsNotAfter}
 use Rattle.physical_stream.specs.Rules.{number_of_rule}
 use Rattle.physical_stream.specs.declared.end.End.{End}
 use Rattle.physical_stream.specs.declared.end.End.TheVariants as ends
-use Rattle.physical_stream.specs.declared.item.Item.{Item}
 use Rattle.physical_stream.specs.declared.item.Item.TheVariants as items
 use Rattle.physical_stream.specs.declared.item.Tail.{Tail}
 use Rattle.physical_stream.specs.declared.item.Tail.TheVariants as tails
@@ -27,7 +25,7 @@ use Rattle.physical_stream.specs.declared.rule.Rule.{Rule}
 use Rattle.physical_stream.specs.declared.rule.Rule.TheVariants.{Hold}
 use Rattle.physical_stream.specs.declared.transfer.Transfer.{Transfer}
 use Rattle.physical_stream.proofs.PlainLemmas.{plain_items, plain_breaks_hold}
-use Rattle.tydi_tool.specs.Survey.{Surveys, survey_of, survey_of_end}
+use Rattle.tydi_tool.specs.Survey.{Surveys, survey_of_end}
 use Rattle.tydi_tool.specs.Surveying.{BreaksHoldAt, IsFirstBroken, is_done, is_packet, carries_element}
 use Rattle.tydi_tool.specs.Trace.{cycle_of, cycles_of, is_plain}
 use Rattle.tydi_tool.specs.declared.surveying.Survey.{Survey}

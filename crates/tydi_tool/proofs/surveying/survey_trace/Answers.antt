@@ -1,4 +1,4 @@
-use Rattle.std.proofs.Common.{◌≡◌, ◌∙◌, sym}
+use Rattle.std.proofs.Common.{◌∙◌, sym}
 use Rattle.tydi_tool.specs.Trace.{cycles_of}
 use Rattle.tydi_tool.proofs.SurveyLemmas.{Surveys-offence, Surveys-pending, Surveys-legal, Surveys-read}
 use Rattle.tydi_tool.proofs.surveying.survey_trace.Goals as goal
