@@ -4,7 +4,7 @@ use tydi_base::Bits;
 
 /// The payload of one transfer: every signal of a stream but valid and ready (Tydi specification, physical streams).
 /// A signal that the stream lacks stands at its default.
-#[derive(Debug, Drop)]
+#[derive(Debug, PartialEq, Eq, Drop)]
 pub struct Transfer {
     /// The data signal: the lanes' elements, lane 0 lowest.
     pub content: Bits,
@@ -17,4 +17,13 @@ pub struct Transfer {
     /// One bit for each lane, lane 0 lowest.
     pub strb: u128,
     pub user: Bits,
+}
+
+impl Transfer {
+    /// Whether it is the same in every signal.
+    pub fn equals(&self, other: &Transfer) -> bool
+        ensures { IsTrue result ↔ (self.now ≡ other.now) }
+    {
+        self == other
+    }
 }

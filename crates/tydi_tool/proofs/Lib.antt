@@ -3,3 +3,4 @@ pub mod DeliveryLemmas
 pub mod LoadingLemmas
 pub mod ReplyLemmas
 pub mod RunLemmas
+pub mod SurveyLemmas

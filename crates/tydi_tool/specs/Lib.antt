@@ -10,5 +10,6 @@ pub mod Replies
 pub mod RowText
 pub mod Run
 pub mod Survey
+pub mod Surveying
 pub mod Trace
 pub mod Words
