@@ -7,3 +7,4 @@ pub mod RowText
 pub mod Survey
 pub mod Trace
 pub mod Words
+pub mod WordsLeft

@@ -9,6 +9,7 @@ mod status;
 mod surveying;
 mod trace;
 mod words;
+mod words_left;
 
 pub use answer::{Answer, Reply};
 pub use refusal::Refusal;
