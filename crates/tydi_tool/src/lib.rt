@@ -5,6 +5,7 @@ mod answer;
 mod delivery;
 mod loading;
 mod refusal;
+mod row_text;
 mod status;
 mod surveying;
 mod trace;
