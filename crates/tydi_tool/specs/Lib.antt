@@ -2,6 +2,7 @@ pub mod Delivery
 pub mod HeaderText
 pub mod Lines
 pub mod Loading
+pub mod OneLane
 pub mod Outcome
 pub mod RowText
 pub mod Survey
