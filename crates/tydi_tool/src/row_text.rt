@@ -1,6 +1,7 @@
 //! The rows of a trace text, for a stream with one lane.
 
 ghost use Rattle.std.specs.Prelude.{◌≡◌, cond};
+ghost use Rattle.tydi_base.specs.Pieces.{lines_of};
 ghost use Rattle.tydi_base.specs.Reading.{Gives};
 ghost use Rattle.physical_stream.specs.Signals as signals;
 ghost use Rattle.tydi_tool.specs.OneLane.{one_lane_transfer};
@@ -87,4 +88,116 @@ fn one_lane_transfer(alloc: Global, p: &Params, words: WordsLeft) -> Result<Tran
         return Err(TraceError::BadTrace);
     }
     Ok(Transfer { content, last, stai: 0, endi: 0, strb, user })
+}
+
+/// The transfer that the words of a payload spell.
+fn transfer_of(alloc: Global, p: &Params, words: WordsLeft) -> Result<Transfer, TraceError>
+    requires { p.now.lanes ≡ 1 }
+    ensures { Gives refusal_of (λ t. t) result (spec.transfer_of p.now (words_left words.entry)) }
+{
+    one_lane_transfer(alloc, p, words)
+}
+
+/// Whether the stream has a payload signal.
+fn has_payload(p: &Params) -> bool
+    requires { p.now.lanes ≡ 1 }
+    ensures { result ≡ spec.has_payload p.now }
+{
+    p.element > 0 || p.dims > 0 || has_strobe(p) || p.user > 0
+}
+
+/// Whether the payload is the word `-` alone.
+fn is_dash(words: WordsLeft) -> bool
+    ensures { result ≡ spec.is_dash (words_left words.entry) }
+{
+    match words.next_word() {
+        Some((word, rest)) => word == b"-".as_slice() && rest.is_empty(),
+        None => false,
+    }
+}
+
+/// The words of the payload of a cycle with valid: none where `-` stands for them.
+#[tactic(auto, unfolding(crate::specs::RowText::payload_of))]
+fn payload_of<'a>(p: &Params, words: WordsLeft<'a>) -> Result<WordsLeft<'a>, TraceError>
+    requires { p.now.lanes ≡ 1 }
+    ensures { Gives refusal_of words_left result (spec.payload_of p.now (words_left words.entry)) }
+{
+    if has_payload(p) {
+        Ok(words)
+    } else if is_dash(words) {
+        Ok(WordsLeft::none())
+    } else {
+        Err(TraceError::BadTrace)
+    }
+}
+
+/// What a cycle shows.
+#[tactic(auto, unfolding(crate::specs::RowText::shown_of))]
+fn shown_of(alloc: Global, p: &Params, valid: bool, words: WordsLeft) -> Result<Option<Transfer>, TraceError>
+    requires { p.now.lanes ≡ 1 }
+    ensures { Gives refusal_of (λ shown. shown) result (spec.shown_of p.now valid (words_left words.entry)) }
+{
+    if valid {
+        let payload = payload_of(p, words)?;
+        return Ok(Some(transfer_of(alloc, p, payload)?));
+    }
+    if is_dash(words) {
+        Ok(None)
+    } else {
+        Err(TraceError::BadTrace)
+    }
+}
+
+/// The bit that a word is.
+#[tactic(auto, unfolding(crate::specs::RowText::bit_of))]
+fn bit_of(word: &[u8]) -> Result<bool, TraceError>
+    ensures { Gives refusal_of (λ bit. bit) result (spec.bit_of word.now) }
+{
+    if word == b"1".as_slice() {
+        Ok(true)
+    } else if word == b"0".as_slice() {
+        Ok(false)
+    } else {
+        Err(TraceError::BadTrace)
+    }
+}
+
+/// The cycle that a row spells.
+#[tactic(auto, unfolding(crate::specs::RowText::row_of, crate::specs::RowText::cycle_of_words))]
+fn read_row(alloc: Global, p: &Params, line: &[u8]) -> Result<OwnRow, TraceError>
+    requires { p.now.lanes ≡ 1 }
+    ensures { Gives refusal_of cycle_of result (spec.row_of p.now line.now) }
+{
+    let (valid, words) = WordsLeft::of(line).next_word().ok_or(TraceError::BadTrace)?;
+    let (ready, payload) = words.next_word().ok_or(TraceError::BadTrace)?;
+    let valid = bit_of(valid)?;
+    let ready = bit_of(ready)?;
+    let shown = shown_of(alloc, p, valid, payload)?;
+    Ok(OwnRow { ready, shown })
+}
+
+/// So many rows that the text spells, each with its LF, and nothing after them.
+pub(crate) fn read_rows(
+    alloc: Global,
+    p: &Params,
+    count: usize,
+    text: &[u8],
+) -> Result<List<OwnRow>, TraceError>
+    requires { p.now.lanes ≡ 1 }
+    ensures { Gives refusal_of cycles_of result (spec.rows_from p.now count (lines_of text.now)) }
+{
+    let mut rows = List::new(alloc);
+    let mut rest = text;
+    'rows: for i in 0..count {
+        let Some((line, after)) = first_piece(rest, b'\n') else {
+            return Err(TraceError::BadTrace);
+        };
+        rows.push(read_row(alloc, p, line)?)?;
+        rest = after;
+    }
+    if rest.is_empty() {
+        Ok(rows)
+    } else {
+        Err(TraceError::BadTrace)
+    }
 }
