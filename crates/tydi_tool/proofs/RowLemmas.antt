@@ -1,5 +1,5 @@
 -- The rows of a trace text, for a stream with one lane.
-use Rattle.std.proofs.Common.{◌≡◌, ℕ, zero, suc, ◌+◌, ◌-◌, ◌*◌, ◌^◌, ◌<◌, ◌≤◌, Bool, true, false, ◌&&◌, ◌||◌, nat_le, nat_lt, List, [], ◌∷◌, ◌++◌, length, get_or, cond, Option, Some, None, Result, Ok, Err, MatchOption, eqb, append_assoc, refl, sym, ap, ◌∙◌, arith}
+use Rattle.std.proofs.Common.{◌≡◌, ℕ, zero, suc, ◌+◌, ◌-◌, ◌*◌, ◌<◌, ◌≤◌, Bool, true, false, ◌||◌, nat_le, nat_lt, List, [], ◌∷◌, ◌++◌, length, get_or, cond, Option, Some, None, Result, Ok, Err, MatchOption, eqb, append_assoc, refl, sym, ap, ◌∙◌, arith}
 use Rattle.std.proofs.Math.Bool.{and-false}
 use Rattle.std.specs.List.{join_with_byte}
 use Rattle.std.proofs.lemmas.Bool.Decides.{nat_tests}
@@ -13,13 +13,12 @@ use Rattle.tydi_base.proofs.PieceLaws.{join-pieces_of}
 use Rattle.tydi_base.proofs.ReadingLaws.{bind_ok, or_fault_ok, ok_is}
 use Rattle.tydi_base.proofs.HexLemmas.{hex_of-word_at}
 use Rattle.physical_stream.specs.Params.{Parameters}
-use Rattle.physical_stream.specs.Signals.{has_content, has_last, has_stai, has_endi, has_strb, has_user, index_width}
+use Rattle.physical_stream.specs.Signals.{has_stai, has_endi}
 use Rattle.physical_stream.specs.Cycles.{Cycle}
-use Rattle.physical_stream.specs.declared.transfer.Transfer.{Transfer}
 use Rattle.tydi_tool.specs.declared.refusal.Refusal.{Refusal}
 use Rattle.tydi_tool.specs.declared.refusal.Refusal.TheVariants.{BadTrace}
 use Rattle.tydi_tool.specs.OneLane.{one_lane_transfer}
-use Rattle.tydi_tool.specs.RowText.{value_of, word_field, index_field, strobe_field, no_more, transfer_of, row_of, rows_from}
+use Rattle.tydi_tool.specs.RowText.{value_of, word_field, index_field, strobe_field, transfer_of, row_of, rows_from}
 use Rattle.tydi_tool.specs.Trace.{cycle_of, cycles_of}
 use Rattle.tydi_tool.specs.declared.trace.OwnRow.{OwnRow}
 
@@ -100,12 +99,11 @@ module _ (p : Parameters) (count i : ℕ) (text rest line after : List ℕ) (row
     (within : i < count)
     (parts : lines_of rest ≡ line ∷ lines_of after)
     (so_far : with_front (cycles_of rows) (rows_from p (count - i) (lines_of rest)) ≡ rows_from p count (lines_of text)) where
-
   rows_read : with_front (cycles_of rows) (row_of p line >>= λ cycle. with_front (cycle ∷ []) (rows_from p (count - (i + 1)) (lines_of after))) ≡ rows_from p count (lines_of text)
   rows_read =
       let step = rows_from-cons p (count - (i + 1)) line (lines_of after) (some_line after) in
       let so : with_front (cycles_of rows) (rows_from p (suc (count - (i + 1))) (line ∷ lines_of after)) ≡ rows_from p count (lines_of text) =
-        rw (left_more count i within, parts) at so_far in
+      rw (left_more count i within, parts) at so_far in
       rw step at so
 
   -- one row more

@@ -1,17 +1,15 @@
 -- What is read of the rows of a stream with one lane can be shown by it.
-use Rattle.std.proofs.Common.{◌≡◌, ℕ, zero, suc, ◌-◌, ◌*◌, ◌^◌, ◌<◌, Bool, true, false, List, [], ◌∷◌, length, Option, Some, None, IfSome, Result, Ok, Err, refl, sym, ◌∙◌, inl, inr, arith}
+use Rattle.std.proofs.Common.{◌≡◌, ℕ, zero, suc, ◌-◌, ◌^◌, ◌<◌, Bool, true, false, List, [], ◌∷◌, length, Option, Some, None, IfSome, Ok, Err, refl, sym, ◌∙◌, inl, inr, arith}
 use Rattle.std.specs.List.{AllByRecursion}
 use Rattle.std.proofs.lemmas.Nat.{pow_pos}
 use Rattle.std.proofs.lemmas.List.Elements.{All-from_recursion}
-use Rattle.tydi_base.specs.Reading.{◌>>=◌, or_fault}
 use Rattle.tydi_base.specs.Bits.{number_of_bits}
 use Rattle.tydi_base.proofs.BitsLemmas.{number_of_bits-below}
 use Rattle.tydi_base.proofs.ReadingLaws.{bind_ok, chosen, ok_is}
 use Rattle.physical_stream.specs.Params.{Parameters}
-use Rattle.physical_stream.specs.Signals.{has_content, has_last, has_strb, has_user, index_width, Fits, StandsAtDefaults, Shows}
+use Rattle.physical_stream.specs.Signals.{has_content, has_last, has_strb, has_user, index_width, Shows}
 use Rattle.physical_stream.specs.Cycles.{Cycle, IsShownBy}
 use Rattle.physical_stream.specs.declared.transfer.Transfer.{Transfer}
-use Rattle.tydi_tool.specs.declared.refusal.Refusal.{Refusal}
 use Rattle.tydi_tool.specs.declared.refusal.Refusal.TheVariants.{BadTrace}
 use Rattle.tydi_tool.specs.OneLane.{one_lane_transfer}
 use Rattle.tydi_tool.specs.RowText.{word_field, strobe_field, no_more, transfer_of, payload_of, is_dash, shown_of, bit_of, cycle_of_words, row_of, rows_from}
@@ -64,11 +62,11 @@ one_lane_transfer-shows p words t one e =
     let nothing = bind_ok (no_more user.0.1) _ t user.2 in
     let same = ok_is (record { content = content.0.0; last = last.0.0; stai = 0; endi = 0; strb = strb.0.0; user = user.0.0 }) t nothing.2 in
     rw (← same) (Shows-parts p content.0.0 last.0.0 user.0.0 strb.0.0 one
-        (word_field-length (has_content p) 100 p.element words content.0 content.1)
-        (word_field-length (has_last p) 108 p.dims content.0.1 last.0 last.1)
-        (word_field-length (has_user p) 117 p.user strb.0.1 user.0 user.1)
-        (strobe_field-below (has_strb p) 1 last.0.1 strb.0 strb.1)
-        (strobe_field-default (has_strb p) 1 last.0.1 strb.0 strb.1))
+    (word_field-length (has_content p) 100 p.element words content.0 content.1)
+    (word_field-length (has_last p) 108 p.dims content.0.1 last.0 last.1)
+    (word_field-length (has_user p) 117 p.user strb.0.1 user.0 user.1)
+    (strobe_field-below (has_strb p) 1 last.0.1 strb.0 strb.1)
+    (strobe_field-default (has_strb p) 1 last.0.1 strb.0 strb.1))
 
 pub transfer_of-shows : (p : Parameters) (words : List (List ℕ)) (t : Transfer) → p.lanes ≡ 1 → transfer_of p words ≡ Ok t → Shows p t
 transfer_of-shows p words t one e = one_lane_transfer-shows p words t one (sym (transfer_of-one_lane p words one) ∙ e)

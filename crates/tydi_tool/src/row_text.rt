@@ -87,7 +87,14 @@ fn one_lane_transfer(alloc: Global, p: &Params, words: WordsLeft) -> Result<Tran
     if !words.is_empty() {
         return Err(TraceError::BadTrace);
     }
-    Ok(Transfer { content, last, stai: 0, endi: 0, strb, user })
+    Ok(Transfer {
+        content,
+        last,
+        stai: 0,
+        endi: 0,
+        strb,
+        user,
+    })
 }
 
 /// The transfer that the words of a payload spell.
@@ -133,7 +140,12 @@ fn payload_of<'a>(p: &Params, words: WordsLeft<'a>) -> Result<WordsLeft<'a>, Tra
 
 /// What a cycle shows.
 #[tactic(auto, unfolding(crate::specs::RowText::shown_of))]
-fn shown_of(alloc: Global, p: &Params, valid: bool, words: WordsLeft) -> Result<Option<Transfer>, TraceError>
+fn shown_of(
+    alloc: Global,
+    p: &Params,
+    valid: bool,
+    words: WordsLeft,
+) -> Result<Option<Transfer>, TraceError>
     requires { p.now.lanes ≡ 1 }
     ensures { Gives refusal_of (λ shown. shown) result (spec.shown_of p.now valid (words_left words.entry)) }
 {

@@ -16,12 +16,12 @@ pub returns-in_err-read_row : goal.returns-in_err-read_row
 returns-in_err-read_row c =
     let p = err_from_is_err_and c.from_residual.result c.from_residual.ensures.1 in
     rw (p.1, p.2) (rows_from-fails c.args.p.now c.args.count c.rows.i c.args.text.now c.rows.rest.now c.in-Some.line.now c.in-Some.after.now c.rows.rows
-        c.rows-test.true c.in-Some.ensures.some c.rows.invariant (refusal_of c.in_err-read_row.field-0.0) c.in_err-read_row.ensures)
+    c.rows-test.true c.in-Some.ensures.some c.rows.invariant (refusal_of c.in_err-read_row.field-0.0) c.in_err-read_row.ensures)
 
 pub rows-preserved : goal.rows-preserved
 rows-preserved c =
     rw c.in_ok-push.ensures.ok (rows_from-more c.args.p.now c.args.count c.rows.i c.args.text.now c.rows.rest.now c.in-Some.line.now c.in-Some.after.now c.rows.rows
-        c.rows-test.true c.in-Some.ensures.some c.rows.invariant c.in_ok-read_row.field-0 c.in_ok-read_row.ensures)
+    c.rows-test.true c.in-Some.ensures.some c.rows.invariant c.in_ok-read_row.field-0 c.in_ok-read_row.ensures)
 
 pub returns-then-is_empty : goal.returns-then-is_empty
 returns-then-is_empty c = rows_from-end c.args.p.now c.args.count c.rows.i c.args.text.now c.rows.rest.now c.rows.rows c.rows-test.false c.if-is_empty.ensures c.rows.invariant

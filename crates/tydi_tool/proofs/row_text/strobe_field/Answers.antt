@@ -1,4 +1,4 @@
-use Rattle.std.proofs.Common.{arith, true, ◌<◌, refl, rules}
+use Rattle.std.proofs.Common.{arith, true}
 use Rattle.tydi_tool.proofs.RowLemmas.{word_field-length, strobe_field-read}
 use Rattle.tydi_tool.proofs.row_text.strobe_field.Goals as goal
 
