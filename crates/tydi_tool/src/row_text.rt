@@ -13,7 +13,7 @@ use crate::trace::{OwnRow, TraceError};
 use crate::words_left::WordsLeft;
 use physical_stream::{Params, Transfer};
 use std::alloc::Global;
-use tydi_base::{Bits, List, Memory, first_piece};
+use tydi_base::{Bits, List, first_piece};
 
 /// The value of the first word, which is this key, `=` and the value; and the words after it.
 #[tactic(auto, unfolding(crate::specs::RowText::value_of))]
@@ -200,7 +200,7 @@ pub(crate) fn read_rows(
 {
     let mut rows = List::new(alloc);
     let mut rest = text;
-    'rows: for i in 0..count {
+    'rows: for _ in 0..count {
         let Some((line, after)) = first_piece(rest, b'\n') else {
             return Err(TraceError::BadTrace);
         };
