@@ -4,3 +4,5 @@ pub mod LoadingLemmas
 pub mod ReplyLemmas
 pub mod RunLemmas
 pub mod SurveyLemmas
+pub mod RowLemmas
+pub mod ShownLemmas

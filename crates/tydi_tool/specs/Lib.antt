@@ -5,6 +5,7 @@ pub mod Judging
 pub mod Laws
 pub mod Lines
 pub mod Loading
+pub mod OneLane
 pub mod Outcome
 pub mod Replies
 pub mod RowText
@@ -13,3 +14,4 @@ pub mod Survey
 pub mod Surveying
 pub mod Trace
 pub mod Words
+pub mod WordsLeft

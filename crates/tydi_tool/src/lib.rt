@@ -9,11 +9,13 @@ mod laws;
 mod loading;
 mod refusal;
 mod running;
+mod row_text;
 mod status;
 mod surveying;
 mod telling;
 mod trace;
 mod words;
+mod words_left;
 
 pub use answer::{Answer, Reply};
 pub use laws::answers_are_one;

@@ -1,5 +1,7 @@
+ghost use Rattle.std.specs.Prelude.{◌≡◌};
+
 use physical_stream::{Head, Transfer};
-use tydi_base::List;
+use tydi_base::{List, Memory};
 
 /// One cycle of a stream, as it was read.
 #[derive(Debug, Drop)]
@@ -22,4 +24,14 @@ pub enum TraceError {
     BadTrace,
     Unsupported,
     Memory,
+}
+
+impl From<Memory> for TraceError {
+    ghost use Rattle.tydi_tool.specs.declared.trace.TraceError.TheVariants.{Memory};
+
+    ghost from_gives = { λ _ e. e ≡ Memory };
+
+    fn from(_error: Memory) -> TraceError {
+        TraceError::Memory
+    }
 }
