@@ -1,2 +1,3 @@
 pub mod DeliveryLemmas
 pub mod LoadingLemmas
+pub mod HeaderLemmas

@@ -3,6 +3,7 @@
 
 mod answer;
 mod delivery;
+mod header_text;
 mod loading;
 mod refusal;
 mod status;

@@ -1,5 +1,8 @@
+ghost use Rattle.std.specs.Prelude.{◌≡◌};
+ghost use Rattle.tydi_tool.specs.declared.trace.TraceError.TheVariants as errors;
+
 use physical_stream::{Head, Transfer};
-use tydi_base::List;
+use tydi_base::{List, Memory};
 
 /// One cycle of a stream, as it was read.
 #[derive(Debug, Drop)]
@@ -22,4 +25,12 @@ pub enum TraceError {
     BadTrace,
     Unsupported,
     Memory,
+}
+
+impl From<Memory> for TraceError {
+    ghost from_gives = { λ _ e. e ≡ errors.Memory };
+
+    fn from(_error: Memory) -> TraceError {
+        TraceError::Memory
+    }
 }
