@@ -130,3 +130,55 @@ fn head_of(alloc: Global, line: &[u8]) -> Result<Head, TraceError>
     }
     head_of_words(alloc, words.as_slice())
 }
+
+/// Whether a line begins with `stream` and a space.
+fn is_head_line(line: &[u8]) -> bool
+    ensures { result ≡ spec.is_head_line line.now }
+{
+    line.starts_with(b"stream ")
+}
+
+/// The heads of the stream lines that the text begins with, and what follows them.
+fn read_heads<'a>(alloc: Global, text: &'a [u8]) -> Result<(List<Head>, &'a [u8]), TraceError>
+    ensures { Gives refusal_of (λ found. (found.0, lines_of found.1.now)) result (spec.heads_from (lines_of text.now)) }
+{
+    let mut heads = List::new(alloc);
+    let mut rest = text;
+    'heads: while let Some((line, after)) = first_piece(rest, b'\n') {
+        if !is_head_line(line) {
+            return Ok((heads, rest));
+        }
+        heads.push(head_of(alloc, line)?)?;
+        rest = after;
+    }
+    if is_head_line(rest) {
+        return Err(TraceError::BadTrace);
+    }
+    Ok((heads, rest))
+}
+
+/// The one plain stream.
+#[tactic(auto, unfolding(crate::specs::HeaderText::plain_head))]
+fn plain_head(heads: List<Head>) -> Result<Head, TraceError>
+    ensures { Gives refusal_of (λ head. head) result (spec.plain_head heads) }
+{
+    let mut heads = heads;
+    let Some(head) = heads.pop() else {
+        return Err(TraceError::Unsupported);
+    };
+    if !heads.is_empty() || head.params.lanes != 1 || head.params.dims != 0 {
+        return Err(TraceError::Unsupported);
+    }
+    Ok(head)
+}
+
+/// The number of cycles that the second line spells.
+#[tactic(auto, unfolding(crate::specs::HeaderText::count_of_cycles))]
+fn count_of_cycles(line: &[u8]) -> Result<u64, TraceError>
+    ensures { Gives refusal_of (λ n. n) result (spec.count_of_cycles line.now) }
+{
+    if !line.starts_with(b"cycles ") {
+        return Err(TraceError::BadTrace);
+    }
+    header_number(&line[7..])
+}
