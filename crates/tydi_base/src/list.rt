@@ -40,6 +40,12 @@ impl<T> List<T> {
         List { elements }
     }
 
+    pub fn into_vec(self) -> Vec<T>
+        ensures { result.items ≡ self }
+    {
+        self.elements
+    }
+
     pub fn as_slice(&self) -> &[T]
         ensures { result.now ≡ self.now }
     {

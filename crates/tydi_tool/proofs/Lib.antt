@@ -1,3 +1,4 @@
 pub mod DeliveryLemmas
 pub mod LoadingLemmas
 pub mod HeaderLemmas
+pub mod TextSetLemmas

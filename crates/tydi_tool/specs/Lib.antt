@@ -2,8 +2,10 @@ pub mod Delivery
 pub mod HeaderText
 pub mod Lines
 pub mod Loading
+pub mod OpeningView
 pub mod Outcome
 pub mod RowText
 pub mod Survey
+pub mod TextSet
 pub mod Trace
 pub mod Words

@@ -1,16 +1,95 @@
 //! The header of a trace text: its number of cycles, and a head for each stream.
 
-ghost use Rattle.std.specs.Prelude.{◌≡◌, ◌+◌, ◌<◌, ◌^◌, ℕ, List, map, length, slice_index_or, IfOk, if◌then◌else◌, Some, None};
+ghost use Rattle.std.specs.Prelude.{◌≡◌, ◌+◌, ◌<◌, ◌^◌, ℕ, List, map, length, slice_index_or, IfOk, OnOk, if◌then◌else◌, not, Some, None};
 ghost use Rattle.std.specs.Str.{bytes_eq};
 ghost use Rattle.tydi_base.specs.Reading.{Gives};
 ghost use Rattle.tydi_base.specs.Pieces.{words_of, lines_of};
 ghost use Rattle.tydi_tool.specs.Trace.{refusal_of};
+ghost use Rattle.tydi_base.specs.Path.{path_text};
 ghost use Rattle.tydi_tool.specs.HeaderText as spec;
+ghost use Rattle.tydi_tool.specs.TextSet.{has_text, AddsText};
+ghost use Rattle.tydi_tool.specs.OpeningView.{opening_view};
 
 use crate::trace::TraceError;
 use physical_stream::{Head, Params};
 use std::alloc::Global;
+use std::collections::BTreeSet;
 use tydi_base::{Level, List, Memory, Path, first_piece, read_decimal};
+
+/// What a header says, and the text after it.
+pub(crate) struct Opening<'a> {
+    pub cycles: u64,
+    pub heads: List<Head>,
+    /// The rows.
+    pub rest: &'a [u8],
+}
+
+/// The header that a text begins with.
+pub(crate) fn read_opening<'a>(alloc: Global, text: &'a [u8]) -> Result<Opening<'a>, TraceError>
+    ensures { Gives refusal_of opening_view result (spec.opening_of (lines_of text.now)) }
+{
+    let Some((first, after)) = first_piece(text, b'\n') else {
+        return Err(TraceError::BadTrace);
+    };
+    let Some((second, after)) = first_piece(after, b'\n') else {
+        return Err(TraceError::BadTrace);
+    };
+    if first != b"tydi-trace 1".as_slice() {
+        return Err(TraceError::BadTrace);
+    }
+    let cycles = count_of_cycles(second)?;
+    let (heads, rest) = read_streams(alloc, after)?;
+    Ok(Opening {
+        cycles,
+        heads,
+        rest,
+    })
+}
+
+/// The heads, where they may stand together, and what follows them.
+#[tactic(auto, unfolding(crate::specs::HeaderText::streams_from))]
+fn read_streams<'a>(alloc: Global, text: &'a [u8]) -> Result<(List<Head>, &'a [u8]), TraceError>
+    ensures { Gives refusal_of (λ found. (found.0, lines_of found.1.now)) result (spec.streams_from (lines_of text.now)) }
+{
+    let (heads, rest) = read_heads(alloc, text)?;
+    if !are_heads(alloc, &heads)? {
+        return Err(TraceError::BadTrace);
+    }
+    Ok((heads, rest))
+}
+
+/// At most 65,536 streams, no two of one path.
+fn are_heads(alloc: Global, heads: &List<Head>) -> Result<bool, Memory>
+    ensures { IfOk result (λ fine. fine ≡ spec.are_heads heads.now) }
+{
+    if heads.len() > 65536 {
+        return Ok(false);
+    }
+    let mut texts = BTreeSet::new(alloc);
+    'heads: for head in heads.as_slice() {
+        if !add_text(&mut texts, path_text(alloc, &head.path)?)? {
+            return Ok(false);
+        }
+    }
+    Ok(true)
+}
+
+/// Adds a text, and answers whether it was not there.
+fn add_text(texts: &mut BTreeSet<Vec<u8>>, text: Vec<u8>) -> Result<bool, Memory>
+    ensures fresh { IfOk result (λ fresh. fresh ≡ not (has_text texts.old text.items)) }
+    ensures added { OnOk result (AddsText texts.old texts.new text.items) }
+{
+    Ok(texts.insert(text)?)
+}
+
+/// The text of a path.
+fn path_text(alloc: Global, path: &Path) -> Result<Vec<u8>, Memory>
+    ensures { IfOk result (λ text. text.items ≡ path_text path.now) }
+{
+    let mut out = List::new(alloc);
+    path.write_dotted(&mut out)?;
+    Ok(out.into_vec())
+}
 
 /// The number that at most ten digits spell.
 #[tactic(auto, unfolding(crate::specs::HeaderText::header_number))]
