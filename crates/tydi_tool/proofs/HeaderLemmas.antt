@@ -12,7 +12,7 @@ use Rattle.tydi_tool.specs.declared.refusal.Refusal.TheVariants as refusals
 use Rattle.tydi_tool.specs.declared.trace.TraceError.{TraceError}
 use Rattle.tydi_tool.specs.declared.trace.TraceError.TheVariants as errors
 use Rattle.tydi_tool.specs.Trace.{refusal_of}
-use Rattle.tydi_tool.specs.HeaderText.{header_number, head_of, is_head_line, heads_from}
+use Rattle.tydi_tool.specs.HeaderText.{header_number, head_of, is_head_line, heads_from, opening_of, opening_from}
 use Rattle.tydi_base.specs.Pieces.{lines_of}
 use Rattle.physical_stream.specs.declared.head.Head.{Head}
 use Rattle.std.proofs.lemmas.List.{append-nil}
@@ -125,3 +125,21 @@ pub Reads-end : (text : List ℕ) (heads : List Head) (rest : List ℕ) → Read
 Reads-end text heads rest h last e =
     let here : heads_from (lines_of rest) ≡ Ok ([], lines_of rest) = rw (last, e) refl in
     done heads (heads_from (lines_of rest)) (heads_from (lines_of text)) (lines_of rest) h.whole here
+
+-- ---- the first two lines
+
+pub opening_of-one : (lines : List (List ℕ)) (line : List ℕ) → lines ≡ line ∷ [] → opening_of lines ≡ Err refusals.BadTrace
+unfolding opening_of
+opening_of-one lines line e = rw e refl
+
+pub opening_of-two : (text first after : List ℕ) → lines_of text ≡ first ∷ lines_of after → lines_of after ≡ after ∷ [] → opening_of (lines_of text) ≡ Err refusals.BadTrace
+unfolding opening_of
+opening_of-two text first after e last = rw (e, last) refl
+
+of_more : (first second : List ℕ) (lines : List (List ℕ)) → 0 < length lines → opening_of (first ∷ second ∷ lines) ≡ opening_from first second lines
+unfolding opening_of
+of_more first second [] some = absurd (omega arith)
+of_more first second (next ∷ lines) some = refl
+
+pub opening_of-more : (text first after second rest : List ℕ) → lines_of text ≡ first ∷ lines_of after → lines_of after ≡ second ∷ lines_of rest → opening_of (lines_of text) ≡ opening_from first second (lines_of rest)
+opening_of-more text first after second rest e f = ap opening_of (e ∙ ap (λ (lines : List (List ℕ)). first ∷ lines) f) ∙ of_more first second (lines_of rest) (some_lines rest)

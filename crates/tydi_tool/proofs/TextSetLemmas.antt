@@ -1,5 +1,5 @@
 -- Sets of texts, by the bytes of a text; and whether texts are distinct, by such a set.
-use Rattle.std.proofs.Common.{◌≡◌, ℕ, Bool, true, false, cond, not, ◌&&◌, ◌||◌, List, [], ◌∷◌, refl, sym, ap, ◌∙◌, subst}
+use Rattle.std.proofs.Common.{◌≡◌, ℕ, ◌+◌, ◌<◌, length, map, get_or, drop, add-one, Bool, true, false, cond, not, ◌&&◌, ◌||◌, List, [], ◌∷◌, refl, sym, ap, ◌∙◌, subst}
 use Rattle.std.specs.List.{list_any, list_all}
 use Rattle.std.specs.Str.{bytes_eq}
 use Rattle.std.specs.Ordering.{is_eq, nat_cmp, eq_by_cmp}
@@ -12,6 +12,9 @@ use Rattle.std.specs.Map.{IsKeyTest, AreApart}
 use Rattle.std.specs.declared.vec.Vec.{Vec}
 use Rattle.std.proofs.lemmas.Bool.{cases_Bool, cond-true, cond-false}
 use Rattle.std.proofs.lemmas.Map.Text.{is_eq-slice_cmp}
+use Rattle.std.proofs.Math.Seq.{drop-cons}
+use Rattle.tydi_base.specs.Path.{path_text}
+use Rattle.physical_stream.specs.declared.head.Head.{Head}
 use Rattle.tydi_tool.specs.TextSet.{has_text, AddsText}
 use Rattle.tydi_tool.specs.HeaderText.{all_distinct}
 
@@ -81,3 +84,17 @@ Tells-met whole set text texts h met = rw met at h.same
 
 pub Tells-none : {Y : Type 0} (whole : Bool) (set : BTreeSet (Vec ℕ Y)) → Tells whole set [] → whole ≡ true
 Tells-none whole set h = h.same
+
+was_fresh : (b c : Bool) → c ≡ not b → c ≡ true → b ≡ false
+was_fresh true c e f = absurd cc
+was_fresh false c e f = refl
+
+-- one head more, whose text was not met
+pub Tells-next : {Y : Type 0} (whole : Bool) (set new : BTreeSet (Vec ℕ Y)) (heads : List Head) (i : ℕ) (head : Head) (text : List ℕ) (fresh : Bool) → Tells whole set (map (λ h. path_text h.path) (drop i heads)) → i < length heads → head ≡ get_or heads i head
+    → text ≡ path_text head.path → fresh ≡ not (has_text set text) → fresh ≡ true → AddsText set new text → Tells whole new (map (λ h. path_text h.path) (drop (i + 1) heads))
+Tells-next whole set new heads i head text fresh h lt is spelled tells true-is adds =
+    let first : drop i heads ≡ get_or heads i head ∷ drop (i + 1) heads = rw add-one (drop-cons heads i head lt) in
+    let next : drop i heads ≡ head ∷ drop (i + 1) heads = rw (← is) at first in
+    let here : Tells whole set (path_text head.path ∷ map (λ h. path_text h.path) (drop (i + 1) heads)) = rw next at h in
+    let again : Tells whole set (text ∷ map (λ h. path_text h.path) (drop (i + 1) heads)) = rw spelled here in
+    Tells-more whole set new text (map (λ h. path_text h.path) (drop (i + 1) heads)) again (was_fresh (has_text set text) fresh tells true-is) adds

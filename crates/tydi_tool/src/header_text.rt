@@ -34,11 +34,24 @@ pub(crate) fn read_opening<'a>(alloc: Global, text: &'a [u8]) -> Result<Opening<
     let Some((second, after)) = first_piece(after, b'\n') else {
         return Err(TraceError::BadTrace);
     };
+    opening_after(alloc, first, second, after)
+}
+
+/// The header of which these are the first two lines, and the text after them.
+#[tactic(auto, unfolding(crate::specs::HeaderText::opening_from))]
+fn opening_after<'a>(
+    alloc: Global,
+    first: &[u8],
+    second: &[u8],
+    text: &'a [u8],
+) -> Result<Opening<'a>, TraceError>
+    ensures { Gives refusal_of opening_view result (spec.opening_from first.now second.now (lines_of text.now)) }
+{
     if first != b"tydi-trace 1".as_slice() {
         return Err(TraceError::BadTrace);
     }
     let cycles = count_of_cycles(second)?;
-    let (heads, rest) = read_streams(alloc, after)?;
+    let (heads, rest) = read_streams(alloc, text)?;
     Ok(Opening {
         cycles,
         heads,
