@@ -6,3 +6,5 @@ pub mod RunLemmas
 pub mod SurveyLemmas
 pub mod RowLemmas
 pub mod ShownLemmas
+pub mod HeaderLemmas
+pub mod TextSetLemmas

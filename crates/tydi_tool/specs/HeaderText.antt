@@ -93,12 +93,16 @@ pub record Opening : Type 0 where
 unfoldable pub streams_from : List (List ℕ) → Result (List Head × List (List ℕ)) Refusal
 streams_from lines = heads_from lines >>= λ found. if are_heads found.0 then Ok found else Err BadTrace
 
+-- the header that begins with these two lines, and goes on with the lines after them
+unfoldable pub opening_from : List ℕ → List ℕ → List (List ℕ) → Result Opening Refusal
+opening_from first second lines =
+    if bytes_eq first (codes "tydi-trace 1") then
+      (count_of_cycles second >>= λ cycles. streams_from lines >>= λ found. Ok (record { cycles = cycles; heads = found.0; lines = found.1 }))
+    else Err BadTrace
+
 -- the header that the lines of a text begin with
 unfoldable pub opening_of : List (List ℕ) → Result Opening Refusal
-opening_of (first ∷ second ∷ next ∷ lines) =
-    if bytes_eq first (codes "tydi-trace 1") then
-      (count_of_cycles second >>= λ cycles. streams_from (next ∷ lines) >>= λ found. Ok (record { cycles = cycles; heads = found.0; lines = found.1 }))
-    else Err BadTrace
+opening_of (first ∷ second ∷ next ∷ lines) = opening_from first second (next ∷ lines)
 opening_of lines = Err BadTrace
 
 -- the one plain stream

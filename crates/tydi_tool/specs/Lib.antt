@@ -6,12 +6,14 @@ pub mod Laws
 pub mod Lines
 pub mod Loading
 pub mod OneLane
+pub mod OpeningView
 pub mod Outcome
 pub mod Replies
 pub mod RowText
 pub mod Run
 pub mod Survey
 pub mod Surveying
+pub mod TextSet
 pub mod Trace
 pub mod Words
 pub mod WordsLeft

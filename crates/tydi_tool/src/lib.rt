@@ -6,6 +6,7 @@ mod commands;
 mod delivery;
 mod judging;
 mod laws;
+mod header_text;
 mod loading;
 mod refusal;
 mod running;

@@ -1,4 +1,5 @@
 ghost use Rattle.std.specs.Prelude.{◌≡◌};
+ghost use Rattle.tydi_tool.specs.declared.trace.TraceError.TheVariants as errors;
 
 use physical_stream::{Head, Transfer};
 use tydi_base::{List, Memory};
@@ -30,6 +31,7 @@ impl From<Memory> for TraceError {
     ghost use Rattle.tydi_tool.specs.declared.trace.TraceError.TheVariants.{Memory};
 
     ghost from_gives = { λ _ e. e ≡ Memory };
+    ghost from_gives = { λ _ e. e ≡ errors.Memory };
 
     fn from(_error: Memory) -> TraceError {
         TraceError::Memory
