@@ -2,8 +2,15 @@
 use Rattle.std.specs.Prelude.{ℕ, List}
 use Rattle.tydi_tool.specs.declared.answer.Reply.{Reply}
 use Rattle.tydi_tool.specs.declared.answer.Reply.TheVariants as replies
+use Rattle.tydi_tool.specs.Trace.{TraceText}
 use Rattle.tydi_tool.specs.RowText.{trace_of}
-use Rattle.tydi_tool.specs.Answers.{TellsReading}
+use Rattle.tydi_tool.specs.Answers.{TellsTrace, TellsReading}
+
+-- the answer on a trace, or want of memory
+abbrev pub JudgesTrace : TraceText → Reply → Type 0
+JudgesTrace trace (replies.Says a) = TellsTrace trace a
+JudgesTrace trace (replies.ReadFault line) = ⊥
+JudgesTrace trace replies.Memory = Unit {0}
 
 -- the answer on the text of the file of this word, or want of memory
 abbrev pub Judges : List ℕ → List ℕ → Reply → Type 0

@@ -1,16 +1,13 @@
-ghost use Rattle.std.specs.Prelude.{◌≡◌, ◌⊎◌, IsTrue};
+ghost use Rattle.std.specs.Prelude.{IsTrue};
 ghost use Rattle.tydi_io.specs.Faults.{Rose};
 ghost use Rattle.tydi_tool.specs.Words.{Check, request_of, Allows};
 ghost use Rattle.tydi_tool.specs.Replies.{Replies, RepliesTo, RepliesToError};
-ghost use Rattle.tydi_tool.specs.Lines.{refusal_line};
-ghost use Rattle.tydi_tool.specs.declared.answer.Answer.TheVariants as answers;
-ghost use Rattle.tydi_tool.specs.declared.answer.Reply.TheVariants as replies;
 
 use crate::answer::{Answer, Reply};
-use crate::judging::judge_trace;
+use crate::judging::{judge_trace, refused};
 use crate::loading::{LoadError, load};
 use crate::refusal::Refusal;
-use crate::telling::{read_fault, refuse};
+use crate::telling::read_fault;
 use crate::words::{Command, words_of};
 use std::alloc::Global;
 use tydi_base::{Memory, Text};
@@ -55,15 +52,5 @@ fn reply_to_error(alloc: Global, word: &Text, error: LoadError) -> Reply
             Err(Memory) => Reply::Memory,
         },
         LoadError::Memory => Reply::Memory,
-    }
-}
-
-/// The line of a refusal, or want of memory for it.
-fn refused(alloc: Global, refusal: Refusal, word: &Text) -> Reply
-    ensures { (result ≡ replies.Says (answers.Refused (refusal_line refusal word.now))) ⊎ (result ≡ replies.Memory) }
-{
-    match refuse(alloc, refusal, word) {
-        Ok(line) => Reply::Says(Answer::Refused(line)),
-        Err(Memory) => Reply::Memory,
     }
 }

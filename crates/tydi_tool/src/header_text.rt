@@ -1,10 +1,10 @@
 //! The header of a trace text: its number of cycles, and a head for each stream.
 
-ghost use Rattle.std.specs.Prelude.{◌≡◌, ◌+◌, ◌<◌, ◌^◌, ℕ, List, map, length, slice_index_or, IfOk, OnOk, if◌then◌else◌, not, Some, None};
+ghost use Rattle.std.specs.Prelude.{◌≡◌, ◌+◌, ◌<◌, ◌^◌, ℕ, List, map, length, slice_index_or, IfOk, IsTrue, OnOk, if◌then◌else◌, not, Some, None};
 ghost use Rattle.std.specs.Str.{bytes_eq};
 ghost use Rattle.tydi_base.specs.Reading.{Gives};
 ghost use Rattle.tydi_base.specs.Pieces.{words_of, lines_of};
-ghost use Rattle.tydi_tool.specs.Trace.{refusal_of};
+ghost use Rattle.tydi_tool.specs.Trace.{refusal_of, is_plain};
 ghost use Rattle.tydi_base.specs.Path.{path_text};
 ghost use Rattle.tydi_tool.specs.HeaderText as spec;
 ghost use Rattle.tydi_tool.specs.TextSet.{has_text, AddsText};
@@ -251,8 +251,9 @@ fn read_heads<'a>(alloc: Global, text: &'a [u8]) -> Result<(List<Head>, &'a [u8]
 
 /// The one plain stream.
 #[tactic(auto, unfolding(crate::specs::HeaderText::plain_head))]
-fn plain_head(heads: List<Head>) -> Result<Head, TraceError>
-    ensures { Gives refusal_of (λ head. head) result (spec.plain_head heads) }
+pub(crate) fn plain_head(heads: List<Head>) -> Result<Head, TraceError>
+    ensures gives { Gives refusal_of (λ head. head) result (spec.plain_head heads) }
+    ensures plain { IfOk result (λ head. IsTrue (is_plain head.params)) }
 {
     let mut heads = heads;
     let Some(head) = heads.pop() else {

@@ -4,10 +4,11 @@
 mod answer;
 mod commands;
 mod delivery;
+mod header_text;
 mod judging;
 mod laws;
-mod header_text;
 mod loading;
+mod reading;
 mod refusal;
 mod running;
 mod row_text;

@@ -28,9 +28,6 @@ pub enum TraceError {
 }
 
 impl From<Memory> for TraceError {
-    ghost use Rattle.tydi_tool.specs.declared.trace.TraceError.TheVariants.{Memory};
-
-    ghost from_gives = { λ _ e. e ≡ Memory };
     ghost from_gives = { λ _ e. e ≡ errors.Memory };
 
     fn from(_error: Memory) -> TraceError {
