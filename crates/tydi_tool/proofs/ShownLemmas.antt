@@ -59,8 +59,9 @@ one_lane_transfer-shows p words t one e =
     let last = bind_ok (word_field (has_last p) 108 p.dims content.0.1) _ t content.2 in
     let strb = bind_ok (strobe_field (has_strb p) 1 last.0.1) _ t last.2 in
     let user = bind_ok (word_field (has_user p) 117 p.user strb.0.1) _ t strb.2 in
-    let nothing = bind_ok (no_more user.0.1) _ t user.2 in
-    let same = ok_is (record { content = content.0.0; last = last.0.0; stai = 0; endi = 0; strb = strb.0.0; user = user.0.0 }) t nothing.2 in
+    let found : Transfer = record { content = content.0.0; last = last.0.0; stai = 0; endi = 0; strb = strb.0.0; user = user.0.0 } in
+    let nothing = bind_ok (no_more user.0.1) (λ nothing. Ok found) t user.2 in
+    let same = ok_is found t nothing.2 in
     rw (← same) (Shows-parts p content.0.0 last.0.0 user.0.0 strb.0.0 one
     (word_field-length (has_content p) 100 p.element words content.0 content.1)
     (word_field-length (has_last p) 108 p.dims content.0.1 last.0 last.1)
