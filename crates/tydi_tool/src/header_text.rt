@@ -251,7 +251,7 @@ fn read_heads<'a>(alloc: Global, text: &'a [u8]) -> Result<(List<Head>, &'a [u8]
 
 /// The one plain stream.
 #[tactic(auto, unfolding(crate::specs::HeaderText::plain_head))]
-fn plain_head(heads: List<Head>) -> Result<Head, TraceError>
+pub(crate) fn plain_head(heads: List<Head>) -> Result<Head, TraceError>
     ensures { Gives refusal_of (λ head. head) result (spec.plain_head heads) }
 {
     let mut heads = heads;
