@@ -3,6 +3,8 @@
 
 mod answer;
 mod delivery;
+#[cfg(test)]
+mod header_tests;
 mod header_text;
 mod loading;
 mod refusal;
