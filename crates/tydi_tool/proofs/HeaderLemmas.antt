@@ -1,7 +1,6 @@
 -- The header of a trace, read.
-use Rattle.std.proofs.Common.{◌≡◌, ℕ, ◌+◌, ◌-◌, ◌*◌, ◌^◌, ◌<◌, ◌≤◌, Bool, true, false, ◌&&◌, cond, List, [], ◌∷◌, ◌++◌, length, eqb, get_or, map, Option, Some, None, Result, Ok, Err, IfOk, nat_le, MatchOption, refl, sym, ap, ◌∙◌, subst, arith, append_assoc, length-append}
+use Rattle.std.proofs.Common.{◌≡◌, ℕ, ◌^◌, ◌<◌, ◌≤◌, true, false, List, [], ◌∷◌, ◌++◌, length, eqb, Option, Some, None, Result, Ok, Err, IfOk, nat_le, MatchOption, refl, sym, ap, ◌∙◌, arith, append_assoc}
 use Rattle.std.proofs.lemmas.Bool.Decides.{nat_tests}
-use Rattle.std.proofs.lemmas.Grind.{common_steps}
 use Rattle.std.proofs.lemmas.Option.{cond_some}
 use Rattle.std.proofs.lemmas.Str.Parse.{digits_value_short}
 use Rattle.tydi_base.specs.Decimal.{read_on, is_decimal, decimal_of, below}
@@ -107,13 +106,13 @@ pub Reads-no_head : (text : List ℕ) (heads : List Head) (rest line after : Lis
     → MatchOption fault (Unit {0}) (λ d. head_of line ≡ Err d) → MatchOption fault (Unit {0}) (λ d. heads_from (lines_of text) ≡ Err d)
 Reads-no_head text heads rest line after fault h first e fail =
     let here : MatchOption fault (Unit {0}) (λ d. heads_from (lines_of rest) ≡ Err d) =
-          rw (first, heads_from-head line (lines_of after) (some_lines after) e) (fails_then fault (head_of line) (λ head. heads_from (lines_of after) >>= λ found. Ok (head ∷ found.0, found.1)) fail) in
+    rw (first, heads_from-head line (lines_of after) (some_lines after) e) (fails_then fault (head_of line) (λ head. heads_from (lines_of after) >>= λ found. Ok (head ∷ found.0, found.1)) fail) in
     fails heads (heads_from (lines_of rest)) (heads_from (lines_of text)) fault h.whole here
 
 pub Reads-more : (text : List ℕ) (heads : List Head) (rest line after : List ℕ) (head : Head) → Reads text heads rest → lines_of rest ≡ line ∷ lines_of after → is_head_line line ≡ true → head_of line ≡ Ok head → Reads text (heads ++ head ∷ []) after
 Reads-more text heads rest line after head h first e read =
     let here : heads_from (lines_of rest) ≡ (heads_from (lines_of after) >>= λ found. Ok (head ∷ found.0, found.1)) =
-          rw (first, heads_from-head line (lines_of after) (some_lines after) e, read) refl in
+    rw (first, heads_from-head line (lines_of after) (some_lines after) e, read) refl in
     record { whole = sym (front-more heads head (heads_from (lines_of after))) ∙ ap (with_front heads) (sym here) ∙ h.whole }
 
 pub Reads-cut : (text : List ℕ) (heads : List Head) (rest : List ℕ) → Reads text heads rest → lines_of rest ≡ rest ∷ [] → is_head_line rest ≡ true → heads_from (lines_of text) ≡ Err refusals.BadTrace

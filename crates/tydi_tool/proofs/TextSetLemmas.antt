@@ -10,7 +10,6 @@ use Rattle.std.specs.BTreeSet.{BTreeSet, UpdatesBy}
 use Rattle.std.specs.Set.{KeepsOthers}
 use Rattle.std.specs.Map.{IsKeyTest, AreApart}
 use Rattle.std.specs.declared.vec.Vec.{Vec}
-use Rattle.std.proofs.lemmas.Bool.{cases_Bool, cond-true, cond-false}
 use Rattle.std.proofs.lemmas.Map.Text.{is_eq-slice_cmp}
 use Rattle.std.proofs.Math.Seq.{drop-cons}
 use Rattle.tydi_base.specs.Path.{path_text}
@@ -75,8 +74,10 @@ regroup false apart distinct = refl
 pub Tells-more : {Y : Type 0} (whole : Bool) (set new : BTreeSet (Vec ℕ Y)) (text : List ℕ) (texts : List (List ℕ)) → Tells whole set (text ∷ texts) → has_text set text ≡ false → AddsText set new text → Tells whole new texts
 Tells-more whole set new text texts h fresh adds =
     let here : whole ≡ (none_in set texts && (not (list_any (bytes_eq text) texts) && all_distinct texts)) = rw fresh at h.same in
-    record { same = here ∙ regroup (none_in set texts) (not (list_any (bytes_eq text) texts)) (all_distinct texts)
-        ∙ ap (λ (b : Bool). b && all_distinct texts) (sym (none_in-more set new text texts adds)) }
+    record {
+      same = here ∙ regroup (none_in set texts) (not (list_any (bytes_eq text) texts)) (all_distinct texts)
+          ∙ ap (λ (b : Bool). b && all_distinct texts) (sym (none_in-more set new text texts adds));
+    }
 
 -- a text that was met
 pub Tells-met : {Y : Type 0} (whole : Bool) (set : BTreeSet (Vec ℕ Y)) (text : List ℕ) (texts : List (List ℕ)) → Tells whole set (text ∷ texts) → has_text set text ≡ true → whole ≡ false

@@ -1,6 +1,6 @@
 -- The header of a trace text, version 1 (this project's own): the line `tydi-trace 1`, the line `cycles N`, and a line
 -- `stream PATH lanes N dims D level C element E user U forward` or `.. reverse` for each stream.
-use Rattle.std.specs.Prelude.{◌≡◌, ℕ, ◌≤◌, Bool, true, false, not, ◌==◌, ◌&&◌, nat_le, nat_eq, if◌then◌else◌, List, [], ◌∷◌, ◌++◌, length, map, drop, Result, Ok, Err, codes}
+use Rattle.std.specs.Prelude.{ℕ, Bool, true, false, not, ◌==◌, ◌&&◌, nat_le, nat_eq, if◌then◌else◌, List, [], ◌∷◌, length, map, drop, Result, Ok, Err, codes}
 use Rattle.std.specs.List.{slice_index_or, starts_with, list_any}
 use Rattle.std.specs.Str.{bytes_eq}
 use Rattle.tydi_base.specs.Reading.{◌>>=◌, or_fault}
@@ -97,7 +97,7 @@ streams_from lines = heads_from lines >>= λ found. if are_heads found.0 then Ok
 unfoldable pub opening_from : List ℕ → List ℕ → List (List ℕ) → Result Opening Refusal
 opening_from first second lines =
     if bytes_eq first (codes "tydi-trace 1") then
-      (count_of_cycles second >>= λ cycles. streams_from lines >>= λ found. Ok (record { cycles = cycles; heads = found.0; lines = found.1 }))
+    (count_of_cycles second >>= λ cycles. streams_from lines >>= λ found. Ok (record { cycles = cycles; heads = found.0; lines = found.1 }))
     else Err BadTrace
 
 -- the header that the lines of a text begin with

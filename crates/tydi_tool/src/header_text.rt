@@ -1,7 +1,6 @@
 //! The header of a trace text: its number of cycles, and a head for each stream.
 
-ghost use Rattle.std.specs.Prelude.{◌≡◌, ◌+◌, ◌<◌, ◌^◌, ℕ, List, map, length, slice_index_or, IfOk, IsTrue, OnOk, if◌then◌else◌, not, Some, None};
-ghost use Rattle.std.specs.Str.{bytes_eq};
+ghost use Rattle.std.specs.Prelude.{◌≡◌, ◌+◌, ◌<◌, ◌^◌, map, length, IfOk, IsTrue, OnOk, if◌then◌else◌, not, Some, None};
 ghost use Rattle.tydi_base.specs.Reading.{Gives};
 ghost use Rattle.tydi_base.specs.Pieces.{words_of, lines_of};
 ghost use Rattle.tydi_tool.specs.Trace.{refusal_of, is_plain};
@@ -17,6 +16,7 @@ use std::collections::BTreeSet;
 use tydi_base::{Level, List, Memory, Path, first_piece, read_decimal};
 
 /// What a header says, and the text after it.
+#[derive(Debug, Drop)]
 pub(crate) struct Opening<'a> {
     pub cycles: u64,
     pub heads: List<Head>,

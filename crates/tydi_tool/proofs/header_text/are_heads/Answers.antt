@@ -1,4 +1,4 @@
-use Rattle.std.proofs.Common.{ℕ, ◌<◌, length, arith}
+use Rattle.std.proofs.Common.{◌<◌, length}
 use Rattle.tydi_tool.proofs.TextSetLemmas.{Tells-init, Tells-next}
 use Rattle.tydi_tool.proofs.header_text.are_heads.Goals as goal
 

@@ -1,4 +1,4 @@
-use Rattle.std.proofs.Common.{◌∙◌, sym, ℕ, List}
+use Rattle.std.proofs.Common.{◌∙◌, sym}
 use Rattle.std.proofs.lemmas.Result.{err_from_is_err_and}
 use Rattle.tydi_tool.proofs.HeaderLemmas.{Reads-init, Reads-no_head, Reads-more}
 use Rattle.tydi_tool.specs.Trace.{refusal_of}
