@@ -4,8 +4,6 @@
 mod answer;
 mod commands;
 mod delivery;
-#[cfg(test)]
-mod header_tests;
 mod header_text;
 mod judging;
 mod laws;
