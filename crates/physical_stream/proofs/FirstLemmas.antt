@@ -1,5 +1,5 @@
 -- The first offence is one.
-use Rattle.std.proofs.Common.{◌≡◌, ℕ, ◌<◌, ◌≤◌, List, Option, None, Some, refl, sym, ap, ◌∙◌, arith, ◌⊎◌, inl, inr, ◌==◌, if◌then◌else◌}
+use Rattle.std.proofs.Common.{◌≡◌, ℕ, Option, None, Some, refl, sym, ap, ◌∙◌, arith, ◌==◌, if◌then◌else◌}
 use Rattle.physical_stream.specs.Rules.{number_of_rule}
 use Rattle.physical_stream.specs.First.{Offence, IsNotAfter, IsFirst}
 use Rattle.physical_stream.specs.declared.rule.Rule.{Rule}
@@ -35,10 +35,13 @@ same_offence a b ab ba = same_parts a b (same_cycle a b ab ba) (same_stream a b 
   where
     same_cycle : (a b : Offence) → IsNotAfter a b → IsNotAfter b a → a.cycle ≡ b.cycle
     same_cycle a b ab ba = grind arith
+
     same_stream : (a b : Offence) → IsNotAfter a b → IsNotAfter b a → a.stream ≡ b.stream
     same_stream a b ab ba = grind arith
+
     same_number : (a b : Offence) → IsNotAfter a b → IsNotAfter b a → number_of_rule a.rule ≡ number_of_rule b.rule
     same_number a b ab ba = grind arith
+
     same_parts : (a b : Offence) → a.cycle ≡ b.cycle → a.stream ≡ b.stream → a.rule ≡ b.rule → a ≡ b
     same_parts a b c s r =
         ap (λ (n : ℕ). record { cycle = n; stream = a.stream; rule = a.rule }) c ∙ ap (λ (n : ℕ). record { cycle = b.cycle; stream = n; rule = a.rule }) s

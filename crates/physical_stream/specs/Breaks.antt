@@ -1,7 +1,7 @@
 -- What each rule forbids (after the Tydi specification's complexity levels; the texts of the rules are this project's own).
 -- `before` are the cycles before, `now` is the cycle in question. Rules 2 to 7 and 10 look at each cycle with valid, whether
 -- it is taken or not.
-use Rattle.std.specs.Prelude.{◌≡◌, ℕ, ◌+◌, ◌*◌, ◌<◌, ◌≤◌, Bool, true, false, List, [], ◌∷◌, ◌++◌, ◌⊎◌, Option, Some, None, take, slice_get}
+use Rattle.std.specs.Prelude.{◌≡◌, ℕ, ◌+◌, ◌<◌, ◌≤◌, true, false, List, [], ◌∷◌, ◌++◌, ◌⊎◌, Option, Some, None, take, slice_get}
 use Rattle.std.specs.List.{All}
 use Rattle.std.specs.Int.{bit_at}
 use Rattle.physical_stream.specs.Params.{Parameters}

@@ -1,5 +1,5 @@
 -- How many transfers and packets a stream has done (this project's own).
-use Rattle.std.specs.Prelude.{ℕ, ◌+◌, Bool, true, false, ◌==◌, if◌then◌else◌, List, length, count_by}
+use Rattle.std.specs.Prelude.{ℕ, ◌+◌, Bool, ◌==◌, List, length, count_by}
 use Rattle.physical_stream.specs.Params.{Parameters}
 use Rattle.physical_stream.specs.Cycles.{Cycle, done_of, items_done}
 use Rattle.physical_stream.specs.declared.item.Item.{Item}

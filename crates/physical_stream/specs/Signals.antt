@@ -1,6 +1,6 @@
 -- Which payload signals a physical stream has, how wide they are, and what an absent one stands at (Tydi specification,
 -- signals; presence and defaults are this project's own).
-use Rattle.std.specs.Prelude.{◌≡◌, ℕ, zero, suc, ◌+◌, ◌-◌, ◌*◌, ◌^◌, ◌<◌, ◌≤◌, Bool, true, false, ◌&&◌, ◌||◌, nat_lt, nat_le, if◌then◌else◌, List, length}
+use Rattle.std.specs.Prelude.{◌≡◌, ℕ, zero, suc, ◌-◌, ◌*◌, ◌^◌, ◌<◌, Bool, false, ◌&&◌, ◌||◌, nat_lt, nat_le, if◌then◌else◌, length}
 use Rattle.tydi_base.specs.Level.{number_of}
 use Rattle.physical_stream.specs.Params.{Parameters}
 use Rattle.physical_stream.specs.declared.transfer.Transfer.{Transfer}

@@ -1,10 +1,9 @@
 //! The program: the words, the system's files and the standard streams, handed to `run`; its status is the exit status.
 #![tactic(auto)]
 
-use std::env;
-use std::io;
 use std::process::ExitCode;
 use std::rt::Env;
+use std::{env, io};
 use tydi_base::{List, Text};
 use tydi_io::{FileStore, StreamSink};
 use tydi_tool::{Status, run};

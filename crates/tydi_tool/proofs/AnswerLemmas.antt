@@ -1,5 +1,5 @@
 -- To given words and files there is one answer.
-use Rattle.std.proofs.Common.{◌≡◌, ℕ, List, [], ◌∷◌, Option, None, Some, refl, sym, ap, ◌∙◌, Result, Ok, Err}
+use Rattle.std.proofs.Common.{◌≡◌, ℕ, List, [], ◌∷◌, Option, None, Some, sym, ap, ◌∙◌, Result, Ok, Err}
 use Rattle.tydi_base.specs.Reading.{◌>>=◌}
 use Rattle.tydi_io.specs.Store.{Files}
 use Rattle.physical_stream.specs.First.{Offends}
@@ -13,7 +13,7 @@ use Rattle.tydi_tool.specs.Words.{Request, Check, trace_limit}
 use Rattle.tydi_tool.specs.Trace.{TraceText}
 use Rattle.tydi_tool.specs.RowText.{trace_of}
 use Rattle.tydi_tool.specs.Survey.{Surveys, survey_of, answer_of}
-use Rattle.tydi_tool.specs.Answers.{file_of, TellsTrace, TellsReading, Says}
+use Rattle.tydi_tool.specs.Answers.{file_of, TellsReading, Says}
 
 -- a survey finds one thing
 Surveys-one : (p : Parameters) (cycles : List Cycle) (a b : Survey) → Surveys p cycles a → Surveys p cycles b → a ≡ b

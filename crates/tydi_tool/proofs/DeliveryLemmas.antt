@@ -1,8 +1,7 @@
 -- Pieces that a sink takes one after another, and what goes to out where something goes to err.
-use Rattle.std.proofs.Common.{◌≡◌, ℕ, ◌+◌, ◌-◌, ◌<◌, ◌≤◌, List, [], ◌++◌, length, take, drop, Option, None, Some, option_map, refl, sym, ap, ◌∙◌, arith, append_assoc, length-drop, subst, true, false, Result, Ok, Err, is_err, IsErr, OnOk, OnErr}
+use Rattle.std.proofs.Common.{◌≡◌, ℕ, ◌+◌, ◌-◌, ◌<◌, List, [], ◌++◌, length, take, drop, Option, None, Some, option_map, refl, sym, ap, ◌∙◌, arith, append_assoc, length-drop, subst, true, false, Result, Ok, Err, is_err, IsErr, OnOk, OnErr}
 use Rattle.std.proofs.Math.Seq.{take-add}
 use Rattle.std.proofs.lemmas.List.{take_all}
-use Rattle.tydi_tool.specs.declared.answer.Answer.{Answer}
 use Rattle.tydi_tool.specs.declared.answer.Answer.TheVariants as answers
 use Rattle.tydi_tool.specs.declared.answer.Reply.{Reply}
 use Rattle.tydi_tool.specs.declared.answer.Reply.TheVariants as replies
@@ -29,7 +28,7 @@ pub Adds-more : (old mid new : Option (List ℕ)) (bytes : List ℕ) (at n : ℕ
 Adds-more None mid new bytes at n h e = e ∙ ap (option_map (λ taken. taken ++ take n (take (length bytes - at) (drop at bytes)))) h
 Adds-more (Some b) mid new bytes at n h e =
     let joined : take at bytes ++ take n (take (length bytes - at) (drop at bytes)) ≡ take (at + n) bytes
-          = ap (λ rest. take at bytes ++ take n rest) (rest_of bytes at) ∙ sym (take-add at n bytes) in
+    = ap (λ rest. take at bytes ++ take n rest) (rest_of bytes at) ∙ sym (take-add at n bytes) in
     e ∙ ap (option_map (λ taken. taken ++ take n (take (length bytes - at) (drop at bytes)))) h ∙ ap Some (append_assoc b (take at bytes) _ ∙ ap (λ x. b ++ x) joined)
 
 -- out took all, and err failed over a line that is there
@@ -44,7 +43,7 @@ ErrFails-from reply text line (Ok u) (Err e) rose out_old out_new err_old err_ne
       some = some';
       ends = refl;
       out = subst (λ (t : List ℕ). Adds out_old out_new t) (is_text ∙ out_is_empty reply some') out;
-      err = subst (λ (l : List ℕ). AddsFront err_old err_new l) is_line err
+      err = subst (λ (l : List ℕ). AddsFront err_old err_new l) is_line err;
     }
 ErrFails-from reply text line (Ok u) (Ok v) rose out_old out_new err_old err_new is_text is_line ok failed out err some cause = cc
 ErrFails-from reply text line (Err d) second rose out_old out_new err_old err_new is_text is_line ok failed out err some cause = cc

@@ -1,12 +1,10 @@
 -- Pulling a file piece by piece.
-use Rattle.std.proofs.Common.{zero-le, Bool, true, false, IfSome, IsSome, MatchOption, ◌≡◌, ℕ, ◌+◌, ◌-◌, ◌<◌, ◌≤◌, List, [], ◌++◌, length, min, take, drop, Option, None, Some, option_map, unwrap_or, refl, sym, ap, ◌∙◌, subst, arith, append_assoc, length-drop, length-append, Result, Ok, Err}
+use Rattle.std.proofs.Common.{zero-le, Bool, true, IfSome, IsSome, MatchOption, ◌≡◌, ℕ, ◌+◌, ◌<◌, ◌≤◌, List, [], ◌++◌, length, min, take, drop, Option, None, Some, option_map, unwrap_or, refl, sym, ap, ◌∙◌, subst, arith, length-drop, length-append, Result, Ok, Err}
 use Rattle.std.proofs.Math.Seq.{take-add}
-use Rattle.std.proofs.lemmas.Bool.{false≢true}
 use Rattle.std.proofs.lemmas.List.{take_all, take-append-le, length-take-le, append-nil}
 use Rattle.tydi_io.specs.Store.{Files, Pulls, PullsSome, Finds, started_at, left_of, given_more}
 use Rattle.tydi_io.specs.declared.failed.Failed.{Failed}
-use Rattle.tydi_tool.specs.Words.{FileWord}
-use Rattle.tydi_tool.specs.Loading.{pulled_out, GivenWithin, IsGiven, IsFile, IsTooLong, Loads, IsAtStart, Progress, AddsPiece}
+use Rattle.tydi_tool.specs.Loading.{pulled_out, GivenWithin, IsGiven, Loads, IsAtStart, Progress, AddsPiece}
 use Rattle.tydi_tool.specs.declared.loading.LoadError.{LoadError}
 use Rattle.tydi_tool.specs.declared.loading.LoadError.TheVariants as errors
 
@@ -24,14 +22,14 @@ Progress-more told word before after bytes into n p h pulls =
     let grown : length (bytes ++ take n into) ≡ length bytes + n = length-append bytes (take n into) ∙ ap (λ k. length bytes + k) (length-take-le n into h) in
     let more : n ≤ length (drop (length bytes) p.file) = subst (λ (l : List ℕ). n ≤ length l) left pulls.within in
     let joined : bytes ++ take n into ≡ take (length bytes + n) p.file =
-          ap (λ (l : List ℕ). bytes ++ l) (pulls.bytes ∙ ap (take n) left) ∙ ap (λ (l : List ℕ). l ++ take n (drop (length bytes) p.file)) p.front
-          ∙ sym (take-add (length bytes) n p.file) in
+    ap (λ (l : List ℕ). bytes ++ l) (pulls.bytes ∙ ap (take n) left) ∙ ap (λ (l : List ℕ). l ++ take n (drop (length bytes) p.file)) p.front
+    ∙ sym (take-add (length bytes) n p.file) in
     record {
       file = p.file;
       named = p.named;
       place = pulls.place ∙ ap (λ (s : Option (List ℕ × ℕ)). given_more s n) p.place ∙ ap (λ k. Some (word, k)) (sym grown);
       within = omega (arith, grown, more, length-drop (length bytes) p.file, p.within);
-      front = joined ∙ ap (λ k. take k p.file) (sym grown)
+      front = joined ∙ ap (λ k. take k p.file) (sym grown);
     }
 
 -- nothing came: all is there
@@ -49,7 +47,7 @@ IsGiven-progress : (told : Files) (word : List ℕ) (limit : ℕ) (started : Opt
     length bytes ≤ limit + 1 → IsGiven told (record { word = word; limit = limit }) started
 IsGiven-progress told word limit started bytes p h =
     subst (λ (found : Option (List ℕ)). MatchOption found (started ≡ None) (λ all. GivenWithin (record { word = word; limit = limit }) all started)) (sym p.named)
-      (record { given = length bytes; within = p.within; limited = h; place = p.place })
+    (record { given = length bytes; within = p.within; limited = h; place = p.place })
 
 -- where a file of this length is left
 pulled_out-at : (told : Files) (word : List ℕ) (limit k : ℕ) (bytes : List ℕ) → told word ≡ Some bytes → min (length bytes) (limit + 1) ≡ k →
@@ -64,8 +62,10 @@ pub AddsPiece-ok : (files : Option Files) (limit : ℕ) (before after : Option (
 AddsPiece-ok None limit before after old new into more n pulls h some e = tt
 AddsPiece-ok (Some told) limit before after old new into more n pulls h some e =
     let is : old ++ take n into ≡ new = sym (e ∙ ap (λ (l : List ℕ). old ++ l) (take-append-le n into more h)) in
-    λ word p. (subst (λ (l : List ℕ). Progress told word after l) is (Progress-more told word before after old into n p h pulls),
-      λ none. Progress-end told word before after old into n p some pulls none ∙ ap Some is)
+    λ word p. (
+      subst (λ (l : List ℕ). Progress told word after l) is (Progress-more told word before after old into n p h pulls),
+      λ none. Progress-end told word before after old into n p some pulls none ∙ ap Some is,
+    )
 
 -- after a pull that failed
 pub AddsPiece-fault : (files : Option Files) (limit : ℕ) (before after : Option (List ℕ × ℕ)) (old into : List ℕ) (e : Failed) →
@@ -82,7 +82,7 @@ pub AddsPiece-memory : (files : Option Files) (limit : ℕ) (before after : Opti
 AddsPiece-memory None limit before after old into n pulls h room = tt
 AddsPiece-memory (Some told) limit before after old into n pulls h room =
     λ word p. IsGiven-progress told word limit after (old ++ take n into) (Progress-more told word before after old into n p h pulls)
-      (omega (arith, length-append old (take n into), length-take-le n into h))
+    (omega (arith, length-append old (take n into), length-take-le n into h))
 
 -- a file at its start is in progress, with nothing given
 pub Progress-none : (files : Option Files) (started : Option (List ℕ × ℕ)) → IfSome files (λ told. (word : List ℕ) → IsAtStart told word started → Progress told word started [])
@@ -109,7 +109,7 @@ Loads-end None files' limit n first before after old new same pulled adds none h
 Loads-end (Some told) files' limit n first before after old new same pulled adds none h =
     let adds' = subst (λ (fs : Option Files). IfSome fs (λ told. (word : List ℕ) → Progress told word before old → AddsPiece told (record { word = word; limit = limit }) after new (Ok n))) same adds in
     λ word s. let a = adds' word (pulled word s) in let named = a.1 none in
-      (record { named = named; within = h }, a.0.place ∙ pulled_out-at told word limit (length new) new named (omega arith))
+    (record { named = named; within = h }, a.0.place ∙ pulled_out-at told word limit (length new) new named (omega arith))
 
 pub Loads-error : (files files' : Option Files) (limit : ℕ) (error : LoadError) (first before after : Option (List ℕ × ℕ)) (old new : List ℕ) → files' ≡ files → PulledFrom files first before old →
     IfSome files' (λ told. (word : List ℕ) → Progress told word before old → AddsPiece told (record { word = word; limit = limit }) after new (Err error)) →
@@ -130,9 +130,10 @@ pub Loads-long : (files : Option Files) (limit : ℕ) (first after : Option (Lis
     IfSome files (λ told. (word : List ℕ) → IsAtStart told word first → Loads told (record { word = word; limit = limit }) after (Err errors.TooLong))
 Loads-long None limit first after bytes pulled over within = tt
 Loads-long (Some told) limit first after bytes pulled over within =
-    λ word s. let p = pulled word s in
-      (record { bytes = p.file; named = p.named; long = omega (arith, p.within) },
-       p.place ∙ pulled_out-at told word limit (length bytes) p.file p.named (omega (arith, p.within)))
+    λ word s. let p = pulled word s in (
+      record { bytes = p.file; named = p.named; long = omega (arith, p.within) },
+      p.place ∙ pulled_out-at told word limit (length bytes) p.file p.named (omega (arith, p.within)),
+    )
 
 -- out of memory before anything was pulled
 pub Loads-memory : (files : Option Files) (limit : ℕ) (first : Option (List ℕ × ℕ)) →
@@ -152,7 +153,7 @@ Loads-started (Some told) files' name word limit started after result there is h
     let loads' = subst (λ (fs : Option Files). IfSome fs (λ told. (word : List ℕ) → IsAtStart told word started → Loads told (record { word = word; limit = limit }) after result)) same loads in
     let named = some_value (told name) (found.0 holds) in
     subst (λ (w : List ℕ). Loads told (record { word = w; limit = limit }) after result) is
-      (loads' name (record { file = named.0; named = named.1; place = at ∙ ap (option_map (λ _. (name, 0))) named.1 }))
+    (loads' name (record { file = named.0; named = named.1; place = at ∙ ap (option_map (λ _. (name, 0))) named.1 }))
   where
     some_value : (o : Option (List ℕ)) → IsSome o → (x : List ℕ) × (o ≡ Some x)
     some_value (Some x) h = (x, refl)

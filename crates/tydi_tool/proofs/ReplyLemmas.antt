@@ -13,15 +13,15 @@ use Rattle.tydi_tool.specs.declared.refusal.Refusal.{Refusal}
 use Rattle.tydi_tool.specs.declared.refusal.Refusal.TheVariants as refusals
 use Rattle.tydi_tool.specs.declared.surveying.Survey.{Survey}
 use Rattle.tydi_tool.specs.declared.surveying.Survey.TheVariants as surveys
-use Rattle.tydi_tool.specs.Words.{Request, Check, FileWord, trace_limit}
-use Rattle.tydi_tool.specs.Lines.{refusal_line, read_fault_line}
+use Rattle.tydi_tool.specs.Words.{Check, FileWord, trace_limit}
+use Rattle.tydi_tool.specs.Lines.{refusal_line}
 use Rattle.tydi_tool.specs.Loading.{pulled_out, IsGiven, GivenWithin, IsFile, IsTooLong, Loads}
 use Rattle.tydi_tool.specs.Trace.{TraceText}
 use Rattle.tydi_tool.specs.RowText.{trace_of}
 use Rattle.tydi_tool.specs.Survey.{answer_of}
-use Rattle.tydi_tool.specs.Answers.{bytes_within, file_of, TellsTrace, TellsReading, CheckSays}
+use Rattle.tydi_tool.specs.Answers.{bytes_within, file_of, TellsReading}
 use Rattle.tydi_tool.specs.Judging.{Judges}
-use Rattle.tydi_tool.specs.Replies.{IsPulledOut, IsGivenOne, NamesStarted, first_lacking, TellsReadFault, IsNoUsage, RepliesTo, RepliesToError}
+use Rattle.tydi_tool.specs.Replies.{IsGivenOne, NamesStarted, IsNoUsage, RepliesTo, RepliesToError}
 
 -- the answer on a survey is not Usage
 IsNoUsage-answer_of : (path : List (List ℕ)) (found : Survey) → IsNoUsage (answer_of path found)
@@ -61,19 +61,26 @@ IsGiven-pulled_out told file started e = by_file (told file.word) refl
   where
     by_file : (found : Option (List ℕ)) → told file.word ≡ found → IsGiven told file started
     by_file None is = subst (λ (found : Option (List ℕ)). MatchOption found (started ≡ None) (λ all. GivenWithin file all started)) (sym is)
-      (e ∙ ap (λ (found : Option (List ℕ)). option_map (λ all. (file.word, min (length all) (file.limit + 1))) found) is)
+        (e ∙ ap (λ (found : Option (List ℕ)). option_map (λ all. (file.word, min (length all) (file.limit + 1))) found) is)
     by_file (Some bytes) is = subst (λ (found : Option (List ℕ)). MatchOption found (started ≡ None) (λ all. GivenWithin file all started)) (sym is)
-      (record { given = min (length bytes) (file.limit + 1); within = omega arith; limited = omega arith;
-        place = e ∙ ap (λ (found : Option (List ℕ)). option_map (λ all. (file.word, min (length all) (file.limit + 1))) found) is })
+        (record {
+          given = min (length bytes) (file.limit + 1);
+          within = omega arith;
+          limited = omega arith;
+          place = e ∙ ap (λ (found : Option (List ℕ)). option_map (λ all. (file.word, min (length all) (file.limit + 1))) found) is;
+        })
 
 -- a file that was loaded, and what is said of its text
 pub RepliesTo-loaded : (told : Option Files) (word bytes : List ℕ) (old new : Option (List ℕ × ℕ)) (rose : Type 0) (reply : Reply) →
     IfSome told (λ known. Loads known (trace_file word) new (Ok bytes)) → Judges word bytes reply → RepliesTo (Check word) told old new rose reply
 RepliesTo-loaded None word bytes old new rose (replies.Says a) loads judges = (IsNoUsage-told word (trace_of bytes) a judges, tt)
-RepliesTo-loaded (Some told) word bytes old new rose (replies.Says a) loads judges =
-    (IsNoUsage-told word (trace_of bytes) a judges,
-     (subst (λ (read : Result (List ℕ) Refusal). TellsReading word (read >>= trace_of) a) (sym (file_of-there told (trace_file word) bytes loads.0)) judges,
-      record { file = trace_file word; named = inl refl; place = loads.1 }))
+RepliesTo-loaded (Some told) word bytes old new rose (replies.Says a) loads judges = (
+  IsNoUsage-told word (trace_of bytes) a judges,
+  (
+    subst (λ (read : Result (List ℕ) Refusal). TellsReading word (read >>= trace_of) a) (sym (file_of-there told (trace_file word) bytes loads.0)) judges,
+    record { file = trace_file word; named = inl refl; place = loads.1 },
+  ),
+)
 RepliesTo-loaded told word bytes old new rose (replies.ReadFault line) loads judges = absurd judges
 RepliesTo-loaded None word bytes old new rose replies.Memory loads judges = tt
 RepliesTo-loaded (Some told) word bytes old new rose replies.Memory loads judges =
@@ -87,7 +94,7 @@ NamesStarted-given told file started given = by_file (told file.word) refl
     by_file None is =
         let none : started ≡ None = subst (λ (found : Option (List ℕ)). MatchOption found (started ≡ None) (λ all. GivenWithin file all started)) is given in
         subst (λ (s : Option (List ℕ × ℕ)). NamesStarted told (file ∷ []) s file.word) (sym none)
-          (ap (λ (found : Option (List ℕ)). cond (is_none found) (Some file.word) None) is)
+        (ap (λ (found : Option (List ℕ)). cond (is_none found) (Some file.word) None) is)
     by_file (Some bytes) is =
         let within : GivenWithin file bytes started = subst (λ (found : Option (List ℕ)). MatchOption found (started ≡ None) (λ all. GivenWithin file all started)) is given in
         subst (λ (s : Option (List ℕ × ℕ)). NamesStarted told (file ∷ []) s file.word) (sym within.place) refl
@@ -102,9 +109,14 @@ RepliesTo-refused told word old new rose refusal reply read says =
     refused : (told : Option Files) → IfSome told (λ known. (file_of known (trace_file word) ≡ Err refusal) × (new ≡ pulled_out known (trace_file word))) →
         RepliesTo (Check word) told old new rose (replies.Says (answers.Refused (refusal_line refusal word)))
     refused None read = (tt, tt)
-    refused (Some known) read = (tt,
-      (subst (λ (r : Result (List ℕ) Refusal). TellsReading word (r >>= trace_of) (answers.Refused (refusal_line refusal word))) (sym read.0) refl,
-       record { file = trace_file word; named = inl refl; place = read.1 }))
+    refused (Some known) read = (
+      tt,
+      (
+        subst (λ (r : Result (List ℕ) Refusal). TellsReading word (r >>= trace_of) (answers.Refused (refusal_line refusal word))) (sym read.0) refl,
+        record { file = trace_file word; named = inl refl; place = read.1 },
+      ),
+    )
+
     memory : (told : Option Files) → IfSome told (λ known. (file_of known (trace_file word) ≡ Err refusal) × (new ≡ pulled_out known (trace_file word))) →
         RepliesTo (Check word) told old new rose replies.Memory
     memory None read = tt
@@ -134,13 +146,14 @@ RepliesTo-error told word old new rose errors.TooLong reply loads cause says = R
     long (Some known) loads = (file_of-long known (trace_file word) loads.0, loads.1)
 RepliesTo-error told word old new rose errors.ReadFault reply loads cause says =
     ⊎_elim (λ e. subst (RepliesTo (Check word) told old new rose) (sym e)
-        (record { rose = cause refl; file = trace_file word; named = inl refl; says = refl; starts = starts told loads }))
-      (λ e. subst (RepliesTo (Check word) told old new rose) (sym e) (RepliesTo-memory told word old new rose (given told loads))) says
+    (record { rose = cause refl; file = trace_file word; named = inl refl; says = refl; starts = starts told loads }))
+    (λ e. subst (RepliesTo (Check word) told old new rose) (sym e) (RepliesTo-memory told word old new rose (given told loads))) says
   where
     starts : (told : Option Files) → IfSome told (λ known. Loads known (trace_file word) new (Err errors.ReadFault)) →
         IfSome told (λ known. IsGivenOne known (trace_file word ∷ []) new × NamesStarted known (trace_file word ∷ []) new word)
     starts None loads = tt
     starts (Some known) loads = (record { file = trace_file word; named = inl refl; given = loads }, NamesStarted-given known (trace_file word) new loads)
+
     given : (told : Option Files) → IfSome told (λ known. Loads known (trace_file word) new (Err errors.ReadFault)) → IfSome told (λ known. IsGiven known (trace_file word) new)
     given None loads = tt
     given (Some known) loads = loads

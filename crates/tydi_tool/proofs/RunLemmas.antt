@@ -1,5 +1,5 @@
 -- From a reply and its delivery to the clauses of a run.
-use Rattle.std.proofs.Common.{◌≡◌, ℕ, ◌<◌, ◌≤◌, ◌⊎◌, inl, inr, List, [], ◌++◌, length, take, Option, None, Some, IfSome, option_map, refl, sym, ap, ◌∙◌, subst, arith, ⊎_elim}
+use Rattle.std.proofs.Common.{◌≡◌, ℕ, ◌<◌, ◌⊎◌, inl, inr, List, [], length, Option, None, Some, IfSome, refl, sym, ap, ◌∙◌, subst, arith, ⊎_elim}
 use Rattle.std.proofs.lemmas.List.{take_all}
 use Rattle.tydi_io.specs.Store.{Files}
 use Rattle.tydi_tool.specs.declared.answer.Answer.{Answer}
@@ -9,11 +9,11 @@ use Rattle.tydi_tool.specs.declared.answer.Reply.TheVariants as replies
 use Rattle.tydi_tool.specs.declared.status.Status.{Status}
 use Rattle.tydi_tool.specs.declared.status.Status.TheVariants as statuses
 use Rattle.tydi_tool.specs.Words.{Request}
-use Rattle.tydi_tool.specs.Outcome.{out_of_answer, err_of_answer, status_of_answer, out_of, err_of, status_of, memory_line, write_fault_line}
+use Rattle.tydi_tool.specs.Outcome.{out_of_answer, out_of, err_of, status_of, write_fault_line}
 use Rattle.tydi_tool.specs.Delivery.{Adds, AddsFront, IsTold, OutFails, ErrFails, Delivers}
 use Rattle.tydi_tool.specs.Replies.{Replies}
 use Rattle.tydi_tool.specs.Answers.{Says}
-use Rattle.tydi_tool.specs.Run.{EndsInAnswer, IsAnswered, HasFront, OutFront, IsRefusal, IsLine, ErrFront}
+use Rattle.tydi_tool.specs.Run.{EndsInAnswer, IsAnswered, OutFront, IsRefusal, IsLine, ErrFront}
 use Rattle.tydi_tool.proofs.AnswerLemmas.{Says-one}
 
 -- all is a front
@@ -21,7 +21,7 @@ AddsFront-all : (old new : Option (List ℕ)) (whole : List ℕ) → Adds old ne
 AddsFront-all old new whole adds = record {
   count = length whole;
   within = omega arith;
-  added = subst (λ (bytes : List ℕ). Adds old new bytes) (sym (take_all (length whole) whole (omega arith))) adds
+  added = subst (λ (bytes : List ℕ). Adds old new bytes) (sym (take_all (length whole) whole (omega arith))) adds;
 }
 
 -- what is said is the answer to the words and the files
@@ -55,8 +55,8 @@ pub IsAnswered-delivered : (told : Option Files) (request : Option Request) (old
 IsAnswered-delivered None request old new rose out_rose err_rose reply status out_old out_new err_old err_new r d = tt
 IsAnswered-delivered (Some known) request old new rose out_rose err_rose reply status out_old out_new err_old err_new r d = λ ends.
     ⊎_elim (λ t. answered_by known request old new rose reply status out_old out_new err_old err_new r t (subst EndsInAnswer t.ends ends))
-      (⊎_elim (λ (o : OutFails out_rose err_rose reply status out_old out_new err_old err_new). absurd (subst EndsInAnswer o.ends ends))
-        (λ (e : ErrFails err_rose reply status out_old out_new err_old err_new). absurd (subst EndsInAnswer e.ends ends))) d
+    (⊎_elim (λ (o : OutFails out_rose err_rose reply status out_old out_new err_old err_new). absurd (subst EndsInAnswer o.ends ends))
+    (λ (e : ErrFails err_rose reply status out_old out_new err_old err_new). absurd (subst EndsInAnswer e.ends ends))) d
 
 -- with no fault
 complete_by : (known : Files) (request : Option Request) (old new : Option (List ℕ × ℕ)) (rose : Type 0) (reply : Reply) (status : Status) (out_old out_new err_old err_new : Option (List ℕ)) →
@@ -78,8 +78,8 @@ pub IsAnswered-complete : (told : Option Files) (request : Option Request) (old 
 IsAnswered-complete None request old new rose out_rose err_rose reply status out_old out_new err_old err_new r d = tt
 IsAnswered-complete (Some known) request old new rose out_rose err_rose reply status out_old out_new err_old err_new r d = λ quiet out_quiet err_quiet.
     ⊎_elim (λ t. complete_by known request old new rose reply status out_old out_new err_old err_new r t quiet)
-      (⊎_elim (λ (o : OutFails out_rose err_rose reply status out_old out_new err_old err_new). absurd (out_quiet o.rose))
-        (λ (e : ErrFails err_rose reply status out_old out_new err_old err_new). absurd (err_quiet e.rose))) d
+    (⊎_elim (λ (o : OutFails out_rose err_rose reply status out_old out_new err_old err_new). absurd (out_quiet o.rose))
+    (λ (e : ErrFails err_rose reply status out_old out_new err_old err_new). absurd (err_quiet e.rose))) d
 
 -- a front of what is said
 front_by : (known : Files) (request : Option Request) (old new : Option (List ℕ × ℕ)) (rose : Type 0) (reply : Reply) (out_old out_new : Option (List ℕ)) →
@@ -102,8 +102,8 @@ pub OutFront-delivered : (told : Option Files) (request : Option Request) (old n
 OutFront-delivered None request old new rose out_rose err_rose reply status out_old out_new err_old err_new r d = tt
 OutFront-delivered (Some known) request old new rose out_rose err_rose reply status out_old out_new err_old err_new r d =
     ⊎_elim (λ t. front_told known request old new rose reply out_old out_new r t.out)
-      (⊎_elim (λ (o : OutFails out_rose err_rose reply status out_old out_new err_old err_new). front_by known request old new rose reply out_old out_new r o.some o.out)
-        (λ (e : ErrFails err_rose reply status out_old out_new err_old err_new). inl e.out)) d
+    (⊎_elim (λ (o : OutFails out_rose err_rose reply status out_old out_new err_old err_new). front_by known request old new rose reply out_old out_new r o.some o.out)
+    (λ (e : ErrFails err_rose reply status out_old out_new err_old err_new). inl e.out)) d
 
 -- where the answer is a refusal, nothing goes to out
 nothing_out : (known : Files) (request : Option Request) (old new : Option (List ℕ × ℕ)) (rose : Type 0) (reply : Reply) (a : Answer) →
@@ -126,8 +126,8 @@ refusal_leaves_out None request old new rose out_rose err_rose reply status out_
 refusal_leaves_out (Some known) request old new rose out_rose err_rose reply status out_old out_new err_old err_new r d = λ a says refusal.
     let none = nothing_out known request old new rose reply a r says refusal in
     ⊎_elim (λ (t : IsTold reply status out_old out_new err_old err_new). subst (λ (bytes : List ℕ). Adds out_old out_new bytes) none t.out)
-      (⊎_elim (λ (o : OutFails out_rose err_rose reply status out_old out_new err_old err_new). absurd (empty (out_of reply) none o.some))
-        (λ (e : ErrFails err_rose reply status out_old out_new err_old err_new). e.out)) d
+    (⊎_elim (λ (o : OutFails out_rose err_rose reply status out_old out_new err_old err_new). absurd (empty (out_of reply) none o.some))
+    (λ (e : ErrFails err_rose reply status out_old out_new err_old err_new). e.out)) d
   where
     empty : (bytes : List ℕ) → bytes ≡ [] → 0 < length bytes → ⊥
     empty bytes none some = omega (arith, ap length none)
@@ -149,8 +149,8 @@ pub ErrFront-delivered : (told : Option Files) (request : Option Request) (old n
     ErrFront told request rose out_rose err_old err_new
 ErrFront-delivered told request old new rose out_rose err_rose reply status out_old out_new err_old err_new r d =
     ⊎_elim (λ (t : IsTold reply status out_old out_new err_old err_new).
-        record { line = err_of reply; is = line_of told request old new rose out_rose reply r; front = AddsFront-all err_old err_new (err_of reply) t.err })
-      (⊎_elim (λ (o : OutFails out_rose err_rose reply status out_old out_new err_old err_new).
-          record { line = write_fault_line; is = inr (inr (inl (o.rose, refl))); front = ⊎_elim (AddsFront-all err_old err_new write_fault_line) (λ f. f.1) o.err })
-        (λ (e : ErrFails err_rose reply status out_old out_new err_old err_new).
-          record { line = err_of reply; is = line_of told request old new rose out_rose reply r; front = e.err })) d
+    record { line = err_of reply; is = line_of told request old new rose out_rose reply r; front = AddsFront-all err_old err_new (err_of reply) t.err })
+    (⊎_elim (λ (o : OutFails out_rose err_rose reply status out_old out_new err_old err_new).
+    record { line = write_fault_line; is = inr (inr (inl (o.rose, refl))); front = ⊎_elim (AddsFront-all err_old err_new write_fault_line) (λ f. f.1) o.err })
+    (λ (e : ErrFails err_rose reply status out_old out_new err_old err_new).
+    record { line = err_of reply; is = line_of told request old new rose out_rose reply r; front = e.err })) d

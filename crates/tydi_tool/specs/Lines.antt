@@ -1,5 +1,5 @@
 -- The lines that a run writes (this project's own).
-use Rattle.std.specs.Prelude.{ℕ, List, [], ◌∷◌, ◌++◌, codes, decimal}
+use Rattle.std.specs.Prelude.{ℕ, List, ◌++◌, codes, decimal}
 use Rattle.tydi_base.specs.Path.{path_text}
 use Rattle.physical_stream.specs.Rules.{number_of_rule, name_of_rule}
 use Rattle.physical_stream.specs.declared.rule.Rule.{Rule}

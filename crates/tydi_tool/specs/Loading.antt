@@ -1,5 +1,5 @@
 -- A file that is started and pulled (this project's own).
-use Rattle.std.specs.Prelude.{◌≡◌, ℕ, ◌+◌, ◌<◌, ◌≤◌, List, [], length, min, take, Option, Some, None, option_map, MatchOption, Result, Ok, Err}
+use Rattle.std.specs.Prelude.{◌≡◌, ℕ, ◌+◌, ◌<◌, ◌≤◌, List, length, min, take, Option, Some, None, option_map, MatchOption, Result, Ok, Err}
 use Rattle.tydi_io.specs.Faults.{Rose}
 use Rattle.tydi_io.specs.Store.{Files}
 use Rattle.tydi_tool.specs.declared.loading.LoadError.{LoadError}

@@ -1,7 +1,7 @@
 -- The rows of a trace text, version 1 (this project's own): the valid bit, the ready bit and the payload, with one space
 -- between each two. The payload is `-` where valid is 0 or the stream has no payload signal; else it is the signals that
 -- the stream has, in their order, each `key=value`: `d` data, `l` last, `s` stai, `e` endi, `b` strb, `u` user.
-use Rattle.std.specs.Prelude.{◌≡◌, ℕ, zero, suc, ◌-◌, ◌*◌, ◌^◌, Bool, true, false, ◌==◌, ◌&&◌, ◌||◌, nat_le, nat_lt, if◌then◌else◌, List, [], ◌∷◌, length, Option, Some, None, Result, Ok, Err, codes}
+use Rattle.std.specs.Prelude.{ℕ, zero, suc, ◌-◌, ◌*◌, ◌^◌, Bool, true, false, ◌==◌, ◌&&◌, ◌||◌, nat_le, nat_lt, if◌then◌else◌, List, [], ◌∷◌, length, Option, Some, None, Result, Ok, Err, codes}
 use Rattle.std.specs.Str.{bytes_eq}
 use Rattle.tydi_base.specs.Reading.{◌>>=◌, or_fault}
 use Rattle.tydi_base.specs.Decimal.{decimal_of}

@@ -1,6 +1,6 @@
 -- What a run promises, clause by clause (this project's own). `request` is the command that the words spell, `told` the
 -- files of the store where it tells them; a sink's bytes stand for themselves where the sink tells them.
-use Rattle.std.specs.Prelude.{◌≡◌, ℕ, ◌⊎◌, List, [], ◌∷◌, Option, Some, None, IfSome}
+use Rattle.std.specs.Prelude.{◌≡◌, ℕ, ◌⊎◌, List, [], Option, Some, None, IfSome}
 use Rattle.tydi_io.specs.Store.{Files}
 use Rattle.tydi_tool.specs.declared.answer.Answer.{Answer}
 use Rattle.tydi_tool.specs.declared.answer.Answer.TheVariants as answers
@@ -8,9 +8,9 @@ use Rattle.tydi_tool.specs.declared.status.Status.{Status}
 use Rattle.tydi_tool.specs.declared.status.Status.TheVariants as statuses
 use Rattle.tydi_tool.specs.Words.{Request, FileWord, file_words}
 use Rattle.tydi_tool.specs.Lines.{read_fault_line}
-use Rattle.tydi_tool.specs.Outcome.{out_of_answer, err_of_answer, status_of_answer, usage_line, memory_line, write_fault_line}
+use Rattle.tydi_tool.specs.Outcome.{out_of_answer, err_of_answer, status_of_answer, memory_line, write_fault_line}
 use Rattle.tydi_tool.specs.Delivery.{Adds, AddsFront}
-use Rattle.tydi_tool.specs.Replies.{IsOneOf, IsPulledOut, IsGivenOne, StartsWithin, NamesStarted}
+use Rattle.tydi_tool.specs.Replies.{IsOneOf, IsPulledOut, StartsWithin, NamesStarted}
 use Rattle.tydi_tool.specs.Answers.{Says}
 
 -- the files that the command names, none where there is no command

@@ -1,7 +1,7 @@
 -- What a survey says of the cycles of one stream (this project's own).
 use Rattle.std.specs.Prelude.{◌≡◌, ℕ, List, [], ◌∷◌, ◌++◌, Option, Some, None, codes}
 use Rattle.physical_stream.specs.Params.{Parameters}
-use Rattle.physical_stream.specs.Cycles.{Cycle, StreamTrace}
+use Rattle.physical_stream.specs.Cycles.{Cycle}
 use Rattle.physical_stream.specs.First.{Offence, Offends, IsFirst}
 use Rattle.physical_stream.specs.Ending.{ending_of}
 use Rattle.physical_stream.specs.Counts.{transfers_of, packets_of}

@@ -1,5 +1,5 @@
 -- The trace of one plain stream, apart from where it lies in memory (this project's own).
-use Rattle.std.specs.Prelude.{◌≡◌, ℕ, ◌≤◌, Bool, ◌==◌, ◌&&◌, List, map, Option, Some, None}
+use Rattle.std.specs.Prelude.{Bool, ◌==◌, ◌&&◌, List, map, Option, Some, None}
 use Rattle.physical_stream.specs.Params.{Parameters}
 use Rattle.physical_stream.specs.Cycles.{Cycle}
 use Rattle.physical_stream.specs.declared.head.Head.{Head}

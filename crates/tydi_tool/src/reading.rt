@@ -30,7 +30,11 @@ fn trace_after(alloc: Global, opening: Opening<'_>) -> Result<PlainTrace, TraceE
     ensures plain { IfOk result (λ trace. IsTrue (is_plain trace.head.params)) }
     ensures shown { IfOk result (λ trace. IsShownBy trace.head.params (cycles_of trace.rows)) }
 {
-    let Opening { cycles, heads, rest } = opening;
+    let Opening {
+        cycles,
+        heads,
+        rest,
+    } = opening;
     let head = plain_head(heads)?;
     if cycles > MOST_CYCLES {
         return Err(TraceError::BadTrace);

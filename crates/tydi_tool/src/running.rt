@@ -47,7 +47,7 @@ pub fn run<S: Store, O: Sink, E: Sink>(
     ensures complete { IfSome (S.files store.old) (λ told. (Rose (S.faults store.old) (S.faults store.new) → ⊥) →
         (Rose (O.faults out.old) (O.faults out.new) → ⊥) → (Rose (E.faults err.old) (E.faults err.new) → ⊥) →
         (result ≡ statuses.Memory) ⊎ IsAnswered told (request_of words.now) result
-            (O.taken out.old) (O.taken out.new) (E.taken err.old) (E.taken err.new)) }
+        (O.taken out.old) (O.taken out.new) (E.taken err.old) (E.taken err.new)) }
     // Out is never given more than a front of the answer's text or verdict, and nothing where the answer is a refusal.
     ensures out_front { IfSome (S.files store.old) (λ told. OutFront told (request_of words.now) (O.taken out.old) (O.taken out.new)) }
     ensures out_left { LeavesOut result → Adds (O.taken out.old) (O.taken out.new) [] }

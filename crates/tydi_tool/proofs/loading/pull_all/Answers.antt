@@ -10,7 +10,7 @@ pulls-init g c = record {
   pulled = subst (λ (bytes : List ℕ). PulledFrom (g.S.Store.files c.args.store.now) (g.S.Store.started c.args.store.now) (g.S.Store.started c.args.store.now) bytes)
       (sym c.new-bytes.ensures) (Progress-none (g.S.Store.files c.args.store.now) (g.S.Store.started c.args.store.now));
   within = simp c.new-bytes.ensures (omega arith);
-  room = omega (arith, c.as_mut_slice-piece.ensures.len, c.in-Ok.ensures)
+  room = omega (arith, c.as_mut_slice-piece.ensures.len, c.in-Ok.ensures);
 }
 
 pub pulls-preserved : goal.pulls-preserved
@@ -20,7 +20,7 @@ pulls-preserved g c = record {
   counted = omega (arith, c.in-Ok-pull_piece.ensures.cause.later);
   pulled = PulledFrom-more _ _ c.args.limit _ _ _ _ _ _ c.pulls.invariant.files c.pulls.invariant.pulled c.in-Ok-pull_piece.ensures.adds;
   within = c.in-Ok-pull_piece.ensures.limited;
-  room = omega (arith, c.pulls.invariant.room, c.pull_piece.auto.piece)
+  room = omega (arith, c.pulls.invariant.room, c.pull_piece.auto.piece);
 }
 
 pub returns-in-Err-clause-loads : goal.returns-in-Err-clause-loads

@@ -9,7 +9,7 @@ invariant-pulls g l = record {
   counted : g.S.Store.faults l.fn.store ≤ g.S.Store.faults l.store;
   pulled : PulledFrom (g.S.Store.files l.fn.store) (g.S.Store.started l.fn.store) (g.S.Store.started l.store) l.bytes;
   within : length l.bytes ≤ l.limit + 1;
-  room : 0 < length l.piece
+  room : 0 < length l.piece;
 }
 
 abbrev pub decreases-pulls : goal.decreases-pulls
