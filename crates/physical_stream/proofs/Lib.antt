@@ -1,3 +1,4 @@
 pub mod FirstLemmas
+pub mod NarrowItems
 pub mod PlainLemmas
 pub mod TransferLemmas

@@ -3,6 +3,7 @@ pub mod DeliveryLemmas
 pub mod LoadingLemmas
 pub mod ReplyLemmas
 pub mod RunLemmas
+pub mod SurveyItems
 pub mod SurveyLemmas
 pub mod RowLemmas
 pub mod ShownLemmas
