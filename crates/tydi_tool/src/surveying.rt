@@ -1,18 +1,15 @@
 //! The survey of a plain stream: its first offence, or how it ends. A walk over its cycles keeps the kind of the last item
 //! alone: with the cycle before, that is all that the rules on one cycle look at.
 
-ghost use Rattle.std.specs.Prelude.{◌≡◌, ◌≤◌, is_some, false, IfSome, IsTrue, count_by, length, take};
-ghost use Rattle.std.specs.List.{slice_index_or};
+ghost use Rattle.std.specs.Prelude.{◌≡◌, ◌≤◌, is_some, IsTrue, count_by, length, take};
 ghost use Rattle.std.specs.Option.{option_copied};
 ghost use Rattle.physical_stream.specs.Counts.{transfers_of};
 ghost use Rattle.physical_stream.specs.Cycles.{IsShownBy, refused_in, waiting_of};
-ghost use Rattle.physical_stream.specs.Items.{is_active};
-ghost use Rattle.physical_stream.specs.Signals.{Shows};
 ghost use Rattle.tydi_tool.specs.Survey.{Surveys};
 ghost use Rattle.tydi_tool.specs.Surveying as spec;
 ghost use Rattle.tydi_tool.specs.Trace.{cycle_of, cycles_of, is_plain};
 
-use crate::breaking::lowest_broken;
+use crate::breaking::{first_bit, is_active, lowest_broken};
 use crate::trace::{OwnRow, PlainTrace};
 use physical_stream::{Params, Rule, Tail, Transfer};
 
@@ -125,20 +122,13 @@ fn tail_after(tail: Option<Tail>, row: &OwnRow) -> Option<Tail>
 fn tail_after_transfer(tail: Option<Tail>, transfer: &Transfer) -> Option<Tail>
     ensures { result ≡ spec.tail_after_transfer tail transfer.now }
 {
-    if closes(transfer) {
+    if first_bit(&transfer.last) {
         Some(Tail::Close(0))
     } else if is_active(transfer) {
         Some(Tail::Elem)
     } else {
         tail
     }
-}
-
-/// Whether the first last bit is there and set.
-fn closes(transfer: &Transfer) -> bool
-    ensures { result ≡ slice_index_or transfer.now.last 0 false }
-{
-    transfer.last.len() > 0 && transfer.last.get(0)
 }
 
 /// Whether a sequence is open after an item of this kind, in a plain stream.
@@ -208,13 +198,6 @@ fn completes_packet(params: &Params, transfer: &Transfer) -> bool
     if params.dims == 0 {
         is_active(transfer)
     } else {
-        closes(transfer)
+        first_bit(&transfer.last)
     }
-}
-
-/// Whether lane 0 is active.
-fn is_active(transfer: &Transfer) -> bool
-    ensures { result ≡ is_active transfer.now 0 }
-{
-    transfer.strb % 2 == 1 && transfer.stai == 0
 }

@@ -9,5 +9,5 @@ abbrev pub invariant-loop-i : goal.invariant-loop-i
 invariant-loop-i l = record {
   below : NoneBelow l.params (cycles_of l.rows) l.i;
   narrow : IsNarrow l.tail;
-  last : l.tail ≡ tail_of (items_done l.params (take l.i (cycles_of l.rows)))
+  last : l.tail ≡ tail_of (items_done l.params (take l.i (cycles_of l.rows)));
 }
