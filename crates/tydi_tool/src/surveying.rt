@@ -1,18 +1,18 @@
 //! The survey of a plain stream: its first offence, or how it ends. A transfer of such a stream can break rule 1 alone,
 //! which looks at two neighbouring cycles.
 
-ghost use Rattle.std.specs.Prelude.{◌≡◌, ◌↔◌, ◌∷◌, [], Some, is_some, IsTrue, count_by};
+ghost use Rattle.std.specs.Prelude.{◌≡◌, ◌↔◌, ◌∷◌, [], is_some, IsTrue, count_by};
 ghost use Rattle.std.specs.Option.{option_copied};
 ghost use Rattle.physical_stream.specs.Breaks.{BreaksHold};
 ghost use Rattle.physical_stream.specs.Counts.{transfers_of};
 ghost use Rattle.physical_stream.specs.Cycles.{IsShownBy, refused_in, waiting_of};
-ghost use Rattle.physical_stream.specs.Items.{is_active};
 ghost use Rattle.physical_stream.specs.Rules.{Binds};
 ghost use Rattle.physical_stream.specs.declared.rule.Rule.TheVariants.{Hold};
 ghost use Rattle.tydi_tool.specs.Survey.{Surveys};
 ghost use Rattle.tydi_tool.specs.Surveying.{IsFirstBroken, is_done, is_packet};
 ghost use Rattle.tydi_tool.specs.Trace.{cycle_of, cycles_of, is_plain};
 
+use crate::breaking::{is_active, shows};
 use crate::trace::{OwnRow, PlainTrace};
 use physical_stream::{Params, Rule, Transfer};
 
@@ -82,16 +82,6 @@ fn waiting(row: &OwnRow) -> Option<&Transfer>
     if row.ready { None } else { row.shown.as_ref() }
 }
 
-/// Whether this cycle shows this transfer.
-fn shows(row: &OwnRow, offered: &Transfer) -> bool
-    ensures { IsTrue result ↔ (row.now.shown ≡ Some offered.now) }
-{
-    match &row.shown {
-        None => false,
-        Some(shown) => shown.equals(offered),
-    }
-}
-
 /// Whether the last cycle offers a transfer that is not taken.
 fn is_waiting(rows: &[OwnRow]) -> bool
     ensures { result ≡ is_some (waiting_of (cycles_of rows.now)) }
@@ -133,11 +123,4 @@ fn is_packet(row: &OwnRow) -> bool
         None => false,
         Some(transfer) => row.ready && is_active(transfer),
     }
-}
-
-/// Whether lane 0 is active.
-fn is_active(transfer: &Transfer) -> bool
-    ensures { result ≡ is_active transfer.now 0 }
-{
-    transfer.strb % 2 == 1 && transfer.stai == 0
 }
