@@ -1,4 +1,4 @@
 pub mod FirstLemmas
-pub mod NarrowItems
+pub mod NarrowLemmas
 pub mod PlainLemmas
 pub mod TransferLemmas

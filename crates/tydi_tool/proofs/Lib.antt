@@ -1,4 +1,5 @@
 pub mod AnswerLemmas
+pub mod BreakingLemmas
 pub mod DeliveryLemmas
 pub mod LoadingLemmas
 pub mod ReplyLemmas

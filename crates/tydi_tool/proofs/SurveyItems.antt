@@ -19,7 +19,7 @@ use Rattle.physical_stream.specs.declared.item.Item.TheVariants as items
 use Rattle.physical_stream.specs.declared.item.Tail.{Tail}
 use Rattle.physical_stream.specs.declared.item.Tail.TheVariants as tails
 use Rattle.physical_stream.specs.declared.transfer.Transfer.{Transfer}
-use Rattle.physical_stream.proofs.NarrowItems.{narrow_items}
+use Rattle.physical_stream.proofs.NarrowLemmas.{narrow_items}
 use Rattle.tydi_tool.specs.Surveying.{IsNarrow, completes_packet, is_done, is_open, is_packet, tail_after, tail_after_transfer}
 use Rattle.tydi_tool.specs.Trace.{cycle_of, cycles_of}
 use Rattle.tydi_tool.specs.declared.trace.OwnRow.{OwnRow}
