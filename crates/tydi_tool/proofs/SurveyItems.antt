@@ -1,5 +1,5 @@
 -- One lane and at most one dimension: the tail after each cycle, how the stream ends, and its counts.
-use Rattle.std.proofs.Common.{◌≡◌, ◌∙◌, ◌+◌, ◌*◌, ◌<◌, ◌≤◌, ℕ, zero, suc, Bool, true, false, ◌==◌, ◌&&◌, ◌||◌, cond, if◌then◌else◌, List, [], ◌∷◌, ◌++◌, length, get_or, take, Option, None, Some, IfSome, is_some, count_by, refl, sym, ap, subst, arith, append_assoc}
+use Rattle.std.proofs.Common.{◌≡◌, ◌∙◌, ◌+◌, ◌*◌, ◌<◌, ◌≤◌, ℕ, zero, suc, Bool, true, false, ◌==◌, ◌&&◌, cond, if◌then◌else◌, List, [], ◌∷◌, ◌++◌, length, get_or, take, Option, None, Some, IfSome, is_some, count_by, refl, sym, ap, arith, append_assoc}
 use Rattle.std.specs.List.{slice_index_or}
 use Rattle.std.specs.Option.{option_map_or}
 use Rattle.std.proofs.lemmas.Grind.{flat_map-append}
@@ -8,11 +8,10 @@ use Rattle.std.proofs.lemmas.List.Sums.{sum_by-append, sum_by-cons}
 use Rattle.physical_stream.specs.Params.{Parameters}
 use Rattle.physical_stream.specs.Signals.{Shows}
 use Rattle.physical_stream.specs.Items.{is_active, items_of, items_of_all, lane_word}
-use Rattle.physical_stream.specs.Shape.{kind_of, tail_of, is_whole}
+use Rattle.physical_stream.specs.Shape.{kind_of, tail_of}
 use Rattle.physical_stream.specs.Cycles.{Cycle, IsShownBy, done_in, done_of, items_done, waiting_of}
 use Rattle.physical_stream.specs.Counts.{ends_packet, transfers_of, packets_of}
-use Rattle.physical_stream.specs.Ending.{ending_of, ending_after, unclosed}
-use Rattle.physical_stream.specs.declared.end.End.{End}
+use Rattle.physical_stream.specs.Ending.{ending_of, ending_after}
 use Rattle.physical_stream.specs.declared.end.End.TheVariants as ends
 use Rattle.physical_stream.specs.declared.item.Item.{Item}
 use Rattle.physical_stream.specs.declared.item.Item.TheVariants as items
@@ -20,7 +19,7 @@ use Rattle.physical_stream.specs.declared.item.Tail.{Tail}
 use Rattle.physical_stream.specs.declared.item.Tail.TheVariants as tails
 use Rattle.physical_stream.specs.declared.transfer.Transfer.{Transfer}
 use Rattle.physical_stream.proofs.NarrowLemmas.{narrow_items}
-use Rattle.tydi_tool.specs.Surveying.{IsNarrow, completes_packet, is_done, is_open, is_packet, tail_after, tail_after_transfer}
+use Rattle.tydi_tool.specs.Surveying.{IsNarrow, completes_packet, is_done, is_open, is_packet, tail_after}
 use Rattle.tydi_tool.specs.Trace.{cycle_of, cycles_of}
 use Rattle.tydi_tool.specs.declared.trace.OwnRow.{OwnRow}
 

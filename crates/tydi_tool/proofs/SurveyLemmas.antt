@@ -1,5 +1,5 @@
 -- The survey of a plain stream: its first broken cycle, and what that, the tail and the counts say of all rules.
-use Rattle.std.proofs.Common.{◌≡◌, ◌∙◌, ◌+◌, ◌<◌, ◌≤◌, inl, inr, ℕ, zero, suc, Bool, true, false, IsTrue, ◌==◌, ◌&&◌, nat_le, List, [], ◌∷◌, length, get_or, take, Option, None, Some, IfSome, is_some, Bor, slice_get, count_by, refl, sym, ap, subst, arith, length-take}
+use Rattle.std.proofs.Common.{◌≡◌, ◌∙◌, ◌+◌, ◌<◌, ◌≤◌, inl, inr, ℕ, zero, suc, true, false, IsTrue, List, [], ◌∷◌, length, get_or, take, Option, None, Some, IfSome, is_some, Bor, slice_get, count_by, refl, sym, ap, subst, arith, length-take}
 use Rattle.std.specs.Option.{option_copied}
 use Rattle.std.proofs.lemmas.Bool.{cases_lt}
 use Rattle.std.proofs.lemmas.List.{get_or-map, get_or-take, length-map, take_all}
@@ -11,8 +11,7 @@ use Rattle.physical_stream.specs.Cycles.{Cycle, StreamTrace, IsShownBy, items_do
 use Rattle.physical_stream.specs.Breaks.{Breaks, BreaksAfter}
 use Rattle.physical_stream.specs.Counts.{transfers_of, packets_of}
 use Rattle.physical_stream.specs.Ending.{ending_of}
-use Rattle.physical_stream.specs.First.{Offence, Offends, IsFirst, IsNotAfter}
-use Rattle.physical_stream.specs.Rules.{number_of_rule}
+use Rattle.physical_stream.specs.First.{Offence, Offends, IsNotAfter}
 use Rattle.physical_stream.specs.declared.end.End.{End}
 use Rattle.physical_stream.specs.declared.end.End.TheVariants as ends
 use Rattle.physical_stream.specs.declared.item.Tail.{Tail}

@@ -1,4 +1,4 @@
-use Rattle.std.proofs.Common.{◌≡◌, sym, subst, List}
+use Rattle.std.proofs.Common.{sym, subst, List}
 use Rattle.physical_stream.specs.Cycles.{IsShownBy}
 use Rattle.tydi_tool.specs.Survey.{Surveys}
 use Rattle.tydi_tool.specs.Trace.{cycles_of}
