@@ -1,3 +1,4 @@
 pub mod FirstLemmas
+pub mod NarrowLemmas
 pub mod PlainLemmas
 pub mod TransferLemmas

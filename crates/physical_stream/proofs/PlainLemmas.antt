@@ -59,23 +59,23 @@ elements_close_nothing word (i ∷ front) rest dim false e = cc
 -- ---- rules
 
 -- what a transfer of such a stream breaks, and no level at which its strobe bit is present
-no_index : (p : Parameters) (t : Transfer) → p.lanes ≡ 1 → Shows p t → BreaksIndex p t → ⊥
+pub no_index : (p : Parameters) (t : Transfer) → p.lanes ≡ 1 → Shows p t → BreaksIndex p t → ⊥
 no_index p t lanes shows (inl back) = omega (arith, stai_is_zero p t lanes shows)
 no_index p t lanes shows (inr over) = omega (arith, endi_is_zero p t lanes shows)
 
-no_lane_last : (p : Parameters) (t : Transfer) → p.lanes ≡ 1 → BreaksLaneLast p t → ⊥
+pub no_lane_last : (p : Parameters) (t : Transfer) → p.lanes ≡ 1 → BreaksLaneLast p t → ⊥
 no_lane_last p t lanes broken = omega (arith, broken.early)
 
-no_strobe : (p : Parameters) (t : Transfer) → p.lanes ≡ 1 → BreaksStrobe p t → ⊥
+pub no_strobe : (p : Parameters) (t : Transfer) → p.lanes ≡ 1 → BreaksStrobe p t → ⊥
 no_strobe p t lanes broken =
     let same : broken.one ≡ broken.other = omega (arith, broken.one_within, broken.other_within) in
     let differ : ◌≡◌ {A = ℕ} 1 0 = sym broken.one_set ∙ ap (bit_at t.strb) same ∙ broken.other_clear in
     cc
 
-no_start : (p : Parameters) (t : Transfer) → p.lanes ≡ 1 → Shows p t → BreaksStart t → ⊥
+pub no_start : (p : Parameters) (t : Transfer) → p.lanes ≡ 1 → Shows p t → BreaksStart t → ⊥
 no_start p t lanes shows broken = omega (arith, stai_is_zero p t lanes shows)
 
-no_end : (p : Parameters) (t : Transfer) → p.lanes ≡ 1 → Shows p t → BreaksEnd p t → ⊥
+pub no_end : (p : Parameters) (t : Transfer) → p.lanes ≡ 1 → Shows p t → BreaksEnd p t → ⊥
 no_end p t lanes shows broken = broken.0 (omega (arith, endi_is_zero p t lanes shows))
 
 -- at the levels without a strobe signal its one lane is active
@@ -96,7 +96,7 @@ no_nest : (p : Parameters) (t : Transfer) (done : List Item) → p.lanes ≡ 1 �
 no_nest p t done lanes dims broken =
     elements_close_nothing (lane_word p t 0) broken.front broken.rest broken.dim (is_active t 0) (sym (plain_items p t lanes dims) ∙ broken.splits)
 
-no_shown : (shown : Option Transfer) (P Q : Transfer → Type 0) → IfSome shown P → ((t : Transfer) → P t → Q t → ⊥) → OnShown Q shown → ⊥
+pub no_shown : (shown : Option Transfer) (P Q : Transfer → Type 0) → IfSome shown P → ((t : Transfer) → P t → Q t → ⊥) → OnShown Q shown → ⊥
 no_shown None P Q shows never broken = broken
 no_shown (Some t) P Q shows never broken = never t shows broken
 

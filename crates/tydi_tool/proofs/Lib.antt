@@ -1,8 +1,10 @@
 pub mod AnswerLemmas
+pub mod BreakingLemmas
 pub mod DeliveryLemmas
 pub mod LoadingLemmas
 pub mod ReplyLemmas
 pub mod RunLemmas
+pub mod SurveyItems
 pub mod SurveyLemmas
 pub mod RowLemmas
 pub mod ShownLemmas

@@ -1,5 +1,5 @@
 -- The trace of one plain stream, apart from where it lies in memory (this project's own).
-use Rattle.std.specs.Prelude.{Bool, ◌==◌, ◌&&◌, List, map, Option, Some, None}
+use Rattle.std.specs.Prelude.{Bool, ◌==◌, ◌&&◌, nat_le, List, map, Option, Some, None}
 use Rattle.physical_stream.specs.Params.{Parameters}
 use Rattle.physical_stream.specs.Cycles.{Cycle}
 use Rattle.physical_stream.specs.declared.head.Head.{Head}
@@ -10,9 +10,9 @@ use Rattle.tydi_tool.specs.declared.trace.PlainTrace.{PlainTrace}
 use Rattle.tydi_tool.specs.declared.trace.TraceError.{TraceError}
 use Rattle.tydi_tool.specs.declared.trace.TraceError.TheVariants as errors
 
--- a stream with one lane and no dimension
+-- one lane and at most one dimension
 abbrev pub is_plain : Parameters → Bool
-is_plain p = (p.lanes == 1) && (p.dims == 0)
+is_plain p = (p.lanes == 1) && nat_le p.dims 1
 
 -- a head, and the cycles of its stream
 pub record TraceText : Type 0 where

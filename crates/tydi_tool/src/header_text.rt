@@ -259,7 +259,7 @@ pub(crate) fn plain_head(heads: List<Head>) -> Result<Head, TraceError>
     let Some(head) = heads.pop() else {
         return Err(TraceError::Unsupported);
     };
-    if !heads.is_empty() || head.params.lanes != 1 || head.params.dims != 0 {
+    if !heads.is_empty() || head.params.lanes != 1 || head.params.dims > 1 {
         return Err(TraceError::Unsupported);
     }
     Ok(head)

@@ -2,6 +2,7 @@
 #![tactic(auto)]
 
 mod answer;
+mod breaking;
 mod commands;
 mod delivery;
 mod header_text;

@@ -10,7 +10,7 @@ pub enum Refusal {
     TooLong,
     /// The file is no trace.
     BadTrace,
-    /// The file has a trace's header, but not of one stream with one lane and no dimension.
+    /// The file has a trace's header, but not of one stream with one lane and at most one dimension.
     Unsupported,
 }
 

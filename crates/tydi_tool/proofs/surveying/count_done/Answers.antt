@@ -1,6 +1,6 @@
 use Rattle.std.proofs.Common.{◌≡◌, ◌∙◌, count_by, rules}
 use Rattle.tydi_tool.specs.Surveying.{is_done}
-use Rattle.tydi_tool.proofs.SurveyLemmas.{transfers_of-rows}
+use Rattle.tydi_tool.proofs.SurveyItems.{transfers_of-rows}
 use Rattle.tydi_tool.proofs.surveying.count_done.Goals as goal
 
 pub returns : goal.returns
