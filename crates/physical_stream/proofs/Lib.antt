@@ -2,3 +2,4 @@ pub mod FirstLemmas
 pub mod NarrowLemmas
 pub mod PlainLemmas
 pub mod TransferLemmas
+pub mod WidthLemmas

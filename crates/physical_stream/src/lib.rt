@@ -6,15 +6,19 @@
 mod end;
 mod head;
 mod item;
+mod lane;
 mod params;
 mod row;
 mod rule;
 mod transfer;
+mod width;
 
 pub use end::End;
 pub use head::{Head, Header};
 pub use item::{Item, Tail};
+pub use lane::is_active;
 pub use params::Params;
 pub use row::Row;
 pub use rule::Rule;
 pub use transfer::Transfer;
+pub use width::index_width;
