@@ -6,6 +6,7 @@
 mod end;
 mod head;
 mod item;
+mod items;
 mod lane;
 mod params;
 mod row;
@@ -16,6 +17,7 @@ mod width;
 pub use end::End;
 pub use head::{Head, Header};
 pub use item::{Item, Tail};
+pub use items::items_of;
 pub use lane::is_active;
 pub use params::Params;
 pub use row::Row;
