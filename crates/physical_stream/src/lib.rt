@@ -11,6 +11,8 @@ mod lane;
 mod params;
 mod row;
 mod rule;
+#[cfg(test)]
+mod tests;
 mod transfer;
 mod width;
 

@@ -5,6 +5,8 @@
 
 mod layout;
 mod signal;
+#[cfg(test)]
+mod tests;
 
 pub use layout::Signals;
 pub use signal::{Signal, SignalDefault, default_of};
