@@ -1,4 +1,4 @@
-ghost use Rattle.std.specs.Prelude.{◌≡◌, ◌-◌, ◌*◌, ◌↔◌, IsTrue, IfOk};
+ghost use Rattle.std.specs.Prelude.{◌≡◌, ◌-◌, ◌*◌, ◌↔◌, length, IsTrue, IfOk};
 ghost use Rattle.physical_stream.specs.Signals.{Fits};
 ghost use Rattle.tydi_base.specs.Bits.{zero_bits};
 
@@ -54,6 +54,21 @@ impl Transfer {
             && is_index(self.endi, p.lanes)
             && is_strobe(self.strb, p.lanes)
             && self.user.len() == p.user as usize
+    }
+
+    /// Becomes a copy of this transfer, whose words are as long as its own, as those of one stream are. It takes no memory.
+    pub fn copy_from(&mut self, from: &Transfer)
+        requires content { length self.old.content ≡ length from.now.content }
+        requires last { length self.old.last ≡ length from.now.last }
+        requires user { length self.old.user ≡ length from.now.user }
+        ensures { self.new ≡ from.now }
+    {
+        self.content.copy_from(&from.content);
+        self.last.copy_from(&from.last);
+        self.stai = from.stai;
+        self.endi = from.endi;
+        self.strb = from.strb;
+        self.user.copy_from(&from.user);
     }
 
     /// Whether it is the same in every signal.
