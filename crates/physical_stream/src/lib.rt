@@ -6,15 +6,23 @@
 mod end;
 mod head;
 mod item;
+mod items;
+mod lane;
 mod params;
 mod row;
 mod rule;
+#[cfg(test)]
+mod tests;
 mod transfer;
+mod width;
 
 pub use end::End;
 pub use head::{Head, Header};
 pub use item::{Item, Tail};
+pub use items::items_of;
+pub use lane::is_active;
 pub use params::Params;
 pub use row::Row;
 pub use rule::Rule;
 pub use transfer::Transfer;
+pub use width::index_width;

@@ -1,6 +1,11 @@
-ghost use Rattle.std.specs.Prelude.{◌≡◌, ◌↔◌, IsTrue};
+ghost use Rattle.std.specs.Prelude.{◌≡◌, ◌-◌, ◌*◌, ◌↔◌, length, IsTrue, IfOk};
+ghost use Rattle.physical_stream.specs.Signals.{Fits};
+ghost use Rattle.tydi_base.specs.Bits.{zero_bits};
 
-use tydi_base::Bits;
+use crate::params::Params;
+use crate::width::{is_index, is_strobe};
+use std::alloc::Global;
+use tydi_base::{Bits, Memory};
 
 /// The payload of one transfer: every signal of a stream but valid and ready (Tydi specification, physical streams).
 /// A signal that the stream lacks stands at its default.
@@ -20,6 +25,52 @@ pub struct Transfer {
 }
 
 impl Transfer {
+    /// The transfer of this stream that is zero in every signal but endi, which is the last lane.
+    pub fn zero(alloc: Global, p: &Params) -> Result<Transfer, Memory>
+        ensures { IfOk result (λ t. t ≡ record { content = zero_bits (p.now.lanes * p.now.element); last = zero_bits (p.now.lanes * p.now.dims); stai = 0; endi = p.now.lanes - 1; strb = 0; user = zero_bits p.now.user }) }
+    {
+        let lanes = usize::from(p.lanes);
+        let content = Bits::zeros(alloc, lanes * p.element as usize)?;
+        let last = Bits::zeros(alloc, lanes * usize::from(p.dims))?;
+        let user = Bits::zeros(alloc, p.user as usize)?;
+        Ok(Transfer {
+            content,
+            last,
+            stai: 0,
+            endi: p.lanes - 1,
+            strb: 0,
+            user,
+        })
+    }
+
+    /// Whether every signal has the width that the stream gives it, whether the stream has the signal or not.
+    pub fn fits(&self, p: &Params) -> bool
+        ensures { IsTrue result ↔ Fits p.now self.now }
+    {
+        let lanes = usize::from(p.lanes);
+        self.content.len() == lanes * p.element as usize
+            && self.last.len() == lanes * usize::from(p.dims)
+            && is_index(self.stai, p.lanes)
+            && is_index(self.endi, p.lanes)
+            && is_strobe(self.strb, p.lanes)
+            && self.user.len() == p.user as usize
+    }
+
+    /// Becomes a copy of this transfer, whose words are as long as its own, as those of one stream are. It takes no memory.
+    pub fn copy_from(&mut self, from: &Transfer)
+        requires content { length self.old.content ≡ length from.now.content }
+        requires last { length self.old.last ≡ length from.now.last }
+        requires user { length self.old.user ≡ length from.now.user }
+        ensures { self.new ≡ from.now }
+    {
+        self.content.copy_from(&from.content);
+        self.last.copy_from(&from.last);
+        self.stai = from.stai;
+        self.endi = from.endi;
+        self.strb = from.strb;
+        self.user.copy_from(&from.user);
+    }
+
     /// Whether it is the same in every signal.
     pub fn equals(&self, other: &Transfer) -> bool
         ensures { IsTrue result ↔ (self.now ≡ other.now) }

@@ -148,7 +148,7 @@ pub length_packed : (width : ℕ) (bytes : List ℕ) → IsPacked width bytes �
 length_packed width bytes packed = grind (arith, common_steps, length-unpack bytes, packed.room)
 
 -- the bits of a word and the zeros behind it
-packed_whole : (width : ℕ) (bytes : List ℕ)
+pub packed_whole : (width : ℕ) (bytes : List ℕ)
     → IsPacked width bytes
     → take width (unpack bytes) ++ zero_bits (8 * length bytes - width) ≡ unpack bytes
 packed_whole width bytes packed = rw (← packed.zeros) (take-append-drop width (unpack bytes))
@@ -467,3 +467,60 @@ put_view width index old new word bit packed word_is below written =
     let same : length new ≡ length old = length-put old new index bit written
     in rw (refill_whole old new same, written)
     (take_set width index (unpack old) bit ∙ ap (λ (bits : List Bool). set bits index bit) word_is)
+
+-- ---- a word in place of another as wide
+
+record AsWide (width other : ℕ) (a b : List ℕ) : Type 0 where
+  widths : width ≡ other
+  lengths : length a ≡ length b
+
+as_wide : (width other : ℕ) (a b : List ℕ) (word from : List Bool)
+    → IsPacked width a
+    → IsPacked other b
+    → take width (unpack a) ≡ word
+    → take other (unpack b) ≡ from
+    → length word ≡ length from
+    → AsWide width other a b
+as_wide width other a b word from packed_a packed_b word_is from_is same =
+    let wide : length word ≡ width = ap length (sym word_is) ∙ length_packed width a packed_a
+    in let wide_from : length from ≡ other = ap length (sym from_is) ∙ length_packed other b packed_b
+    in record {
+      widths = omega arith;
+      lengths = omega (arith, packed_a.room, packed_a.few, packed_b.room, packed_b.few);
+    }
+
+pub copy_lengths : (width other : ℕ) (a b : List ℕ) (word from : List Bool)
+    → IsPacked width a
+    → IsPacked other b
+    → take width (unpack a) ≡ word
+    → take other (unpack b) ≡ from
+    → length word ≡ length from
+    → length a ≡ length b
+copy_lengths width other a b word from packed_a packed_b word_is from_is same =
+    (as_wide width other a b word from packed_a packed_b word_is from_is same).lengths
+
+pub copy_packed : (width other : ℕ) (a b new : List ℕ) (word from : List Bool)
+    → IsPacked width a
+    → IsPacked other b
+    → take width (unpack a) ≡ word
+    → take other (unpack b) ≡ from
+    → length word ≡ length from
+    → new ≡ b
+    → IsPacked width (refill (length a) a new)
+copy_packed width other a b new word from packed_a packed_b word_is from_is same new_is =
+    let wide = as_wide width other a b word from packed_a packed_b word_is from_is same
+    in let long : length new ≡ length a = ap length new_is ∙ sym wide.lengths
+    in rw (refill_whole a new long, new_is, wide.widths) packed_b
+
+pub copy_view : (width other : ℕ) (a b new : List ℕ) (word from : List Bool)
+    → IsPacked width a
+    → IsPacked other b
+    → take width (unpack a) ≡ word
+    → take other (unpack b) ≡ from
+    → length word ≡ length from
+    → new ≡ b
+    → take width (unpack (refill (length a) a new)) ≡ from
+copy_view width other a b new word from packed_a packed_b word_is from_is same new_is =
+    let wide = as_wide width other a b word from packed_a packed_b word_is from_is same
+    in let long : length new ≡ length a = ap length new_is ∙ sym wide.lengths
+    in rw (refill_whole a new long, new_is, wide.widths) from_is

@@ -159,7 +159,7 @@ word_at-hex_of bits =
 
 -- ---- what is read is spelled so
 
-hex_of-append : (low : List Bool) (count : ℕ) (high : List Bool)
+pub hex_of-append : (low : List Bool) (count : ℕ) (high : List Bool)
     → length low ≡ 4 * count
     → hex_of (low ++ high) ≡ hex_of high ++ hex_of low
 unfolding hex_of
@@ -170,7 +170,7 @@ hex_of-append (a ∷ b ∷ c ∷ []) count high whole = absurd (omega arith)
 hex_of-append (a ∷ b ∷ c ∷ d ∷ low) count high whole =
     rw (hex_of-append low (count - 1) high (omega arith)) (append_assoc (hex_of high) (hex_of low) _)
 
-hex_of-nibble : (value : ℕ) → value < 16 → hex_of (bits_of 4 value) ≡ hex_digit value ∷ []
+pub hex_of-nibble : (value : ℕ) → value < 16 → hex_of (bits_of 4 value) ≡ hex_digit value ∷ []
 unfolding hex_of bits_of
 hex_of-nibble value below = ap (λ (number : ℕ). hex_digit number ∷ []) (number_of_bits-bits_of 4 value below)
 
@@ -195,7 +195,7 @@ hex_of-digits (digit ∷ digits) bits is_bits =
     )
 
 -- zeros above a word, less than a digit of them, are not spelled
-hex_of-padded : (bits : List Bool) (pad count : ℕ)
+pub hex_of-padded : (bits : List Bool) (pad count : ℕ)
     → pad < 4
     → length bits + pad ≡ 4 * count
     → hex_of (bits ++ zero_bits pad) ≡ hex_of bits

@@ -5,3 +5,5 @@ pub mod PathLaws
 pub mod PathLoops
 pub mod BitsLemmas
 pub mod HexLemmas
+pub mod NumberLemmas
+pub mod SpellingLemmas

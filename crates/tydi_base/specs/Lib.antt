@@ -1,5 +1,6 @@
 pub mod Bits
 pub mod Hex
+pub mod Numbers
 pub mod Level
 pub mod Reading
 pub mod Decimal

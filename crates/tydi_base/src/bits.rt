@@ -1,13 +1,16 @@
-ghost use Rattle.std.specs.Prelude.{◌≡◌, ◌↔◌, ◌+◌, ◌*◌, ◌/◌, ◌<◌, not, false, get_or, set, OnOk, OnErr, drop, length, IsTrue, IfOk};
+ghost use Rattle.std.specs.Prelude.{◌≡◌, ◌↔◌, ◌+◌, ◌*◌, ◌/◌, ◌<◌, not, false, get_or, set, drop, length, IsTrue, IfOk, OnOk, OnErr, ◌++◌};
 ghost use Rattle.std.proofs.Common.{rules};
 ghost use Rattle.std.proofs.Math.Bool.{beq};
 ghost use Rattle.std.specs.Cmp.Lexicographic.{pointwise};
 ghost use Rattle.std.specs.Cmp.Rules.{comparing};
 ghost use Rattle.tydi_base.specs.Bits.{bits_of, unpack, zero_bits};
-ghost use Rattle.tydi_base.specs.Hex.{fitted, no_ones, word_at};
+ghost use Rattle.tydi_base.specs.Hex.{fitted, hex_of, no_ones, word_at};
+ghost use Rattle.tydi_base.specs.Numbers.{number_below, word_of_number};
 
-use crate::hex::push_digits;
+use crate::hex::{push_digits, push_spelling};
+use crate::list::List;
 use crate::memory::Memory;
+use crate::numbers::{number_of, push_number};
 use smallvec::SmallVec;
 use std::alloc::Global;
 use std::marker::Model;
@@ -84,14 +87,44 @@ impl Bits {
         put_at(self.bytes.as_mut_slice(), index, bit);
     }
 
-    /// Becomes a copy of this word. After `Memory` it is as before.
-    pub fn copy_from(&mut self, other: &Bits) -> Result<(), Memory>
-        ensures ok { OnOk result (self.new ≡ other.now) }
-        ensures err { OnErr result (self.new ≡ self.old) }
+    /// Becomes a copy of this word, which is as wide. It takes no memory.
+    pub fn copy_from(&mut self, from: &Bits)
+        requires { length self.old ≡ length from.now }
+        ensures { self.new ≡ from.now }
     {
-        replace_bytes(&mut self.bytes, other.bytes.as_slice())?;
-        self.len = other.len;
-        Ok(())
+        let bytes = self.bytes.as_mut_slice();
+        bytes.copy_from_slice(from.bytes.as_slice());
+    }
+
+    /// The number that it spells. None exactly where a one stands at index 128 or above.
+    pub fn number(&self) -> Option<u128>
+        ensures { result ≡ number_below 128 self.now }
+    {
+        number_of(self.bytes.as_slice())
+    }
+
+    /// The word of this width that spells this number. None exactly where the number has a one at or above the width.
+    pub fn from_number(alloc: Global, width: usize, number: u128) -> Result<Option<Bits>, Memory>
+        ensures { IfOk result (λ made. made ≡ word_of_number width number) }
+    {
+        let count = width.div_ceil(8);
+        let mut bytes = SmallVec::with_capacity(alloc, count)?;
+        if push_number(number, count, &mut bytes) != 0 {
+            return Ok(None);
+        }
+        Ok(fitted(width, bytes))
+    }
+
+    /// Adds its hexadecimal at the end: a digit for each four bits, the highest first, in lower case. After `Memory` the
+    /// list is as before.
+    pub fn write_hex(&self, alloc: Global, out: &mut List<u8>) -> Result<(), Memory>
+        ensures ok { OnOk result (out.new ≡ out.old ++ hex_of self.now) }
+        ensures err { OnErr result (out.new ≡ out.old) }
+    {
+        let count = self.len.div_ceil(4);
+        let mut digits = SmallVec::with_capacity(alloc, count)?;
+        push_spelling(self.bytes.as_slice(), count, &mut digits);
+        out.extend_from_slice(digits.as_slice())
     }
 }
 
@@ -121,18 +154,6 @@ fn put_at(bytes: &mut [u8], index: usize, bit: bool)
     ensures { unpack bytes.new ≡ set (unpack bytes.old) index bit }
 {
     bytes[index / 8] = with_bit(bytes[index / 8], index % 8, bit);
-}
-
-// These bytes in place of those that stand there. After `Memory` they are as before.
-fn replace_bytes(bytes: &mut SmallVec<u8, 16>, others: &[u8]) -> Result<(), Memory>
-    ensures ok { OnOk result (bytes.new.items ≡ others.now) }
-    ensures err { OnErr result (bytes.new.items ≡ bytes.old.items) }
-{
-    let more = others.len().saturating_sub(bytes.len());
-    bytes.reserve(more)?;
-    bytes.clear();
-    bytes.extend_from_slice(others)?;
-    Ok(())
 }
 
 // Whether a one stands at or above this width in the bytes of a word.

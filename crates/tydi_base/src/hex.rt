@@ -1,7 +1,7 @@
-ghost use Rattle.std.specs.Prelude.{◌≡◌, ◌+◌, ◌-◌, ◌/◌, ◌<◌, [], ℕ, List, Bool, Some, None, length, MatchBool, IfSome, IsTrue};
+ghost use Rattle.std.specs.Prelude.{◌≡◌, ◌+◌, ◌-◌, ◌*◌, ◌/◌, ◌<◌, ◌≤◌, ◌++◌, take, [], ℕ, List, Bool, Some, None, length, MatchBool, IfSome, IsTrue};
 ghost use Rattle.smallvec.specs.SmallVec.{HasRoomFor};
-ghost use Rattle.tydi_base.specs.Bits.{unpack};
-ghost use Rattle.tydi_base.specs.Hex.{hex_of, digit_of, byte_of_digits, bits_of_digits, whole_bytes, word_at};
+ghost use Rattle.tydi_base.specs.Bits.{bits_of, unpack};
+ghost use Rattle.tydi_base.specs.Hex.{hex_digit, hex_of, digit_of, byte_of_digits, bits_of_digits, whole_bytes, word_at};
 
 use smallvec::SmallVec;
 
@@ -62,5 +62,42 @@ pub(crate) fn push_digits(digits: &[u8], bytes: &mut SmallVec<u8, 16>) -> bool
             true
         }
         None => false,
+    }
+}
+
+// The digit of this value, lower case.
+#[tactic(auto, unfolding(crate::specs::Hex::hex_digit))]
+fn hex_digit(value: u8) -> u8
+    requires { value < 16 }
+    ensures { result ≡ hex_digit value }
+{
+    if value < 10 {
+        b'0' + value
+    } else {
+        b'a' + (value - 10)
+    }
+}
+
+// The four bits at this place in bytes, counted in fours from the lowest.
+fn four_bits(bytes: &[u8], index: usize) -> u8
+    requires { index < 2 * length bytes.now }
+    ensures bits { take (4 * (index + 1)) (unpack bytes.now) ≡ take (4 * index) (unpack bytes.now) ++ bits_of 4 result }
+    ensures below { result < 16 }
+{
+    let byte = bytes[index / 2];
+    if index % 2 == 0 { byte % 16 } else { byte / 16 }
+}
+
+/// Spells bytes by this many digits, the highest first.
+pub(crate) fn push_spelling(bytes: &[u8], count: usize, digits: &mut SmallVec<u8, 32>)
+    requires within { count ≤ 2 * length bytes.now }
+    requires empty { digits.old.items ≡ [] }
+    requires room { HasRoomFor digits.old count }
+    ensures { digits.new.items ≡ hex_of (take (4 * count) (unpack bytes.now)) }
+{
+    let mut at = count;
+    'digits: while at > 0 {
+        at -= 1;
+        digits.push_reserved(hex_digit(four_bits(bytes, at)));
     }
 }

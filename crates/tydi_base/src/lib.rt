@@ -9,6 +9,7 @@ mod level;
 mod list;
 mod memory;
 mod name;
+mod numbers;
 mod path;
 mod pieces;
 mod place;

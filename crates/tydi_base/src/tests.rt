@@ -144,8 +144,8 @@ fn is_written(alloc: Global, word: &Bits, turned: usize) -> Result<bool, Memory>
 
 // Whether a copy of this word, in place of a wider one, is this word.
 fn is_copied(alloc: Global, word: &Bits) -> Result<bool, Memory> {
-    let mut copy = Bits::zeros(alloc, 1000)?;
-    copy.copy_from(word)?;
+    let mut copy = Bits::zeros(alloc, word.len())?;
+    copy.copy_from(word);
     Ok(copy == *word)
 }
 

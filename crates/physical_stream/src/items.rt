@@ -1,0 +1,115 @@
+//! The items that a transfer carries, lane by lane.
+
+ghost use Rattle.std.specs.Prelude.{◌≡◌, ◌<◌, ◌≤◌, ◌+◌, ◌^◌, ◌++◌, ◌∷◌, [], if◌then◌else◌, take, drop, length, IfOk, OnOk};
+ghost use Rattle.physical_stream.specs.Items.{items_of, lane_closes, lane_items, lane_word, last_bit};
+ghost use Rattle.physical_stream.specs.Signals.{Fits};
+ghost use Rattle.physical_stream.specs.declared.item.Item.TheVariants.{Close};
+
+use crate::item::Item;
+use crate::lane::is_active;
+use crate::params::Params;
+use crate::transfer::Transfer;
+use std::alloc::Global;
+use tydi_base::{Bits, List, Memory};
+
+/// The items of a transfer, lane by lane: a lane's element where it is active, and then the ends that it marks, ascending.
+pub fn items_of(alloc: Global, p: &Params, transfer: &Transfer) -> Result<List<Item>, Memory>
+    requires { Fits p.now transfer.now }
+    ensures { IfOk result (λ items. items ≡ items_of p.now transfer.now) }
+{
+    let mut items = List::new(alloc);
+    'lanes: for lane in 0..p.lanes {
+        push_lane(alloc, &mut items, p, transfer, lane)?;
+    }
+    Ok(items)
+}
+
+// Adds the items of this lane.
+fn push_lane(
+    alloc: Global,
+    items: &mut List<Item>,
+    p: &Params,
+    transfer: &Transfer,
+    lane: u16,
+) -> Result<(), Memory>
+    requires fits { Fits p.now transfer.now }
+    requires within { lane < p.now.lanes }
+    requires numbered { lane < 128 }
+    ensures { OnOk result (items.new ≡ items.old ++ lane_items p.now transfer.now lane) }
+{
+    if is_active(transfer, lane) {
+        let word = lane_word(alloc, p, transfer, lane)?;
+        items.push(Item::Elem(word))?;
+    }
+    push_closes(items, p, transfer, lane)
+}
+
+// The bits of this lane in the data signal.
+fn lane_word(alloc: Global, p: &Params, transfer: &Transfer, lane: u16) -> Result<Bits, Memory>
+    requires fits { Fits p.now transfer.now }
+    requires within { lane < p.now.lanes }
+    ensures { IfOk result (λ word. word ≡ lane_word p.now transfer.now lane) }
+{
+    let width = p.element as usize;
+    bits_from(alloc, &transfer.content, usize::from(lane) * width, width)
+}
+
+// So many bits of a word, from this place on.
+fn bits_from(alloc: Global, word: &Bits, from: usize, width: usize) -> Result<Bits, Memory>
+    requires within { from + width ≤ length word.now }
+    requires numbered { from + width < 2 ^ 64 }
+    ensures { IfOk result (λ bits. bits ≡ take width (drop from word.now)) }
+{
+    let mut bits = Bits::zeros(alloc, width)?;
+    'bits: for place in 0..width {
+        bits.put(place, word.get(from + place));
+    }
+    Ok(bits)
+}
+
+// Adds the ends of sequences that this lane marks, ascending.
+fn push_closes(
+    items: &mut List<Item>,
+    p: &Params,
+    transfer: &Transfer,
+    lane: u16,
+) -> Result<(), Memory>
+    requires fits { Fits p.now transfer.now }
+    requires within { lane < p.now.lanes }
+    ensures { OnOk result (items.new ≡ items.old ++ lane_closes p.now transfer.now lane) }
+{
+    'dims: for dim in 0..p.dims {
+        push_close(items, p, transfer, lane, dim)?;
+    }
+    Ok(())
+}
+
+// Adds the end of this dimension where this lane marks it.
+fn push_close(
+    items: &mut List<Item>,
+    p: &Params,
+    transfer: &Transfer,
+    lane: u16,
+    dim: u8,
+) -> Result<(), Memory>
+    requires fits { Fits p.now transfer.now }
+    requires within { lane < p.now.lanes }
+    requires in_lane { dim < p.now.dims }
+    ensures { OnOk result (items.new ≡ items.old ++ (if last_bit p.now transfer.now lane dim then Close dim ∷ [] else [])) }
+{
+    if last_bit(p, transfer, lane, dim) {
+        items.push(Item::Close(dim))?;
+    }
+    Ok(())
+}
+
+// The last bit of a dimension in a lane.
+fn last_bit(p: &Params, transfer: &Transfer, lane: u16, dim: u8) -> bool
+    requires fits { Fits p.now transfer.now }
+    requires within { lane < p.now.lanes }
+    requires in_lane { dim < p.now.dims }
+    ensures { result ≡ last_bit p.now transfer.now lane dim }
+{
+    let place = usize::from(lane) * usize::from(p.dims) + usize::from(dim);
+    transfer.last.get(place)
+}
