@@ -5,3 +5,4 @@ pub mod PathLaws
 pub mod PathLoops
 pub mod BitsLemmas
 pub mod HexLemmas
+pub mod FracLaws
