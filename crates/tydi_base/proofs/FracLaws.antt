@@ -1,11 +1,11 @@
 -- Fractions in lowest terms: each is reduced to one, and to one alone.
-use Rattle.std.proofs.Common.{◌≡◌, ℕ, zero, suc, ◌+◌, ◌*◌, ◌/◌, ◌%◌, ◌<◌, ◌≤◌, refl, sym, ap, subst, ◌∙◌, arith}
+use Rattle.std.proofs.Common.{◌≡◌, ℕ, zero, suc, ◌*◌, ◌/◌, ◌%◌, ◌<◌, ◌≤◌, refl, sym, ap, subst, ◌∙◌, arith}
 use Rattle.std.proofs.Math.Nat.{dvd_trans, dvd_antisymm, dvd-zero, one-dvd, one-mul, dvd-mul_left, dvd-mul_right, mul-dvd-mul_right, dvd_of_mul-dvd-mul_right, mul_comm, mul_assoc, mul_right_comm, mod-lt, div-mul_cancel, eq_of_mul-eq-mul_right, mul-pos}
 use Prim.Native.Nat.{◌∣◌}
 use Rattle.std.specs.Int.{IsGcd}
 use Rattle.std.proofs.lemmas.Nat.{le-div}
 use Rattle.std.proofs.lemmas.Nat.Gcd.{IsGcd-from_zero, IsGcd-from_mod, IsGcd-swap, le_of_dvd}
-use Rattle.tydi_base.specs.Frac.{Fraction, IsLowest, IsReduced, FitsWords}
+use Rattle.tydi_base.specs.Frac.{Fraction, IsReduced, FitsWords}
 
 -- any two numbers have a greatest common divisor
 gcd_below : (n a b : ℕ) → b < n → (g : ℕ) × IsGcd a b g
@@ -59,11 +59,15 @@ divided_value : (p q g num den : ℕ) → p * g ≡ num → q * g ≡ den → p 
 divided_value p q g num den one other = ap (λ (x : ℕ). p * x) (sym other ∙ mul_comm q g) ∙ sym (mul_assoc p g q) ∙ ap (λ (x : ℕ). x * q) one
 
 divided_lowest : (p q g num den : ℕ) → 0 < g → p * g ≡ num → q * g ≡ den → IsGcd num den g → IsGcd p q 1
-divided_lowest p q g num den pos one other greatest = (one-dvd p, one-dvd q, λ d in-p in-q.
-    let in-num : d * g ∣ num = subst (λ (x : ℕ). d * g ∣ x) one (mul-dvd-mul_right d in-p g) in
-    let in-den : d * g ∣ den = subst (λ (x : ℕ). d * g ∣ x) other (mul-dvd-mul_right d in-q g) in
-    let both : d * g ∣ g = greatest.2 (d * g) in-num in-den in
-    dvd_of_mul-dvd-mul_right d pos (subst (λ (x : ℕ). d * g ∣ x) (sym (one-mul g)) both))
+divided_lowest p q g num den pos one other greatest = (
+  one-dvd p,
+  one-dvd q,
+  λ d in-p in-q.
+      let in-num : d * g ∣ num = subst (λ (x : ℕ). d * g ∣ x) one (mul-dvd-mul_right d in-p g) in
+      let in-den : d * g ∣ den = subst (λ (x : ℕ). d * g ∣ x) other (mul-dvd-mul_right d in-q g) in
+      let both : d * g ∣ g = greatest.2 (d * g) in-num in-den in
+      dvd_of_mul-dvd-mul_right d pos (subst (λ (x : ℕ). d * g ∣ x) (sym (one-mul g)) both),
+)
 
 pub IsReduced-divided : (num den g : ℕ) → 1 ≤ den → 1 ≤ g → IsGcd num den g → IsReduced num den (record { num = num / g; den = den / g })
 IsReduced-divided num den g some pos greatest =

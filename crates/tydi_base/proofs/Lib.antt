@@ -1,6 +1,7 @@
 pub mod ReadingLaws
 pub mod DecimalLaws
 pub mod PieceLaws
+pub mod ColonLaws
 pub mod PathLaws
 pub mod PathLoops
 pub mod BitsLemmas

@@ -3,7 +3,12 @@
 ghost use Rattle.std.specs.Prelude.{◌≡◌, ◌≢◌, ◌↔◌, ◌*◌, ◌<◌, ◌≤◌, IsSome, IfSome, IfNone};
 ghost use Rattle.std.specs.Int.{IsGcd};
 ghost use Rattle.tydi_base.specs.Frac.{
-    Fraction, IsLowest, IsReduced, IsProduct, IsCeiling, FitsWords,
+  Fraction,
+  IsLowest,
+  IsReduced,
+  IsProduct,
+  IsCeiling,
+  FitsWords,
 };
 
 use std::marker::Model;

@@ -31,7 +31,6 @@ pub use place::Place;
 pub use text::Text;
 
 #[cfg(test)]
-mod reading_tests;
-
-#[cfg(test)]
 mod frac_tests;
+#[cfg(test)]
+mod reading_tests;
