@@ -1,9 +1,11 @@
 pub mod ReadingLaws
 pub mod DecimalLaws
 pub mod PieceLaws
+pub mod ColonLaws
 pub mod PathLaws
 pub mod PathLoops
 pub mod BitsLemmas
 pub mod HexLemmas
 pub mod NumberLemmas
 pub mod SpellingLemmas
+pub mod FracLaws

@@ -10,7 +10,8 @@ use Rattle.std.proofs.lemmas.Option.{cond_some}
 use Rattle.std.proofs.lemmas.Slice.Eq.{bytes_eq-Decides}
 use Rattle.tydi_base.specs.Name.{is_name, is_name_byte, begins_with_letter}
 use Rattle.tydi_base.specs.Pieces.{pieces_of, Lacks}
-use Rattle.tydi_base.specs.Path.{names_of, joined_path, split_path, PathsAreReadAsSpelled, PathsAreSpelledAsRead}
+use Rattle.tydi_base.specs.Path.{names_of, path_text, colon_pieces, colon_text, PathsAreReadAsSpelled, PathsAreSpelledAsRead, ColonPathsAreReadAsSpelled, ColonPathsAreSpelledAsRead}
+use Rattle.tydi_base.proofs.ColonLaws.{colon_pieces-join, join-colon_pieces, colon_pieces-some}
 use Rattle.tydi_base.proofs.PieceLaws.{pieces_of-join, join-pieces_of}
 
 -- what this page reads in a name
@@ -50,36 +51,43 @@ letter-join separator [] names e = absurd cc
 letter-join separator (byte ∷ bytes) [] e = e
 letter-join separator (byte ∷ bytes) (next ∷ names) e = e
 
-pub split_path-joined_path : (separator : ℕ) → is_name_byte separator ≡ false → (names : List (List ℕ)) → All (λ name. is_name name ≡ true) names → split_path separator (joined_path separator names) ≡ Some names
-split_path-joined_path separator no-byte [] each = refl
-split_path-joined_path separator no-byte (name ∷ names) each =
+pub path_of-path_text : PathsAreReadAsSpelled
+path_of-path_text [] each = refl
+path_of-path_text (name ∷ names) each =
     let first = is_name-to name (All-head (λ n. is_name n ≡ true) name names each) in
-    let text = join_with_byte separator (name ∷ names) in
-    let no-dash : bytes_eq text (45 ∷ []) ≡ false = letter-dash text (letter-join separator name names first.letter) in
-    let same : pieces_of separator text ≡ name ∷ names = pieces_of-join separator (name ∷ names) (omega arith) (names-lack separator (name ∷ names) no-byte each) in
+    let text = join_with_byte 46 (name ∷ names) in
+    let no-dash : bytes_eq text (45 ∷ []) ≡ false = letter-dash text (letter-join 46 name names first.letter) in
+    let same : pieces_of 46 text ≡ name ∷ names = pieces_of-join 46 (name ∷ names) (omega arith) (names-lack 46 (name ∷ names) refl each) in
     let all-names : list_all is_name (name ∷ names) ≡ true = list_all-from_AllPass is_name (name ∷ names) each in
     rw (no-dash, same, all-names) refl
 
-pub path_of-path_text : PathsAreReadAsSpelled
-path_of-path_text names each = split_path-joined_path 46 refl names each
-
 -- a joined text of some pieces is the text of the path of these
-joined_path-some : (separator : ℕ) (pieces : List (List ℕ)) → 0 < length pieces → joined_path separator pieces ≡ join_with_byte separator pieces
-joined_path-some separator [] some = absurd (omega arith)
-joined_path-some separator (piece ∷ pieces) some = refl
+path_text-some : (pieces : List (List ℕ)) → 0 < length pieces → path_text pieces ≡ join_with_byte 46 pieces
+path_text-some [] some = absurd (omega arith)
+path_text-some (piece ∷ pieces) some = refl
 
-by_dash : (separator : ℕ) (text : List ℕ) (names : List (List ℕ)) (dash : Bool) → bytes_eq text (45 ∷ []) ≡ dash → cond dash (Some []) (names_of separator text) ≡ Some names → (text ≡ joined_path separator names) × All (λ name. is_name name ≡ true) names
-by_dash separator text names true dash e =
+by_dash : (text : List ℕ) (names : List (List ℕ)) (dash : Bool) → bytes_eq text (45 ∷ []) ≡ dash → cond dash (Some []) (names_of false text) ≡ Some names → (text ≡ path_text names) × All (λ name. is_name name ≡ true) names
+by_dash text names true dash e =
     let none : [] ≡ names = grind arith in
     let is-dash : text ≡ 45 ∷ [] = (bytes_eq-Decides text (45 ∷ [])).0 dash in
     rw (← none) (is-dash, λ k d lt. absurd (omega arith))
-by_dash separator text names false dash e =
-    let parts = cond_some (list_all is_name (pieces_of separator text)) (pieces_of separator text) names e in
-    let some : 0 < length (pieces_of separator text) = omega (arith, length-slice_split (λ byte. eqb byte separator) text) in
-    rw (← parts.1) (sym (joined_path-some separator (pieces_of separator text) some ∙ join-pieces_of separator text), AllPass-from_list_all is_name (pieces_of separator text) parts.0)
-
-pub split_path-some : (separator : ℕ) (text : List ℕ) (names : List (List ℕ)) → split_path separator text ≡ Some names → (text ≡ joined_path separator names) × All (λ name. is_name name ≡ true) names
-split_path-some separator text names e = by_dash separator text names (bytes_eq text (45 ∷ [])) refl e
+by_dash text names false dash e =
+    let parts = cond_some (list_all is_name (pieces_of 46 text)) (pieces_of 46 text) names e in
+    let some : 0 < length (pieces_of 46 text) = omega (arith, length-slice_split (λ byte. eqb byte 46) text) in
+    rw (← parts.1) (sym (path_text-some (pieces_of 46 text) some ∙ join-pieces_of 46 text), AllPass-from_list_all is_name (pieces_of 46 text) parts.0)
 
 pub path_of-some : PathsAreSpelledAsRead
-path_of-some text names e = split_path-some 46 text names e
+path_of-some text names e = by_dash text names (bytes_eq text (45 ∷ [])) refl e
+
+-- ---- the same between `::`
+
+pub path_at-colon_text : ColonPathsAreReadAsSpelled
+path_at-colon_text names some each =
+    let same : colon_pieces (colon_text names) ≡ names = colon_pieces-join names some (names-lack 58 names refl each) in
+    let all-names : list_all is_name names ≡ true = list_all-from_AllPass is_name names each in
+    rw (same, all-names) refl
+
+pub path_at-colons_some : ColonPathsAreSpelledAsRead
+path_at-colons_some text names e =
+    let parts = cond_some (list_all is_name (colon_pieces text)) (colon_pieces text) names e in
+    rw (← parts.1) (sym (join-colon_pieces text), colon_pieces-some text, AllPass-from_list_all is_name (colon_pieces text) parts.0)

@@ -7,13 +7,12 @@ use Rattle.std.proofs.lemmas.List.Folds.{list_all-append}
 use Rattle.std.proofs.lemmas.Option.{cond_some}
 use Rattle.std.proofs.Math.Seq.{take-length}
 use Rattle.tydi_base.specs.Name.{is_name, name_of}
-use Rattle.tydi_base.specs.Pieces.{pieces_of}
-use Rattle.tydi_base.specs.Path.{names_of, joined_path}
+use Rattle.tydi_base.specs.Path.{path_pieces, names_of, spelled_path, separator_of}
 
 -- ---- reading: the pieces of the text are the names so far and the pieces of the rest
 
-pub record Reads (separator : ℕ) (text : List ℕ) (names : List (List ℕ)) (rest : List ℕ) : Type 0 where
-  pub whole : pieces_of separator text ≡ names ++ pieces_of separator rest
+pub record Reads (colons : Bool) (text : List ℕ) (names : List (List ℕ)) (rest : List ℕ) : Type 0 where
+  pub whole : path_pieces colons text ≡ names ++ path_pieces colons rest
   pub each : list_all is_name names ≡ true
 
 none_of : (b : Bool) (x : List ℕ) → cond b (Some x) None ≡ None → b ≡ false
@@ -31,43 +30,48 @@ name_of-some : (piece name : List ℕ) → name_of piece ≡ Some name → (is_n
 name_of-some piece name e = cond_some (is_name piece) piece name e
 
 -- a piece that is no name
-names_of-no_name : (separator : ℕ) (text : List ℕ) (front : List (List ℕ)) (piece : List ℕ) (pieces : List (List ℕ)) → pieces_of separator text ≡ front ++ piece ∷ pieces → name_of piece ≡ None → names_of separator text ≡ None
-names_of-no_name separator text front piece pieces whole e =
+names_of-no_name : (colons : Bool) (text : List ℕ) (front : List (List ℕ)) (piece : List ℕ) (pieces : List (List ℕ)) → path_pieces colons text ≡ front ++ piece ∷ pieces → name_of piece ≡ None → names_of colons text ≡ None
+names_of-no_name colons text front piece pieces whole e =
     let no-name = name_of-none piece e in
     let parts = list_all-append is_name front (piece ∷ pieces) in
-    let none : list_all is_name (pieces_of separator text) ≡ false = rw (whole, parts, no-name) (and_false (list_all is_name front)) in
+    let none : list_all is_name (path_pieces colons text) ≡ false = rw (whole, parts, no-name) (and_false (list_all is_name front)) in
     rw none refl
 
-pub Reads-no_name : (separator : ℕ) (text : List ℕ) (names : List (List ℕ)) (rest piece after : List ℕ) → Reads separator text names rest → pieces_of separator rest ≡ piece ∷ pieces_of separator after → name_of piece ≡ None → names_of separator text ≡ None
-Reads-no_name separator text names rest piece after h first e =
-    names_of-no_name separator text names piece (pieces_of separator after) (h.whole ∙ ap (λ (pieces : List (List ℕ)). names ++ pieces) first) e
+pub Reads-no_name : (colons : Bool) (text : List ℕ) (names : List (List ℕ)) (rest piece after : List ℕ) → Reads colons text names rest → path_pieces colons rest ≡ piece ∷ path_pieces colons after → name_of piece ≡ None → names_of colons text ≡ None
+Reads-no_name colons text names rest piece after h first e =
+    names_of-no_name colons text names piece (path_pieces colons after) (h.whole ∙ ap (λ (pieces : List (List ℕ)). names ++ pieces) first) e
 
-pub Reads-no_last : (separator : ℕ) (text : List ℕ) (names : List (List ℕ)) (rest : List ℕ) → Reads separator text names rest → pieces_of separator rest ≡ rest ∷ [] → name_of rest ≡ None → names_of separator text ≡ None
-Reads-no_last separator text names rest h last e =
-    names_of-no_name separator text names rest [] (h.whole ∙ ap (λ (pieces : List (List ℕ)). names ++ pieces) last) e
+pub Reads-no_last : (colons : Bool) (text : List ℕ) (names : List (List ℕ)) (rest : List ℕ) → Reads colons text names rest → path_pieces colons rest ≡ rest ∷ [] → name_of rest ≡ None → names_of colons text ≡ None
+Reads-no_last colons text names rest h last e =
+    names_of-no_name colons text names rest [] (h.whole ∙ ap (λ (pieces : List (List ℕ)). names ++ pieces) last) e
+
+pub names_of-some : (colons : Bool) (text : List ℕ) (names : List (List ℕ)) → names_of colons text ≡ Some names → list_all is_name names ≡ true
+names_of-some colons text names e =
+    let parts = cond_some (list_all is_name (path_pieces colons text)) (path_pieces colons text) names e in
+    rw (← parts.1) parts.0
 
 -- one more name
 more_names : (names : List (List ℕ)) (name : List ℕ) → list_all is_name names ≡ true → is_name name ≡ true → list_all is_name (names ++ name ∷ []) ≡ true
 more_names names name each is = rw (list_all-append is_name names (name ∷ []), each, is) refl
 
-pub Reads-more : (separator : ℕ) (text : List ℕ) (names : List (List ℕ)) (rest piece after name : List ℕ) → Reads separator text names rest → pieces_of separator rest ≡ piece ∷ pieces_of separator after → name_of piece ≡ Some name → Reads separator text (names ++ name ∷ []) after
-Reads-more separator text names rest piece after name h first e =
+pub Reads-more : (colons : Bool) (text : List ℕ) (names : List (List ℕ)) (rest piece after name : List ℕ) → Reads colons text names rest → path_pieces colons rest ≡ piece ∷ path_pieces colons after → name_of piece ≡ Some name → Reads colons text (names ++ name ∷ []) after
+Reads-more colons text names rest piece after name h first e =
     let parts = name_of-some piece name e in
     let is : is_name name ≡ true = rw (← parts.1) parts.0 in
-    let split : pieces_of separator text ≡ names ++ name ∷ pieces_of separator after = rw (← parts.1) (h.whole ∙ ap (λ (pieces : List (List ℕ)). names ++ pieces) first) in
-    record { whole = split ∙ sym (append_assoc names (name ∷ []) (pieces_of separator after)); each = more_names names name h.each is }
+    let split : path_pieces colons text ≡ names ++ name ∷ path_pieces colons after = rw (← parts.1) (h.whole ∙ ap (λ (pieces : List (List ℕ)). names ++ pieces) first) in
+    record { whole = split ∙ sym (append_assoc names (name ∷ []) (path_pieces colons after)); each = more_names names name h.each is }
 
-pub Reads-last : (separator : ℕ) (text : List ℕ) (names : List (List ℕ)) (rest name : List ℕ) → Reads separator text names rest → pieces_of separator rest ≡ rest ∷ [] → name_of rest ≡ Some name → Some (names ++ name ∷ []) ≡ names_of separator text
-Reads-last separator text names rest name h last e =
+pub Reads-last : (colons : Bool) (text : List ℕ) (names : List (List ℕ)) (rest name : List ℕ) → Reads colons text names rest → path_pieces colons rest ≡ rest ∷ [] → name_of rest ≡ Some name → Some (names ++ name ∷ []) ≡ names_of colons text
+Reads-last colons text names rest name h last e =
     let parts = name_of-some rest name e in
     let is : is_name name ≡ true = rw (← parts.1) parts.0 in
-    let split : pieces_of separator text ≡ names ++ name ∷ [] = rw (← parts.1) (h.whole ∙ ap (λ (pieces : List (List ℕ)). names ++ pieces) last) in
+    let split : path_pieces colons text ≡ names ++ name ∷ [] = rw (← parts.1) (h.whole ∙ ap (λ (pieces : List (List ℕ)). names ++ pieces) last) in
     rw (split, more_names names name h.each is) refl
 
 -- ---- writing: what is written and what is left are the whole text, and what stood there before still stands
 
-pub record Writes (separator : ℕ) (before : List ℕ) (names : List (List ℕ)) (out : List ℕ) (left : List (List ℕ)) : Type 0 where
-  pub whole : out ++ flat_map (λ name. separator ∷ name) left ≡ before ++ joined_path separator names
+pub record Writes (colons : Bool) (before : List ℕ) (names : List (List ℕ)) (out : List ℕ) (left : List (List ℕ)) : Type 0 where
+  pub whole : out ++ flat_map (λ name. separator_of colons ++ name) left ≡ before ++ spelled_path colons names
   pub kept : take (length before) out ≡ before
 
 pub kept-append : (before out more : List ℕ) → take (length before) out ≡ before → take (length before) (out ++ more) ≡ before
@@ -86,25 +90,30 @@ join-flat_map separator name [] = sym (append-nil name)
 join-flat_map separator name (next ∷ names) =
     ap (λ (tail : List ℕ). name ++ separator ∷ tail) (join-flat_map separator next names) ∙ sym (ap (λ (tail : List ℕ). name ++ tail) (flat_map-cons (λ (n : List ℕ). separator ∷ n) next names))
 
-pub Writes-first : (separator : ℕ) (before : List ℕ) (names : List (List ℕ)) (name : List ℕ) (others : List (List ℕ)) → names ≡ name ∷ others → Writes separator before names (before ++ name) others
-Writes-first separator before names name others e = record {
-  whole = rw e (append_assoc before name (flat_map (λ n. separator ∷ n) others) ∙ sym (ap (λ (tail : List ℕ). before ++ tail) (join-flat_map separator name others)));
+-- the first name, and before each of the others a separator
+spelled_path-cons : (colons : Bool) (name : List ℕ) (names : List (List ℕ)) → spelled_path colons (name ∷ names) ≡ name ++ flat_map (λ n. separator_of colons ++ n) names
+spelled_path-cons true name names = refl
+spelled_path-cons false name names = join-flat_map 46 name names
+
+pub Writes-first : (colons : Bool) (before : List ℕ) (names : List (List ℕ)) (name : List ℕ) (others : List (List ℕ)) → names ≡ name ∷ others → Writes colons before names (before ++ name) others
+Writes-first colons before names name others e = record {
+  whole = rw e (append_assoc before name (flat_map (λ n. separator_of colons ++ n) others) ∙ sym (ap (λ (tail : List ℕ). before ++ tail) (spelled_path-cons colons name others)));
   kept = kept-append before before name (take-length before);
 }
 
 -- the others are as `[first, others @ ..]` reads
-pub Writes-init : (separator : ℕ) (before : List ℕ) (names : List (List ℕ)) (out name : List ℕ) → 1 ≤ length names → name ≡ get_or names 0 name → out ≡ before ++ name → Writes separator before names out (take (length names - 1) (drop 1 names))
-Writes-init separator before [] out name some first e = absurd (omega arith)
-Writes-init separator before (other ∷ others) out name some first e =
+pub Writes-init : (colons : Bool) (before : List ℕ) (names : List (List ℕ)) (out name : List ℕ) → 1 ≤ length names → name ≡ get_or names 0 name → out ≡ before ++ name → Writes colons before names out (take (length names - 1) (drop 1 names))
+Writes-init colons before [] out name some first e = absurd (omega arith)
+Writes-init colons before (other ∷ others) out name some first e =
     let rest : take (length (other ∷ others) - 1) (drop 1 (other ∷ others)) ≡ others = take_rest (other ∷ others) 1 in
     let same : other ∷ others ≡ name ∷ others = rw (← first) refl in
-    rw (rest, e) (Writes-first separator before (other ∷ others) name others same)
+    rw (rest, e) (Writes-first colons before (other ∷ others) name others same)
 
-pub Writes-more : (separator : ℕ) (before : List ℕ) (names : List (List ℕ)) (out name : List ℕ) (left : List (List ℕ)) → Writes separator before names out (name ∷ left) → Writes separator before names (out ++ separator ∷ name) left
-Writes-more separator before names out name left h = record {
-  whole = append_assoc out (separator ∷ name) (flat_map (λ n. separator ∷ n) left) ∙ sym (ap (λ (tail : List ℕ). out ++ tail) (flat_map-cons (λ (n : List ℕ). separator ∷ n) name left)) ∙ h.whole;
-  kept = kept-append before out (separator ∷ name) h.kept;
+pub Writes-more : (colons : Bool) (before : List ℕ) (names : List (List ℕ)) (out name : List ℕ) (left : List (List ℕ)) → Writes colons before names out (name ∷ left) → Writes colons before names (out ++ (separator_of colons ++ name)) left
+Writes-more colons before names out name left h = record {
+  whole = append_assoc out (separator_of colons ++ name) (flat_map (λ n. separator_of colons ++ n) left) ∙ sym (ap (λ (tail : List ℕ). out ++ tail) (flat_map-cons (λ (n : List ℕ). separator_of colons ++ n) name left)) ∙ h.whole;
+  kept = kept-append before out (separator_of colons ++ name) h.kept;
 }
 
-pub Writes-done : (separator : ℕ) (before : List ℕ) (names : List (List ℕ)) (out : List ℕ) → Writes separator before names out [] → out ≡ before ++ joined_path separator names
-Writes-done separator before names out h = sym (append-nil out) ∙ h.whole
+pub Writes-done : (colons : Bool) (before : List ℕ) (names : List (List ℕ)) (out : List ℕ) → Writes colons before names out [] → out ≡ before ++ spelled_path colons names
+Writes-done colons before names out h = sym (append-nil out) ∙ h.whole

@@ -7,3 +7,4 @@ pub mod Decimal
 pub mod Pieces
 pub mod Name
 pub mod Path
+pub mod Frac

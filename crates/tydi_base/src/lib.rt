@@ -4,6 +4,7 @@
 
 mod bits;
 mod decimal;
+mod frac;
 mod hex;
 mod level;
 mod list;
@@ -19,6 +20,7 @@ mod text;
 
 pub use bits::Bits;
 pub use decimal::{decimals_are_read_as_spelled, read_decimal, write_decimal};
+pub use frac::Frac;
 pub use hex::hexadecimal_is_read_as_spelled;
 pub use level::Level;
 pub use list::List;
@@ -29,5 +31,7 @@ pub use pieces::{first_piece, pieces_are_parts};
 pub use place::Place;
 pub use text::Text;
 
+#[cfg(test)]
+mod frac_tests;
 #[cfg(test)]
 mod reading_tests;

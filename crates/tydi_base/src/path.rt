@@ -1,6 +1,22 @@
-//! Paths, and their texts with `.` between the names.
+//! Paths, and their texts with `.` or with `::` between the names.
 
-ghost use Rattle.std.specs.Prelude.{◌≡◌, ◌++◌, ◌∷◌, IsTrue, IfOk, OnOk, OnErr, All, take, length};
+ghost use Rattle.std.specs.Prelude.{
+  ◌≡◌,
+  ◌<◌,
+  ◌≤◌,
+  ◌++◌,
+  [],
+  ◌∷◌,
+  IsTrue,
+  IfOk,
+  IfSome,
+  IfNone,
+  OnOk,
+  OnErr,
+  All,
+  take,
+  length,
+};
 ghost use Rattle.tydi_base.specs.Name.{is_name};
 ghost use Rattle.tydi_base.specs.Path as spec;
 
@@ -30,20 +46,42 @@ impl Model for Path {
 }
 
 impl Path {
-    /// The path that a text spells, with `.` between the names, or `-` for the empty path. `Ok(None)` exactly where it
-    /// spells none.
-    pub fn read_dotted(alloc: Global, text: &[u8]) -> Result<Option<Path>, Memory>
-        ensures { IfOk result (λ found. found ≡ spec.path_of text.now) }
+    /// The path that a text spells: the names between `::` where `colons` is true, else the names between `.`, where `-`
+    /// is the empty path. `Ok(None)` exactly where it spells none. With `::` no text spells the empty path.
+    pub fn read(alloc: Global, text: &[u8], colons: bool) -> Result<Option<Path>, Memory>
+        ensures { IfOk result (λ found. found ≡ spec.path_at colons text.now) }
     {
-        if text == b"-".as_slice() {
+        if !colons && text == b"-".as_slice() {
             return Ok(Some(Path {
                 names: List::new(alloc),
             }));
         }
-        match read_names(alloc, text, b'.')? {
+        match read_names(alloc, text, colons)? {
             None => Ok(None),
             Some(names) => Ok(Some(Path { names })),
         }
+    }
+
+    /// The path that a text spells with `.` between the names, or with `-` for the empty path. `Ok(None)` exactly where
+    /// it spells none.
+    pub fn read_dotted(alloc: Global, text: &[u8]) -> Result<Option<Path>, Memory>
+        ensures { IfOk result (λ found. found ≡ spec.path_of text.now) }
+    {
+        Path::read(alloc, text, false)
+    }
+
+    /// Adds the text of the path at the end, with `::` between the names where `colons` is true, else with `.`. The empty
+    /// path is `-`. After `Memory` the list is as before.
+    pub fn write(&self, colons: bool, out: &mut List<u8>) -> Result<(), Memory>
+        ensures ok { OnOk result (out.new ≡ out.old ++ spec.spelled_path colons self.now) }
+        ensures err { OnErr result (out.new ≡ out.old) }
+    {
+        let len = out.len();
+        let written = push_names(self.names.as_slice(), colons, out);
+        if written.is_err() {
+            out.truncate(len);
+        }
+        written
     }
 
     /// Adds the text of the path at the end, with `.` between the names. After `Memory` the list is as before.
@@ -51,12 +89,7 @@ impl Path {
         ensures ok { OnOk result (out.new ≡ out.old ++ spec.path_text self.now) }
         ensures err { OnErr result (out.new ≡ out.old) }
     {
-        let len = out.len();
-        let written = push_names(self.names.as_slice(), b'.', out);
-        if written.is_err() {
-            out.truncate(len);
-        }
-        written
+        self.write(false, out)
     }
 
     /// Its names, from the outermost on.
@@ -72,15 +105,17 @@ impl Path {
 pub fn paths_are_read_as_spelled()
     ensures spelled { spec.PathsAreReadAsSpelled }
     ensures read { spec.PathsAreSpelledAsRead }
+    ensures spelled_with_colons { spec.ColonPathsAreReadAsSpelled }
+    ensures read_with_colons { spec.ColonPathsAreSpelledAsRead }
 {}
 
 /// The names between the separators of a text. `Ok(None)` exactly where a piece is no name.
-fn read_names(alloc: Global, text: &[u8], separator: u8) -> Result<Option<List<Name>>, Memory>
-    ensures { IfOk result (λ found. found ≡ spec.names_of separator text.now) }
+fn read_names(alloc: Global, text: &[u8], colons: bool) -> Result<Option<List<Name>>, Memory>
+    ensures { IfOk result (λ found. found ≡ spec.names_of colons text.now) }
 {
     let mut names = List::new(alloc);
     let mut rest = text;
-    while let Some((piece, after)) = first_piece(rest, separator) {
+    while let Some((piece, after)) = path_piece(rest, colons) {
         let Some(name) = Name::read(alloc, piece)? else {
             return Ok(None);
         };
@@ -94,9 +129,46 @@ fn read_names(alloc: Global, text: &[u8], separator: u8) -> Result<Option<List<N
     Ok(Some(names))
 }
 
+/// The text up to its first separator, and what follows that. None exactly where it has none.
+fn path_piece(text: &[u8], colons: bool) -> Option<(&[u8], &[u8])>
+    ensures some { IfSome result (λ parts. spec.path_pieces colons text.now ≡ parts.0.now ∷ spec.path_pieces colons parts.1.now) }
+    ensures shorter { IfSome result (λ parts. length parts.1.now < length text.now) }
+    ensures none { IfNone result (spec.path_pieces colons text.now ≡ text.now ∷ []) }
+{
+    if colons {
+        first_colon_piece(text)
+    } else {
+        first_piece(text, b'.')
+    }
+}
+
+/// The text up to its first `::`, and what follows that. None exactly where it has none.
+fn first_colon_piece(text: &[u8]) -> Option<(&[u8], &[u8])>
+    ensures some { IfSome result (λ parts. spec.colon_pieces text.now ≡ parts.0.now ∷ spec.colon_pieces parts.1.now) }
+    ensures shorter { IfSome result (λ parts. length parts.1.now < length text.now) }
+    ensures none { IfNone result (spec.colon_pieces text.now ≡ text.now ∷ []) }
+{
+    for at in 0..text.len() {
+        if begins_with_colons(&text[at..]) {
+            return Some((&text[..at], &text[at + 2..]));
+        }
+    }
+    None
+}
+
+fn begins_with_colons(text: &[u8]) -> bool
+    ensures value { result ≡ spec.begins_with_colons text.now }
+    ensures long { IsTrue result → 2 ≤ length text.now }
+{
+    match text {
+        [b':', b':', ..] => true,
+        _ => false,
+    }
+}
+
 /// Adds the text of these names. After `Memory` some of it may stand at the end.
-fn push_names(names: &[Name], separator: u8, out: &mut List<u8>) -> Result<(), Memory>
-    ensures ok { OnOk result (out.new ≡ out.old ++ spec.joined_path separator names.now) }
+fn push_names(names: &[Name], colons: bool, out: &mut List<u8>) -> Result<(), Memory>
+    ensures ok { OnOk result (out.new ≡ out.old ++ spec.spelled_path colons names.now) }
     ensures err { OnErr result (take (length out.old) out.new ≡ out.old) }
 {
     let [first, others @ ..] = names else {
@@ -104,16 +176,26 @@ fn push_names(names: &[Name], separator: u8, out: &mut List<u8>) -> Result<(), M
     };
     out.extend_from_slice(first.as_bytes())?;
     for name in others {
-        push_name(name, separator, out)?;
+        push_name(name, colons, out)?;
     }
     Ok(())
 }
 
 /// Adds the separator and a name. After `Memory` the separator may stand at the end.
-fn push_name(name: &Name, separator: u8, out: &mut List<u8>) -> Result<(), Memory>
-    ensures ok { OnOk result (out.new ≡ out.old ++ separator ∷ name.now) }
+fn push_name(name: &Name, colons: bool, out: &mut List<u8>) -> Result<(), Memory>
+    ensures ok { OnOk result (out.new ≡ out.old ++ (spec.separator_of colons ++ name.now)) }
     ensures err { OnErr result (take (length out.old) out.new ≡ out.old) }
 {
-    out.push(separator)?;
+    out.extend_from_slice(separator(colons))?;
     out.extend_from_slice(name.as_bytes())
+}
+
+fn separator(colons: bool) -> &'static [u8]
+    ensures { result.now ≡ spec.separator_of colons }
+{
+    if colons {
+        b"::".as_slice()
+    } else {
+        b".".as_slice()
+    }
 }

@@ -64,19 +64,20 @@ fn names_are_told(rt: HostRuntime) -> Result<(), Fail> {
 
 #[test]
 fn paths_are_read_and_written(rt: HostRuntime) -> Result<(), Fail> {
-    for (text, names) in [
-        (b"-".as_slice(), 0),
-        (b"a", 1),
-        (b"a.b", 2),
-        (b"a.b_c.d", 3),
+    for (text, colons, names) in [
+        (b"-".as_slice(), false, 0),
+        (b"a", false, 1),
+        (b"a.b_c.d", false, 3),
+        (b"a", true, 1),
+        (b"a::b", true, 2),
     ] {
-        let path = Path::read_dotted(rt.alloc(), text)
+        let path = Path::read(rt.alloc(), text, colons)
             .ok()
             .ok_or("memory")?
             .ok_or("a path")?;
         assert_eq!(rt; path.names().len(), names);
         let mut out = List::new(rt.alloc());
-        path.write_dotted(&mut out).ok().ok_or("memory")?;
+        path.write(colons, &mut out).ok().ok_or("memory")?;
         assert_eq!(rt; out.as_slice(), text);
     }
     for text in [
@@ -88,8 +89,31 @@ fn paths_are_read_and_written(rt: HostRuntime) -> Result<(), Fail> {
         b"a::b",
         b"--",
     ] {
-        assert!(rt; matches!(Path::read_dotted(rt.alloc(), text), Ok(None)));
+        assert!(rt; matches!(Path::read(rt.alloc(), text, false), Ok(None)));
     }
+    for text in [
+        b"".as_slice(),
+        b"-",
+        b"a:b",
+        b"a::",
+        b"::a",
+        b"a:::b",
+        b"a.b",
+    ] {
+        assert!(rt; matches!(Path::read(rt.alloc(), text, true), Ok(None)));
+    }
+    Ok(())
+}
+
+#[test]
+fn dotted_paths_are_read_and_written(rt: HostRuntime) -> Result<(), Fail> {
+    let path = Path::read_dotted(rt.alloc(), b"a.b")
+        .ok()
+        .ok_or("memory")?
+        .ok_or("a path")?;
+    let mut out = List::new(rt.alloc());
+    path.write_dotted(&mut out).ok().ok_or("memory")?;
+    assert_eq!(rt; out.as_slice(), b"a.b".as_slice());
     Ok(())
 }
 
