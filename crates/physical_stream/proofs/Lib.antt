@@ -1,6 +1,6 @@
 pub mod FirstLemmas
 pub mod ItemsLemmas
 pub mod NarrowLemmas
-pub mod PlainLemmas
+pub mod OneLaneLemmas
 pub mod TransferLemmas
 pub mod WidthLemmas

@@ -17,7 +17,7 @@ use Rattle.physical_stream.specs.declared.item.Tail.{Tail}
 use Rattle.physical_stream.specs.declared.item.Tail.TheVariants as tails
 use Rattle.physical_stream.specs.declared.rule.Rule.{Rule}
 use Rattle.physical_stream.specs.declared.rule.Rule.TheVariants.{Hold, Index, LaneLast, Strobe, Start, End, Empty, InnerPause, OuterPause, Nest, Tag}
-use Rattle.physical_stream.proofs.PlainLemmas.{no_index, no_lane_last, no_strobe, no_start, no_end, no_shown}
+use Rattle.physical_stream.proofs.OneLaneLemmas.{no_index, no_lane_last, no_strobe, no_start, no_end, no_shown}
 
 -- ---- items
 

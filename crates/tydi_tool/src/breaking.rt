@@ -53,7 +53,7 @@ fn breaks_hold(p: &Params, waiting: Option<&Transfer>, now: &OwnRow) -> bool
 }
 
 /// Whether this cycle shows this transfer.
-pub(crate) fn shows(row: &OwnRow, offered: &Transfer) -> bool
+fn shows(row: &OwnRow, offered: &Transfer) -> bool
     ensures { IsTrue result ↔ (row.now.shown ≡ Some offered.now) }
 {
     match &row.shown {
