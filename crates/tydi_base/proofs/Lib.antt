@@ -9,3 +9,5 @@ pub mod HexLemmas
 pub mod NumberLemmas
 pub mod SpellingLemmas
 pub mod FracLaws
+pub mod HexWordLemmas
+pub mod HexPacking

@@ -5,9 +5,12 @@ ghost use Rattle.std.specs.Cmp.Lexicographic.{pointwise};
 ghost use Rattle.std.specs.Cmp.Rules.{comparing};
 ghost use Rattle.tydi_base.specs.Bits.{bits_of, unpack, zero_bits};
 ghost use Rattle.tydi_base.specs.Hex.{fitted, hex_of, no_ones, word_at};
+ghost use Rattle.tydi_base.specs.HexWords.{hex_fault, hex_word};
+ghost use Rattle.tydi_base.specs.Reading.{Gives};
 ghost use Rattle.tydi_base.specs.Numbers.{number_below, word_of_number};
 
 use crate::hex::{push_digits, push_spelling};
+use crate::hex_word::{BitsFault, hex_fault_of, packed_digits};
 use crate::list::List;
 use crate::memory::Memory;
 use crate::numbers::{number_of, push_number};
@@ -62,6 +65,19 @@ impl Bits {
             return Ok(None);
         }
         Ok(fitted(width, bytes))
+    }
+
+    /// The word of this width that these hexadecimal digits spell, the highest first: any number of them, and none are zero.
+    pub fn from_hex(alloc: Global, width: usize, digits: &[u8]) -> Result<Bits, BitsFault>
+        ensures { Gives hex_fault (λ bits. bits) result (hex_word width digits.now) }
+    {
+        if let Some(fault) = hex_fault_of(width, digits) {
+            return Err(fault);
+        }
+        match packed_digits(alloc, width, digits) {
+            Ok(bytes) => Ok(Bits { len: width, bytes }),
+            Err(Memory) => Err(BitsFault::Memory),
+        }
     }
 
     /// Its width: how many bits it has.
