@@ -1,8 +1,9 @@
 -- The signals of a physical stream, which of them a stream has, and how wide they are (Tydi specification, signals; presence
 -- and defaults are this project's own).
-use Rattle.std.specs.Prelude.{ℕ, ◌-◌, ◌*◌, ◌^◌, Bool, true, if◌then◌else◌, Option, Some, None}
+use Rattle.std.specs.Prelude.{◌≡◌, ◌↔◌, ℕ, ◌-◌, ◌*◌, ◌^◌, Bool, true, false, if◌then◌else◌, Option, Some, None}
 use Rattle.physical_stream.specs.Params.{Parameters}
-use Rattle.physical_stream.specs.Signals.{has_content, has_last, has_stai, has_endi, has_strb, has_user, index_width}
+use Rattle.physical_stream.specs.Signals.{has_content, has_last, has_stai, has_endi, has_strb, has_user, index_width, StandsAtDefaults}
+use Rattle.physical_stream.specs.declared.transfer.Transfer.{Transfer}
 use Rattle.signal_layout.specs.declared.signal.Signal.{Signal}
 use Rattle.signal_layout.specs.declared.signal.Signal.TheVariants as signals
 use Rattle.signal_layout.specs.declared.signal.SignalDefault.{SignalDefault}
@@ -67,3 +68,11 @@ abbrev pub default_number : Parameters → SignalDefault → ℕ
 default_number p Zero = 0
 default_number p LastLane = p.lanes - 1
 default_number p Ones = 2 ^ p.lanes - 1
+
+-- where the stream lacks the signal, this number of a transfer is its default
+abbrev pub IsDefaultAt : Parameters → Signal → ℕ → Type 0
+IsDefaultAt p s number = is_present p s ≡ false → number ≡ default_number p (default_of s)
+
+-- the signals of a transfer that are numbers stand at their defaults exactly where each of them does
+abbrev pub DefaultsStand : Type 0
+DefaultsStand = (p : Parameters) (t : Transfer) → StandsAtDefaults p t ↔ (IsDefaultAt p signals.Stai t.stai × (IsDefaultAt p signals.Endi t.endi × IsDefaultAt p signals.Strb t.strb))

@@ -9,4 +9,4 @@ mod signal;
 mod tests;
 
 pub use layout::Signals;
-pub use signal::{Signal, SignalDefault, default_of};
+pub use signal::{Signal, SignalDefault, default_of, defaults_stand};

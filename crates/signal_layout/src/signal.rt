@@ -1,5 +1,5 @@
 ghost use Rattle.std.specs.Prelude.{◌≡◌};
-ghost use Rattle.signal_layout.specs.Layout.{default_of};
+ghost use Rattle.signal_layout.specs.Layout.{default_of, DefaultsStand};
 
 /// A signal of a physical stream (Tydi specification, signals). All but ready come from the source.
 #[derive(Clone, Copy, Debug, PartialEq, Eq)]
@@ -48,3 +48,9 @@ pub fn default_of(signal: Signal) -> SignalDefault
         | Signal::User => SignalDefault::Zero,
     }
 }
+
+/// The law of defaults: the transfers that stand at their defaults are those where stai, endi and strb, each where the stream
+/// lacks it, stand at what `default_of` says of it.
+pub fn defaults_stand()
+    ensures { DefaultsStand }
+{}
