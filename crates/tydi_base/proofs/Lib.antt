@@ -9,3 +9,4 @@ pub mod NumberLemmas
 pub mod SpellingLemmas
 pub mod HexWordLemmas
 pub mod HexPacking
+pub mod SliceLemmas

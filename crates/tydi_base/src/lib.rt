@@ -14,6 +14,7 @@ mod numbers;
 mod path;
 mod pieces;
 mod place;
+mod slices;
 #[cfg(test)]
 mod tests;
 mod text;
