@@ -4,7 +4,9 @@ pub mod PieceLaws
 pub mod PathLaws
 pub mod PathLoops
 pub mod BitsLemmas
+pub mod BitPlaces
 pub mod HexLemmas
+pub mod HexBytes
 pub mod NumberLemmas
 pub mod SpellingLemmas
 pub mod HexWordLemmas

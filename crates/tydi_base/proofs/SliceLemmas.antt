@@ -1,9 +1,10 @@
 -- Bits added at the end of a word that bytes keep.
-use Rattle.std.proofs.Common.{◌≡◌, ◌∙◌, sym, ℕ, zero, suc, ◌+◌, ◌-◌, ◌*◌, ◌/◌, ◌%◌, ◌^◌, ◌<◌, ◌≤◌, Bool, true, false, cond, List, [], ◌∷◌, ◌++◌, length, get_or, set, take, drop, replicate, refl, ap, arith, length-append, append_assoc}
+use Rattle.std.proofs.Common.{◌≡◌, ◌∙◌, sym, ℕ, suc, ◌+◌, ◌-◌, ◌*◌, ◌%◌, ◌<◌, ◌≤◌, Bool, false, cond, List, [], ◌∷◌, ◌++◌, length, get_or, set, take, drop, refl, ap, arith, length-append, append_assoc}
 use Rattle.std.specs.List.{refill}
-use Rattle.std.proofs.lemmas.List.{append-nil, drop-take, drop_at, get_or-drop, length_push, length-take, length-drop, length-replicate, set_at, take-take, take_all, take_at, take_more}
+use Rattle.std.proofs.lemmas.List.{drop-take, drop_at, get_or-drop, length_push, length-take, length-drop, length-replicate, set_at, take-take, take_all, take_at, take_more}
 use Rattle.tydi_base.specs.Bits.{bits_of, zero_bits, unpack, IsPacked}
-use Rattle.tydi_base.proofs.BitsLemmas.{bits_of-odd, bits_of-zero, length-put, length-unpack, length_packed, packed_whole, refill_whole, unpack-nil, unpack-push}
+use Rattle.tydi_base.proofs.BitsLemmas.{bits_of-zero, length-unpack, length_packed, packed_whole, refill_whole, unpack-nil, unpack-push}
+use Rattle.tydi_base.proofs.BitPlaces.{bits_of-odd, length-put}
 
 -- a word, and the zeros above it in bytes
 pub record Keeps (width : ℕ) (bytes : List ℕ) (word : List Bool) : Type 0 where
@@ -88,9 +89,6 @@ push_bits-more source before after front from index bit within bit_is was now =
     ∙ append_assoc front (take index (drop from source)) (bit ∷ [])
     ∙ ap (λ (bits : List Bool). front ++ bits) (sym next)
 
-pub push_bits-start : (bits source : List Bool) (from : ℕ) → bits ≡ bits ++ take 0 (drop from source)
-push_bits-start bits source from = sym (append-nil bits)
-
 -- ---- parts of a word
 
 pub none_packed : (bytes : List ℕ) → bytes ≡ [] → IsPacked 0 bytes
@@ -114,12 +112,3 @@ slice_view width from to bytes new old word word_is within order pushed =
     in let count : 0 + (to - from) ≡ to - from = omega arith
     in rw count at pushed
     ∙ sym (ap (take (to - from)) rest ∙ take-take (to - from) (width - from) (drop from (unpack bytes)) (omega arith))
-
-pub append_view : (width more_width sum : ℕ) (old more new : List ℕ) (word more_word : List Bool)
-    → take width (unpack old) ≡ word
-    → take more_width (unpack more) ≡ more_word
-    → sum ≡ width + more_width
-    → take (width + more_width) (unpack new) ≡ take width (unpack old) ++ take more_width (drop 0 (unpack more))
-    → take sum (unpack new) ≡ word ++ more_word
-append_view width more_width sum old more new word more_word word_is more_is is_sum pushed =
-    rw (is_sum, ← word_is, ← more_is) pushed

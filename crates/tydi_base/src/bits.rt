@@ -119,10 +119,10 @@ impl Bits {
         requires within { to ≤ length self.now }
         ensures { IfOk result (λ bits. bits ≡ take (to - from) (drop from self.now)) }
     {
-        let width = to - from;
-        let mut bytes = SmallVec::with_capacity(alloc, width.div_ceil(8))?;
-        push_bits(&mut bytes, 0, self.bytes.as_slice(), from, width);
-        Ok(Bits { len: width, bytes })
+        let len = to - from;
+        let mut bytes = SmallVec::with_capacity(alloc, len.div_ceil(8))?;
+        push_bits(&mut bytes, 0, self.bytes.as_slice(), from, len);
+        Ok(Bits { len, bytes })
     }
 
     /// Adds the bits of another word above its own. After `Memory` it is as before.

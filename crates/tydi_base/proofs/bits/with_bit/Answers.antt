@@ -1,5 +1,5 @@
-use Rattle.std.proofs.Common.{◌≡◌, Bool, true, false, cond, arith, refl}
-use Rattle.tydi_base.proofs.BitsLemmas.{bits_of-with_bit, bool_byte-is, with_bit_fits}
+use Rattle.std.proofs.Common.{arith}
+use Rattle.tydi_base.proofs.BitPlaces.{bits_of-with_bit, bool_byte-is, with_bit_fits}
 use mir.Val.{bool_byte}
 use Rattle.tydi_base.proofs.bits.with_bit.Goals as goal
 

@@ -1,8 +1,8 @@
-use Rattle.std.proofs.Common.{◌≡◌, ◌+◌, ◌++◌, ◌∷◌, ◌∙◌, Bool, List, [], ap, length, set, sym, take}
+use Rattle.std.proofs.Common.{◌≡◌, ◌+◌, ◌++◌, ◌∷◌, [], length, set, take}
 use Rattle.std.specs.List.{refill}
 use mir.Val.{bool_byte}
 use Rattle.tydi_base.specs.Bits.{unpack}
-use Rattle.tydi_base.proofs.BitsLemmas.{bool_byte-is}
+use Rattle.tydi_base.proofs.BitPlaces.{bool_byte-is}
 use Rattle.tydi_base.proofs.SliceLemmas.{Keeps, push_bit-whole, push_bit-within}
 use Rattle.tydi_base.proofs.slices.push_bit.Goals as goal
 use Rattle.tydi_base.proofs.slices.push_bit.Goals.{After-push_reserved, After-put_at}
