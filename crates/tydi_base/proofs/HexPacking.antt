@@ -1,15 +1,16 @@
 -- The bytes of a word of a width from digits whose ones stand below the width.
-use Rattle.std.proofs.Common.{inl, inr, ◌⊎◌, ◌≡◌, ◌∙◌, sym, ℕ, zero, suc, ◌+◌, ◌-◌, ◌*◌, ◌/◌, ◌%◌, ◌^◌, ◌<◌, ◌≤◌, min, Bool, true, false, List, [], ◌∷◌, ◌++◌, length, take, drop, replicate, Option, Some, None, option_map, refl, ap, arith, length-append, append_assoc}
+use Rattle.std.proofs.Common.{inl, inr, ◌≡◌, ◌∙◌, sym, ℕ, zero, suc, ◌+◌, ◌-◌, ◌*◌, ◌/◌, ◌%◌, ◌^◌, ◌<◌, ◌≤◌, min, Bool, true, false, List, [], ◌∷◌, ◌++◌, length, take, drop, replicate, Option, Some, None, option_map, refl, ap, arith, length-append, append_assoc}
 use Rattle.std.specs.Prelude.{IsTrue, MatchBool}
 use Rattle.std.specs.List.{AllClonesOf, AppendsClonesOf}
 use Rattle.std.proofs.lemmas.Bool.{cases_lt, lt-ltb, ltb-true}
 use Rattle.std.proofs.Math.Seq.{take-append-add}
-use Rattle.std.proofs.lemmas.List.{append-nil, length-take, length-drop, length-replicate, replicate-append-replicate, take-append-drop, take-append-le, take-replicate, take-take, take_all}
+use Rattle.std.proofs.lemmas.List.{length-take, length-drop, replicate-append-replicate, take-append-drop, take-append-le, take-replicate, take-take, take_all}
 use Rattle.tydi_base.specs.Bits.{bits_of, number_of_bits, zero_bits, unpack, IsPacked}
-use Rattle.tydi_base.specs.Hex.{bits_of_digits, digit_of, no_ones, whole_bytes}
+use Rattle.tydi_base.specs.Hex.{bits_of_digits, no_ones, whole_bytes}
 use Rattle.tydi_base.specs.HexWords.{resized}
-use Rattle.tydi_base.proofs.BitsLemmas.{length-bits_of, unpack-append, unpack-replicate_zero}
-use Rattle.tydi_base.proofs.HexLemmas.{hex_of-digits, packed_fitted, parts}
+use Rattle.tydi_base.proofs.BitsLemmas.{unpack-append, unpack-replicate_zero}
+use Rattle.tydi_base.proofs.HexLemmas.{hex_of-digits, parts}
+use Rattle.tydi_base.proofs.HexBytes.{packed_fitted}
 use Rattle.tydi_base.proofs.NumberLemmas.{no_ones-drop, number_of_bits-append, number_of_bits-zeros}
 
 -- ---- zeros above bytes

@@ -1,14 +1,13 @@
 -- Words of a width from any number of digits: where the highest one stands, and which byte is no digit.
-use Rattle.std.proofs.Common.{◌≡◌, ◌∙◌, sym, ℕ, zero, suc, ◌+◌, ◌-◌, ◌*◌, ◌/◌, ◌%◌, ◌^◌, ◌<◌, ◌≤◌, min, Bool, true, false, not, ◌&&◌, cond, ltb, List, [], ◌∷◌, ◌++◌, length, get_or, take, drop, Option, Some, None, option_map, Result, Ok, Err, refl, ap, arith}
+use Rattle.std.proofs.Common.{◌≡◌, ◌∙◌, sym, ℕ, zero, suc, ◌+◌, ◌-◌, ◌^◌, ◌<◌, ◌≤◌, min, Bool, true, false, List, [], ◌∷◌, ◌++◌, length, get_or, take, drop, Option, Some, None, option_map, Ok, Err, refl, ap, arith}
 use Rattle.std.specs.List.{position_from}
-use Rattle.std.specs.Option.{is_none, unwrap_or}
+use Rattle.std.specs.Option.{is_none}
 use Rattle.std.proofs.lemmas.Bool.{le-ltb, lt-ltb}
 use Rattle.std.proofs.Math.Nat.{zero-add, suc-add}
-use Rattle.std.proofs.lemmas.List.{drop_more, drop_all, take_all, take_more}
-use Rattle.tydi_base.specs.Bits.{bits_of, number_of_bits, zero_bits, unpack}
+use Rattle.std.proofs.lemmas.List.{drop_more, drop_all, take_more}
+use Rattle.tydi_base.specs.Bits.{bits_of, number_of_bits}
 use Rattle.tydi_base.specs.Hex.{bits_of_digits, digit_of, no_ones}
 use Rattle.tydi_base.specs.HexWords.{counted, first_not_hex, hex_bits, hex_fault, hex_word, highest_one, in_width, one_from, resized, value_in_width}
-use Rattle.tydi_base.specs.declared.hex_word.BitsFault.{BitsFault}
 use Rattle.tydi_base.specs.declared.hex_word.BitsFault.TheVariants as faults
 use Rattle.tydi_base.proofs.BitsLemmas.{length-bits_of, number_of_bits-bits_of}
 use Rattle.tydi_base.proofs.HexLemmas.{bits_of_digits-push}

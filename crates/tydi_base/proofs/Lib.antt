@@ -5,9 +5,12 @@ pub mod ColonLaws
 pub mod PathLaws
 pub mod PathLoops
 pub mod BitsLemmas
+pub mod BitPlaces
 pub mod HexLemmas
+pub mod HexBytes
 pub mod NumberLemmas
 pub mod SpellingLemmas
 pub mod FracLaws
 pub mod HexWordLemmas
 pub mod HexPacking
+pub mod SliceLemmas

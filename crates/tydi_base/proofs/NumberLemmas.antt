@@ -1,11 +1,11 @@
 -- The numbers of words of bits, and the bits of numbers in parts.
-use Rattle.std.proofs.Common.{inl, inr, ◌≡◌, ◌∙◌, sym, ℕ, zero, suc, ◌+◌, ◌-◌, ◌*◌, ◌/◌, ◌%◌, ◌^◌, ◌<◌, ◌≤◌, Bool, true, false, not, ◌&&◌, eqb, ltb, cond, if◌then◌else◌, List, [], ◌∷◌, ◌++◌, length, get_or, take, drop, Option, Some, None, refl, ap, arith, append_assoc}
+use Rattle.std.proofs.Common.{inl, inr, ◌≡◌, ◌∙◌, sym, ℕ, zero, suc, ◌+◌, ◌-◌, ◌*◌, ◌/◌, ◌%◌, ◌^◌, ◌<◌, ◌≤◌, Bool, true, false, ltb, cond, List, [], ◌∷◌, ◌++◌, length, get_or, take, drop, Some, None, refl, ap, arith}
 use Rattle.std.proofs.lemmas.Bool.Decides.{nat_tests}
 use Rattle.std.proofs.lemmas.Bool.{le-ltb, cases_lt}
 use Rattle.std.proofs.Math.Nat.{pow-le-pow_right, mul_assoc, pow-succ', zero-add, suc-add}
 use Rattle.std.proofs.Math.Numerals.{one-add}
-use Rattle.std.proofs.lemmas.Nat.{shr-shr, shr_below, shr_split, mod_below, pow_pos, pow-add}
-use Rattle.std.proofs.lemmas.List.{append-nil, drop_more, take_at, drop_at}
+use Rattle.std.proofs.lemmas.Nat.{shr-shr, shr_below, shr_split, mod_below, pow_pos}
+use Rattle.std.proofs.lemmas.List.{append-nil, drop_more, take_at}
 use Rattle.tydi_base.specs.Bits.{bits_of, number_of_bits, zero_bits, unpack, IsPacked}
 use Rattle.tydi_base.specs.Hex.{no_ones, fitted}
 use Rattle.tydi_base.specs.Decimal.{below}

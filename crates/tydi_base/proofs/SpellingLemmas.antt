@@ -1,8 +1,8 @@
 -- The digits of packed bytes.
-use Rattle.std.proofs.Common.{◌≡◌, ◌∙◌, sym, ℕ, zero, suc, ◌+◌, ◌-◌, ◌*◌, ◌/◌, ◌%◌, ◌^◌, ◌<◌, ◌≤◌, min, Bool, List, [], ◌∷◌, ◌++◌, length, get_or, take, drop, refl, ap, arith, append_assoc, length-append}
+use Rattle.std.proofs.Common.{◌≡◌, ◌∙◌, sym, ℕ, ◌+◌, ◌-◌, ◌*◌, ◌/◌, ◌%◌, ◌^◌, ◌<◌, ◌≤◌, min, Bool, List, [], ◌∷◌, ◌++◌, length, get_or, take, drop, refl, ap, arith, append_assoc}
 use Rattle.std.proofs.Math.Seq.{take-append-add}
 use Rattle.std.proofs.lemmas.List.{append-nil, length-take, take-append-drop, take-append-le, take-replicate, drop_more, take_all, take_at}
-use Rattle.tydi_base.specs.Bits.{bits_of, number_of_bits, zero_bits, unpack, IsPacked}
+use Rattle.tydi_base.specs.Bits.{bits_of, zero_bits, unpack, IsPacked}
 use Rattle.tydi_base.specs.Hex.{hex_digit, hex_of}
 use Rattle.tydi_base.proofs.BitsLemmas.{bits_of-add, length-bits_of, length-unpack, length_packed, packed_whole, unpack-append, unpack-cons}
 use Rattle.tydi_base.proofs.HexLemmas.{hex_of-append, hex_of-nibble, hex_of-padded}

@@ -15,9 +15,12 @@ mod numbers;
 mod path;
 mod pieces;
 mod place;
+mod slices;
 #[cfg(test)]
 mod tests;
 mod text;
+#[cfg(test)]
+mod word_tests;
 
 pub use bits::Bits;
 pub use decimal::{decimals_are_read_as_spelled, read_decimal, write_decimal};

@@ -1,5 +1,5 @@
 use Rattle.std.proofs.Common.{sym}
-use Rattle.tydi_base.proofs.BitsLemmas.{get_or-unpack}
+use Rattle.tydi_base.proofs.BitPlaces.{get_or-unpack}
 use Rattle.tydi_base.proofs.bits.bit_at.Goals as goal
 
 pub returns : goal.returns

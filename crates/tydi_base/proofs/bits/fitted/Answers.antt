@@ -2,7 +2,7 @@ use Rattle.std.proofs.Common.{◌≡◌, true, false, drop, sym}
 use Rattle.std.proofs.lemmas.Bool.{not-true, not-false}
 use Rattle.tydi_base.specs.Bits.{unpack}
 use Rattle.tydi_base.specs.Hex.{no_ones}
-use Rattle.tydi_base.proofs.HexLemmas.{fitted-none, fitted-some, packed_fitted}
+use Rattle.tydi_base.proofs.HexBytes.{fitted-none, fitted-some, packed_fitted}
 use Rattle.tydi_base.proofs.bits.fitted.Goals as goal
 use Rattle.tydi_base.proofs.bits.fitted.Goals.{Else-has_ones_from}
 

@@ -1,6 +1,6 @@
 use Rattle.std.proofs.Common.{◌/◌, ◌<◌, get_or, not, ap, arith, sym}
 use Rattle.std.proofs.Math.Facts.{Fits-lt-pow}
-use Rattle.tydi_base.proofs.HexLemmas.{no_ones-full, no_ones-last}
+use Rattle.tydi_base.proofs.HexBytes.{no_ones-full, no_ones-last}
 use Rattle.tydi_base.proofs.bits.has_ones_from.Goals as goal
 
 pub returns-then-used-eq0 : goal.returns-then-used-eq0

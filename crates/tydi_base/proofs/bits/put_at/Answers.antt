@@ -1,4 +1,4 @@
-use Rattle.tydi_base.proofs.BitsLemmas.{set-unpack}
+use Rattle.tydi_base.proofs.BitPlaces.{set-unpack}
 use Rattle.tydi_base.proofs.bits.put_at.Goals as goal
 
 pub returns : goal.returns

@@ -1,6 +1,6 @@
 use Rattle.std.proofs.Common.{◌≡◌, ◌+◌, ◌-◌, ap, arith, length, sym}
 use Rattle.std.proofs.lemmas.List.{length_push}
-use Rattle.tydi_base.proofs.HexLemmas.{none_from_first, none_from_pair, none_packed, packed_more, whole_even, whole_odd}
+use Rattle.tydi_base.proofs.HexBytes.{none_from_first, none_from_pair, none_packed, packed_more, whole_even, whole_odd}
 use Rattle.tydi_base.proofs.hex.push_digits.Goals as goal
 
 pub pairs-init : goal.pairs-init

@@ -1,4 +1,4 @@
-use Rattle.std.proofs.Common.{◌≡◌, ◌+◌, ◌-◌, ◌*◌, ◌++◌, ap, arith, length}
+use Rattle.std.proofs.Common.{◌≡◌, ◌+◌, ◌-◌, ap, arith, length}
 use Rattle.std.proofs.lemmas.List.{length_push}
 use Rattle.tydi_base.proofs.SpellingLemmas.{spelled_all, spelled_more, spelled_none}
 use Rattle.tydi_base.proofs.hex.push_spelling.Goals as goal

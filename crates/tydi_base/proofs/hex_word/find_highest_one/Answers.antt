@@ -1,7 +1,5 @@
-use Rattle.std.proofs.Common.{◌≡◌, ◌∙◌, ◌+◌, ◌≤◌, Some, ap, arith, length, option_map, sym, take}
-use Rattle.std.proofs.lemmas.List.{take_all}
-use Rattle.tydi_base.specs.HexWords.{counted, highest_one}
-use Rattle.tydi_base.proofs.HexWordLemmas.{first_not_hex-end, first_not_hex-here, first_not_hex-more, first_not_hex-start, hex_bits-more, hex_bits-none, highest_one-none}
+use Rattle.std.proofs.Common.{sym}
+use Rattle.tydi_base.proofs.HexWordLemmas.{first_not_hex-more, first_not_hex-start, hex_bits-more, hex_bits-none, highest_one-none}
 use Rattle.tydi_base.proofs.hex_word.find_highest_one.Goals as goal
 
 pub digits-init : goal.digits-init

@@ -1,4 +1,4 @@
-use Rattle.std.proofs.Common.{◌≡◌, ◌∙◌, ◌^◌, ◌<◌, arith, sym}
+use Rattle.std.proofs.Common.{◌∙◌, arith, sym}
 use Rattle.tydi_base.proofs.HexWordLemmas.{Word, hex_word-none, hex_word-not_hex, hex_word-some, hex_word-wide}
 use Rattle.tydi_base.proofs.hex_word.hex_fault_of.Goals as goal
 use Rattle.tydi_base.proofs.hex_word.hex_fault_of.Goals.{In-Ok-None, Then-index-width}

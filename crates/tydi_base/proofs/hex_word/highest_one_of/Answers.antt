@@ -1,4 +1,4 @@
-use Rattle.std.proofs.Common.{◌≡◌, arith}
+use Rattle.std.proofs.Common.{arith}
 use Rattle.tydi_base.proofs.HexWordLemmas.{highest_one-0, highest_one-1, highest_one-2, highest_one-4, highest_one-8}
 use Rattle.tydi_base.proofs.hex_word.highest_one_of.Goals as goal
 

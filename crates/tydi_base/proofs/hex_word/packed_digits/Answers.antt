@@ -1,4 +1,4 @@
-use Rattle.std.proofs.Common.{◌∙◌, ◌-◌, arith, length}
+use Rattle.std.proofs.Common.{◌-◌, arith, length}
 use Rattle.std.proofs.lemmas.List.{take_rest}
 use Rattle.tydi_base.specs.HexWords.{hex_bits}
 use Rattle.tydi_base.proofs.HexPacking.{Packing, packing, packing_bits, packing_packed}

@@ -1,4 +1,4 @@
-use Rattle.std.proofs.Common.{◌≡◌, ◌∙◌, sym}
+use Rattle.std.proofs.Common.{◌∙◌, sym}
 use Rattle.tydi_base.proofs.HexWordLemmas.{with_digit-none, with_digit-some}
 use Rattle.tydi_base.proofs.hex_word.with_digit.Goals as goal
 

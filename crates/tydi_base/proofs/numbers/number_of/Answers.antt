@@ -1,4 +1,4 @@
-use Rattle.std.proofs.Common.{◌≡◌, ◌∙◌, ◌+◌, ◌-◌, ◌*◌, ◌<◌, ◌≤◌, ap, arith, drop, get_or, length, le_refl, sym}
+use Rattle.std.proofs.Common.{◌≡◌, ◌∙◌, ◌+◌, ◌-◌, ◌*◌, ◌<◌, ◌≤◌, arith, drop, get_or, length, sym}
 use Rattle.tydi_base.specs.Bits.{number_of_bits, unpack}
 use Rattle.tydi_base.proofs.NumberLemmas.{below-none, below-some, number-unpack_end, number-unpack_more, number-unpack_none}
 use Rattle.tydi_base.proofs.numbers.number_of.Goals as goal

@@ -1,4 +1,4 @@
-use Rattle.std.proofs.Common.{◌≡◌, ◌+◌, ap, arith, length, refl}
+use Rattle.std.proofs.Common.{◌≡◌, ◌+◌, ap, arith, length}
 use Rattle.std.proofs.lemmas.List.{length_push}
 use Rattle.tydi_base.proofs.NumberLemmas.{push_number_first, push_number_more, push_number_rest}
 use Rattle.tydi_base.proofs.numbers.push_number.Goals as goal

@@ -1,4 +1,4 @@
-use Rattle.std.proofs.Common.{◌≡◌, ◌+◌, ◌-◌, ◌*◌, ◌/◌, ◌≤◌, ◌^◌, length}
+use Rattle.std.proofs.Common.{◌≡◌, ◌*◌, ◌/◌, ◌≤◌, ◌^◌, length}
 use Rattle.tydi_base.specs.Bits.{bits_of, unpack}
 use Rattle.tydi_base.proofs.numbers.push_number.Given as goal
 

@@ -1,4 +1,4 @@
-use Rattle.std.proofs.Common.{◌≡◌, ◌∙◌, ap, length, sym}
+use Rattle.std.proofs.Common.{◌≡◌, ◌∙◌}
 use Rattle.tydi_base.proofs.BitsLemmas.{copy_lengths, copy_packed, copy_view}
 use Rattle.tydi_base.proofs.bits.Bits.copy_from.Goals as goal
 use Rattle.tydi_base.proofs.bits.Bits.copy_from.Goals.{After-copy_from_slice}

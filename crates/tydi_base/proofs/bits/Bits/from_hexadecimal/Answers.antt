@@ -1,5 +1,5 @@
 use Rattle.std.proofs.Common.{◌∙◌, arith, sym}
-use Rattle.tydi_base.proofs.HexLemmas.{fitted-word_at, word_at-length, word_at-none}
+use Rattle.tydi_base.proofs.HexBytes.{fitted-word_at, word_at-length, word_at-none}
 use Rattle.tydi_base.proofs.bits.Bits.from_hexadecimal.Goals as goal
 
 pub returns-then-digits-div_ceil : goal.returns-then-digits-div_ceil

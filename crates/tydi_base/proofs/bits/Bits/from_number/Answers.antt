@@ -1,4 +1,4 @@
-use Rattle.std.proofs.Common.{◌≡◌, ◌∙◌, ◌*◌, ◌≤◌, arith, sym}
+use Rattle.std.proofs.Common.{◌∙◌, arith, sym}
 use Rattle.tydi_base.proofs.NumberLemmas.{fitted-number, word_of_number-none}
 use Rattle.tydi_base.proofs.bits.Bits.from_number.Goals as goal
 

@@ -1,5 +1,6 @@
 use Rattle.std.proofs.Common.{◌≡◌, ◌∙◌, ap, arith, length, sym}
-use Rattle.tydi_base.proofs.BitsLemmas.{get_or-packed, length_packed}
+use Rattle.tydi_base.proofs.BitsLemmas.{length_packed}
+use Rattle.tydi_base.proofs.BitPlaces.{get_or-packed}
 use Rattle.tydi_base.proofs.bits.Bits.get.Goals as goal
 
 pub bit_at-requires : goal.bit_at-requires

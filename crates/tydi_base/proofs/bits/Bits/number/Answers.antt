@@ -1,4 +1,3 @@
-use Rattle.std.proofs.Common.{◌∙◌}
 use Rattle.tydi_base.proofs.NumberLemmas.{number_below-packed}
 use Rattle.tydi_base.proofs.bits.Bits.number.Goals as goal
 

@@ -1,6 +1,6 @@
 use Rattle.std.proofs.Common.{◌≡◌, set}
 use Rattle.tydi_base.specs.Bits.{unpack}
-use Rattle.tydi_base.proofs.BitsLemmas.{put_packed, put_view}
+use Rattle.tydi_base.proofs.BitPlaces.{put_packed, put_view}
 use Rattle.tydi_base.proofs.bits.Bits.put.Goals as goal
 use Rattle.tydi_base.proofs.bits.Bits.put.Goals.{After-put_at}
 
