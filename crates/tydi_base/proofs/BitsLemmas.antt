@@ -5,6 +5,7 @@ use Rattle.std.proofs.lemmas.Bool.Decides.{nat_tests}
 use Rattle.std.proofs.lemmas.Slice.Eq.{bytes_eq-Decides, slice_eq-Decides}
 use Rattle.std.proofs.lemmas.Bool.{eqb-true, eq-eqb, ne_eqb, cases_lt}
 use Rattle.std.proofs.Math.Bool.{beq}
+use mir.Val.{bool_byte}
 use Rattle.std.specs.Cmp.Lexicographic.{pointwise}
 use Rattle.std.specs.Cmp.{booleans_Decides}
 use Rattle.std.specs.Bool.{one_answer}
@@ -285,7 +286,11 @@ get_or-packed width index bytes word word_is below =
 
 -- ---- a bit written
 
-bits_of-odd : (count half bit_value : ℕ) (bit : Bool)
+pub bool_byte-is : (bit : Bool) → bool_byte bit ≡ cond bit 1 0
+bool_byte-is true = refl
+bool_byte-is false = refl
+
+pub bits_of-odd : (count half bit_value : ℕ) (bit : Bool)
     → bit_value ≡ cond bit 1 0
     → bits_of (suc count) (2 * half + bit_value) ≡ bit ∷ bits_of count half
 unfolding bits_of
@@ -431,10 +436,10 @@ bits_of-with_bit byte place bit_value bit fits within is_value =
 
 -- ---- a bit of a word written
 
-refill_whole : (old new : List ℕ) → length new ≡ length old → refill (length old) old new ≡ new
+pub refill_whole : (old new : List ℕ) → length new ≡ length old → refill (length old) old new ≡ new
 refill_whole old new same = take_at new (drop (length new) old) (length old) same
 
-length-put : (old new : List ℕ) (index : ℕ) (bit : Bool)
+pub length-put : (old new : List ℕ) (index : ℕ) (bit : Bool)
     → unpack new ≡ set (unpack old) index bit
     → length new ≡ length old
 length-put old new index bit written =

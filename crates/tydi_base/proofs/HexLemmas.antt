@@ -57,12 +57,12 @@ unfolding bits_of_digits
 bits_of_digits-cons digit value digits low are_low is_value = rw (are_low, is_value) refl
 
 -- the parts of digits that spell bits
-record Parts (digit : ℕ) (digits : List ℕ) (bits : List Bool) : Type 0 where
-  low : List Bool
-  value : ℕ
-  low_is : bits_of_digits digits ≡ Some low
-  value_is : digit_of digit ≡ Some value
-  bits_are : bits ≡ low ++ bits_of 4 value
+pub record Parts (digit : ℕ) (digits : List ℕ) (bits : List Bool) : Type 0 where
+  pub low : List Bool
+  pub value : ℕ
+  pub low_is : bits_of_digits digits ≡ Some low
+  pub value_is : digit_of digit ≡ Some value
+  pub bits_are : bits ≡ low ++ bits_of 4 value
 
 split : (digit : ℕ) (digits : List ℕ) (bits : List Bool) (low : Option (List Bool)) (value : Option ℕ)
     → bits_of_digits digits ≡ low
@@ -79,7 +79,7 @@ split digit digits bits (Some low) (Some value) low_is value_is is_bits = record
   bits_are = cc;
 }
 
-parts : (digit : ℕ) (digits : List ℕ) (bits : List Bool)
+pub parts : (digit : ℕ) (digits : List ℕ) (bits : List Bool)
     → bits_of_digits (digit ∷ digits) ≡ Some bits
     → Parts digit digits bits
 unfolding bits_of_digits
@@ -87,7 +87,7 @@ parts digit digits bits is_bits =
     split digit digits bits (bits_of_digits digits) (digit_of digit) refl refl is_bits
 
 -- one digit more at the low end
-bits_of_digits-push : (digits : List ℕ) (digit value : ℕ) (high : List Bool)
+pub bits_of_digits-push : (digits : List ℕ) (digit value : ℕ) (high : List Bool)
     → digit_of digit ≡ Some value
     → bits_of_digits digits ≡ Some high
     → bits_of_digits (digits ++ digit ∷ []) ≡ Some (bits_of 4 value ++ high)
@@ -174,7 +174,7 @@ pub hex_of-nibble : (value : ℕ) → value < 16 → hex_of (bits_of 4 value) �
 unfolding hex_of bits_of
 hex_of-nibble value below = ap (λ (number : ℕ). hex_digit number ∷ []) (number_of_bits-bits_of 4 value below)
 
-hex_of-digits : (digits : List ℕ) (bits : List Bool)
+pub hex_of-digits : (digits : List ℕ) (bits : List Bool)
     → bits_of_digits digits ≡ Some bits
     → (length bits ≡ 4 * length digits) × (hex_of bits ≡ digits)
 unfolding hex_of

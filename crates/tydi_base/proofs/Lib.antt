@@ -7,3 +7,6 @@ pub mod BitsLemmas
 pub mod HexLemmas
 pub mod NumberLemmas
 pub mod SpellingLemmas
+pub mod HexWordLemmas
+pub mod HexPacking
+pub mod SliceLemmas

@@ -14,7 +14,7 @@ use Rattle.tydi_base.proofs.BitsLemmas.{bits_of-add, length-bits_of, number_of_b
 
 -- ---- the number of a word in parts
 
-number_of_bits-append : (low high : List Bool)
+pub number_of_bits-append : (low high : List Bool)
     → number_of_bits (low ++ high) ≡ number_of_bits low + 2 ^ length low * number_of_bits high
 unfolding number_of_bits
 number_of_bits-append [] high = omega arith
@@ -28,7 +28,7 @@ unfolding number_of_bits
 number_of_bits-high [] high = omega arith
 number_of_bits-high (bit ∷ low) high = omega (arith, number_of_bits-high low high)
 
-number_of_bits-zeros : (bits : List Bool) (count : ℕ) → number_of_bits (bits ++ zero_bits count) ≡ number_of_bits bits
+pub number_of_bits-zeros : (bits : List Bool) (count : ℕ) → number_of_bits (bits ++ zero_bits count) ≡ number_of_bits bits
 unfolding number_of_bits
 number_of_bits-zeros [] zero = refl
 number_of_bits-zeros [] (suc count) = omega (arith, number_of_bits-zeros [] count)

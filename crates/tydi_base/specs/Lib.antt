@@ -1,6 +1,7 @@
 pub mod Bits
 pub mod Hex
 pub mod Numbers
+pub mod HexWords
 pub mod Level
 pub mod Reading
 pub mod Decimal

@@ -1,16 +1,20 @@
-ghost use Rattle.std.specs.Prelude.{◌≡◌, ◌↔◌, ◌+◌, ◌*◌, ◌/◌, ◌<◌, not, false, get_or, set, drop, length, IsTrue, IfOk, OnOk, OnErr, ◌++◌};
+ghost use Rattle.std.specs.Prelude.{◌≡◌, ◌↔◌, ◌+◌, ◌*◌, ◌/◌, ◌<◌, not, false, get_or, set, drop, length, IsTrue, IfOk, OnOk, OnErr, ◌++◌, ◌-◌, ◌≤◌, take};
 ghost use Rattle.std.proofs.Common.{rules};
 ghost use Rattle.std.proofs.Math.Bool.{beq};
 ghost use Rattle.std.specs.Cmp.Lexicographic.{pointwise};
 ghost use Rattle.std.specs.Cmp.Rules.{comparing};
 ghost use Rattle.tydi_base.specs.Bits.{bits_of, unpack, zero_bits};
 ghost use Rattle.tydi_base.specs.Hex.{fitted, hex_of, no_ones, word_at};
+ghost use Rattle.tydi_base.specs.HexWords.{hex_fault, hex_word};
+ghost use Rattle.tydi_base.specs.Reading.{Gives};
 ghost use Rattle.tydi_base.specs.Numbers.{number_below, word_of_number};
 
 use crate::hex::{push_digits, push_spelling};
+use crate::hex_word::{BitsFault, hex_fault_of, packed_digits};
 use crate::list::List;
 use crate::memory::Memory;
 use crate::numbers::{number_of, push_number};
+use crate::slices::push_bits;
 use smallvec::SmallVec;
 use std::alloc::Global;
 use std::marker::Model;
@@ -64,6 +68,19 @@ impl Bits {
         Ok(fitted(width, bytes))
     }
 
+    /// The word of this width that these hexadecimal digits spell, the highest first: any number of them, and none are zero.
+    pub fn from_hex(alloc: Global, width: usize, digits: &[u8]) -> Result<Bits, BitsFault>
+        ensures { Gives hex_fault (λ bits. bits) result (hex_word width digits.now) }
+    {
+        if let Some(fault) = hex_fault_of(width, digits) {
+            return Err(fault);
+        }
+        match packed_digits(alloc, width, digits) {
+            Ok(bytes) => Ok(Bits { len: width, bytes }),
+            Err(Memory) => Err(BitsFault::Memory),
+        }
+    }
+
     /// Its width: how many bits it has.
     pub fn len(&self) -> usize
         ensures { result ≡ length self.now }
@@ -94,6 +111,36 @@ impl Bits {
     {
         let bytes = self.bytes.as_mut_slice();
         bytes.copy_from_slice(from.bytes.as_slice());
+    }
+
+    /// The bits from one place up to another, as a word.
+    pub fn slice(&self, alloc: Global, from: usize, to: usize) -> Result<Bits, Memory>
+        requires order { from ≤ to }
+        requires within { to ≤ length self.now }
+        ensures { IfOk result (λ bits. bits ≡ take (to - from) (drop from self.now)) }
+    {
+        let width = to - from;
+        let mut bytes = SmallVec::with_capacity(alloc, width.div_ceil(8))?;
+        push_bits(&mut bytes, 0, self.bytes.as_slice(), from, width);
+        Ok(Bits { len: width, bytes })
+    }
+
+    /// Adds the bits of another word above its own. After `Memory` it is as before.
+    pub fn append(&mut self, _alloc: Global, more: &Bits) -> Result<(), Memory>
+        ensures ok { OnOk result (self.new ≡ self.old ++ more.now) }
+        ensures err { OnErr result (self.new ≡ self.old) }
+    {
+        let width = self.len.checked_add(more.len).ok_or(Memory)?;
+        self.bytes.reserve(width.div_ceil(8) - self.bytes.len())?;
+        push_bits(
+            &mut self.bytes,
+            self.len,
+            more.bytes.as_slice(),
+            0,
+            more.len,
+        );
+        self.len = width;
+        Ok(())
     }
 
     /// The number that it spells. None exactly where a one stands at index 128 or above.
@@ -128,8 +175,8 @@ impl Bits {
     }
 }
 
-// The bit at this place in bytes.
-fn bit_at(bytes: &[u8], index: usize) -> bool
+/// The bit at this place in bytes.
+pub(crate) fn bit_at(bytes: &[u8], index: usize) -> bool
     requires { index < 8 * length bytes.now }
     ensures { result ≡ get_or (unpack bytes.now) index false }
 {
@@ -148,8 +195,8 @@ fn with_bit(byte: u8, place: usize, bit: bool) -> u8
     (written << place) + below
 }
 
-// Writes the bit at this place in bytes.
-fn put_at(bytes: &mut [u8], index: usize, bit: bool)
+/// Writes the bit at this place in bytes.
+pub(crate) fn put_at(bytes: &mut [u8], index: usize, bit: bool)
     requires { index < 8 * length bytes.old }
     ensures { unpack bytes.new ≡ set (unpack bytes.old) index bit }
 {

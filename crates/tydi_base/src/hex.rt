@@ -12,10 +12,10 @@ pub fn hexadecimal_is_read_as_spelled()
         → (digits ≡ hex_of bits) × (length bits ≡ width) }
 {}
 
-// The value of a digit, 0 to 15. It branches on nothing but whether the byte is a digit, since that is foreseen and which
+/// The value of a digit, 0 to 15. It branches on nothing but whether the byte is a digit, since that is foreseen and which
 // digit it is is not.
 #[tactic(auto, unfolding(crate::specs::Hex::digit_of))]
-fn digit_value(byte: u8) -> Option<u8>
+pub(crate) fn digit_value(byte: u8) -> Option<u8>
     ensures value { result ≡ digit_of byte }
     ensures below { IfSome result (λ value. value < 16) }
 {

@@ -5,6 +5,7 @@
 mod bits;
 mod decimal;
 mod hex;
+mod hex_word;
 mod level;
 mod list;
 mod memory;
@@ -13,6 +14,7 @@ mod numbers;
 mod path;
 mod pieces;
 mod place;
+mod slices;
 #[cfg(test)]
 mod tests;
 mod text;
@@ -20,6 +22,7 @@ mod text;
 pub use bits::Bits;
 pub use decimal::{decimals_are_read_as_spelled, read_decimal, write_decimal};
 pub use hex::hexadecimal_is_read_as_spelled;
+pub use hex_word::BitsFault;
 pub use level::Level;
 pub use list::List;
 pub use memory::Memory;

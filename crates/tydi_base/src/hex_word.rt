@@ -1,0 +1,106 @@
+//! A word of a width from any number of hexadecimal digits, the highest first.
+
+ghost use Rattle.std.specs.Prelude.{◌≡◌, ◌<◌, ◌++◌, ℕ, List, Bool, true, None, Some, Ok, Err, drop, take, length, option_map, IfOk, MatchOption, MatchResult};
+ghost use Rattle.tydi_base.specs.Bits.{bits_of, unpack, IsPacked};
+ghost use Rattle.tydi_base.specs.Hex.{bits_of_digits, no_ones};
+ghost use Rattle.tydi_base.specs.HexWords.{counted, first_not_hex, hex_bits, hex_fault, hex_word, highest_one, resized};
+
+use crate::hex::{digit_value, push_digits};
+use crate::memory::Memory;
+use smallvec::SmallVec;
+use std::alloc::Global;
+
+/// Why digits are no word of a width.
+#[derive(Clone, Copy, Debug, PartialEq, Eq)]
+pub enum BitsFault {
+    /// A byte is none of `0` to `9` and `a` to `f`: where the first such byte stands in the digits.
+    NotHex(usize),
+    /// Each byte is a digit, and a one stands at or above the width: where the highest one stands, from the lowest bit, or
+    /// `usize::MAX` where it stands above that.
+    TooWide(usize),
+    /// There was no memory.
+    Memory,
+}
+
+/// What keeps digits from being a word of this width.
+pub(crate) fn hex_fault_of(width: usize, digits: &[u8]) -> Option<BitsFault>
+    ensures value { MatchOption result (hex_word width digits.now ≡ Ok (resized width (hex_bits digits.now))) (λ fault. (hex_word width digits.now ≡ Err fault) × (hex_fault fault ≡ Some fault)) }
+    ensures digits { result ≡ None → bits_of_digits digits.now ≡ Some (hex_bits digits.now) }
+    ensures high { result ≡ None → no_ones (drop width (hex_bits digits.now)) ≡ true }
+{
+    match find_highest_one(digits) {
+        Err(index) => Some(BitsFault::NotHex(index)),
+        Ok(Some(index)) => {
+            if index < width {
+                None
+            } else {
+                Some(BitsFault::TooWide(index))
+            }
+        }
+        Ok(None) => None,
+    }
+}
+
+// Where the highest one of digits stands, or the first byte that is no digit.
+fn find_highest_one(digits: &[u8]) -> Result<Option<usize>, usize>
+    ensures not_hex { MatchResult result (λ _. first_not_hex digits.now ≡ None) (λ index. first_not_hex digits.now ≡ Some index) }
+    ensures bits { IfOk result (λ highest. bits_of_digits digits.now ≡ Some (hex_bits digits.now)) }
+    ensures highest { IfOk result (λ highest. highest ≡ option_map counted (highest_one (hex_bits digits.now))) }
+{
+    let mut highest = None;
+    'digits: for (index, digit) in digits.iter().enumerate() {
+        match digit_value(*digit) {
+            Some(value) => highest = with_digit(highest, value),
+            None => return Err(index),
+        }
+    }
+    Ok(highest)
+}
+
+// Where the highest one stands once a digit of this value is added at the low end.
+fn with_digit(highest: Option<usize>, value: u8) -> Option<usize>
+    requires { value < 16 }
+    ensures { (bits : List Bool) → highest ≡ option_map counted (highest_one bits) → result ≡ option_map counted (highest_one (bits_of 4 value ++ bits)) }
+{
+    match highest {
+        Some(index) => Some(index.saturating_add(4)),
+        None => highest_one_of(value),
+    }
+}
+
+// Where the highest one of a digit stands.
+fn highest_one_of(value: u8) -> Option<usize>
+    requires { value < 16 }
+    ensures { result ≡ option_map counted (highest_one (bits_of 4 value)) }
+{
+    if value == 0 {
+        None
+    } else if value < 2 {
+        Some(0)
+    } else if value < 4 {
+        Some(1)
+    } else if value < 8 {
+        Some(2)
+    } else {
+        Some(3)
+    }
+}
+
+/// The bytes of the word of this width of digits, where their ones stand below the width.
+pub(crate) fn packed_digits(
+    alloc: Global,
+    width: usize,
+    digits: &[u8],
+) -> Result<SmallVec<u8, 16>, Memory>
+    requires digits { bits_of_digits digits.now ≡ Some (hex_bits digits.now) }
+    requires high { no_ones (drop width (hex_bits digits.now)) ≡ true }
+    ensures packed { IfOk result (λ bytes. IsPacked width bytes.items) }
+    ensures bits { IfOk result (λ bytes. take width (unpack bytes.items) ≡ resized width (hex_bits digits.now)) }
+{
+    let count = width.div_ceil(8);
+    let used = width.div_ceil(4).min(digits.len());
+    let mut bytes = SmallVec::with_capacity(alloc, count)?;
+    push_digits(&digits[digits.len() - used..], &mut bytes);
+    bytes.resize(count, 0)?;
+    Ok(bytes)
+}
