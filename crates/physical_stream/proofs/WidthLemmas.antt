@@ -1,11 +1,15 @@
 -- The bits that number the lanes of a stream, found by doubling.
-use Rattle.std.proofs.Common.{◌≡◌, ◌∙◌, ◌+◌, ◌-◌, ◌*◌, ◌/◌, ◌^◌, ◌==◌, Decides, ◌<◌, ◌≤◌, ℕ, zero, suc, Bool, true, false, if◌then◌else◌, nat_le, refl, sym, ap, arith}
+use Rattle.std.proofs.Common.{List, length, inl, inr, ◌⊎◌, ◌≡◌, ◌∙◌, ◌+◌, ◌-◌, ◌*◌, ◌/◌, ◌^◌, ◌==◌, Decides, ◌<◌, ◌≤◌, ℕ, zero, suc, Bool, true, false, if◌then◌else◌, nat_le, refl, sym, ap, arith}
 use Rattle.std.proofs.Math.Nat.{pow-succ', lt_of_not-le, lt-div-mul-add, div-eq_of_lt, zero-mul}
 use Rattle.std.proofs.Math.Numerals.{add-one}
 use Rattle.std.proofs.Math.Pow.{pow_mono}
 use Rattle.std.proofs.lemmas.Bool.Decides.{nat_tests, Decides-eqb, Decides-like}
 use Rattle.std.proofs.lemmas.Nat.{pow_pos}
-use Rattle.physical_stream.specs.Signals.{least_power, index_width}
+use Rattle.std.proofs.lemmas.Bool.{cases_lt}
+use Rattle.std.proofs.lemmas.List.{length-replicate}
+use Rattle.tydi_base.specs.Bits.{zero_bits}
+use Rattle.physical_stream.specs.Params.{Parameters}
+use Rattle.physical_stream.specs.Signals.{least_power, index_width, Fits}
 
 -- so far the width is not too large, and as many lanes as its bits can number are reached by doubling
 pub record IsDoubled (lanes width numbered : ℕ) : Type 0 where
@@ -58,3 +62,32 @@ quotient_zero n bound some e =
 pub strobe_decides : (strb lanes : ℕ) → Decides (strb / 2 ^ lanes == 0) (strb < 2 ^ lanes)
 strobe_decides strb lanes =
     Decides-like _ (λ e. quotient_zero strb (2 ^ lanes) (pow_pos lanes) e) (λ below. div-eq_of_lt below) (Decides-eqb (strb / 2 ^ lanes) 0)
+
+below_power : (n : ℕ) → n < 2 ^ n
+below_power zero = omega arith
+below_power (suc n) = omega (arith, below_power n, pow-succ' 2 n)
+
+enough_next : (n low more : ℕ) → (2 ^ low < n) ⊎ (n ≤ 2 ^ low) → n ≤ 2 ^ least_power n (suc low) more → n ≤ 2 ^ least_power n low (suc more)
+enough_next n low more (inl short) later = rw (least_power-next n low more short) later
+enough_next n low more (inr here) later = rw (least_power-here n low (suc more) here) here
+
+least_power-enough : (n low more : ℕ) → n ≤ low + more → n ≤ 2 ^ least_power n low more
+least_power-enough n low zero room = omega (arith, below_power low)
+least_power-enough n low (suc more) room = enough_next n low more (cases_lt (2 ^ low) n) (least_power-enough n (suc low) more (omega arith))
+
+-- the bits that number the lanes are enough for them
+pub index_width-enough : (lanes : ℕ) → lanes ≤ 2 ^ index_width lanes
+index_width-enough lanes = least_power-enough lanes 0 lanes (omega arith)
+
+-- words of zeros as wide as the stream has them, and the last lane, fit the stream
+pub zeros_fit : (p : Parameters) (content last user : List Bool) (endi : ℕ) → 1 ≤ p.lanes → endi ≡ p.lanes - 1 →
+    content ≡ zero_bits (p.lanes * p.element) → last ≡ zero_bits (p.lanes * p.dims) → user ≡ zero_bits p.user →
+    Fits p (record { content = content; last = last; stai = 0; endi = endi; strb = 0; user = user })
+zeros_fit p content last user endi some endi_is content_is last_is user_is = record {
+  content = ap length content_is ∙ length-replicate _ false;
+  last = ap length last_is ∙ length-replicate _ false;
+  stai = pow_pos _;
+  endi = omega (arith, index_width-enough p.lanes);
+  strb = pow_pos _;
+  user = ap length user_is ∙ length-replicate _ false;
+}

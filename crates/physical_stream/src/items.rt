@@ -1,6 +1,6 @@
 //! The items that a transfer carries, lane by lane.
 
-ghost use Rattle.std.specs.Prelude.{◌≡◌, ◌<◌, ◌≤◌, ◌+◌, ◌^◌, ◌++◌, ◌∷◌, [], if◌then◌else◌, take, drop, length, IfOk, OnOk};
+ghost use Rattle.std.specs.Prelude.{◌≡◌, ◌<◌, ◌++◌, ◌∷◌, [], if◌then◌else◌, IfOk, OnOk};
 ghost use Rattle.physical_stream.specs.Items.{items_of, lane_closes, lane_items, lane_word, last_bit};
 ghost use Rattle.physical_stream.specs.Signals.{Fits};
 ghost use Rattle.physical_stream.specs.declared.item.Item.TheVariants.{Close};
@@ -51,20 +51,8 @@ fn lane_word(alloc: Global, p: &Params, transfer: &Transfer, lane: u16) -> Resul
     ensures { IfOk result (λ word. word ≡ lane_word p.now transfer.now lane) }
 {
     let width = p.element as usize;
-    bits_from(alloc, &transfer.content, usize::from(lane) * width, width)
-}
-
-// So many bits of a word, from this place on.
-fn bits_from(alloc: Global, word: &Bits, from: usize, width: usize) -> Result<Bits, Memory>
-    requires within { from + width ≤ length word.now }
-    requires numbered { from + width < 2 ^ 64 }
-    ensures { IfOk result (λ bits. bits ≡ take width (drop from word.now)) }
-{
-    let mut bits = Bits::zeros(alloc, width)?;
-    'bits: for place in 0..width {
-        bits.put(place, word.get(from + place));
-    }
-    Ok(bits)
+    let from = usize::from(lane) * width;
+    transfer.content.slice(alloc, from, from + width)
 }
 
 // Adds the ends of sequences that this lane marks, ascending.

@@ -27,7 +27,8 @@ pub struct Transfer {
 impl Transfer {
     /// The transfer of this stream that is zero in every signal but endi, which is the last lane.
     pub fn zero(alloc: Global, p: &Params) -> Result<Transfer, Memory>
-        ensures { IfOk result (λ t. t ≡ record { content = zero_bits (p.now.lanes * p.now.element); last = zero_bits (p.now.lanes * p.now.dims); stai = 0; endi = p.now.lanes - 1; strb = 0; user = zero_bits p.now.user }) }
+        ensures value { IfOk result (λ t. t ≡ record { content = zero_bits (p.now.lanes * p.now.element); last = zero_bits (p.now.lanes * p.now.dims); stai = 0; endi = p.now.lanes - 1; strb = 0; user = zero_bits p.now.user }) }
+        ensures fits { IfOk result (Fits p.now) }
     {
         let lanes = usize::from(p.lanes);
         let content = Bits::zeros(alloc, lanes * p.element as usize)?;
