@@ -5,6 +5,8 @@
 mod bits;
 mod decimal;
 mod frac;
+#[cfg(test)]
+mod frac_tests;
 mod hex;
 mod hex_word;
 mod level;
@@ -15,6 +17,8 @@ mod numbers;
 mod path;
 mod pieces;
 mod place;
+#[cfg(test)]
+mod reading_tests;
 mod slices;
 #[cfg(test)]
 mod tests;
@@ -35,8 +39,3 @@ pub use path::{Path, paths_are_read_as_spelled};
 pub use pieces::{first_piece, pieces_are_parts};
 pub use place::Place;
 pub use text::Text;
-
-#[cfg(test)]
-mod frac_tests;
-#[cfg(test)]
-mod reading_tests;
