@@ -8,7 +8,7 @@ use Rattle.std.proofs.lemmas.Nat.{shr-shr, shr_below, shr_split, mod_below, mul-
 use Rattle.std.specs.List.{refill}
 use Rattle.std.proofs.lemmas.List.{set_at, length-set, drop-set-lt, set-append_left, set-append_right, length-take, get_or_append_left, get_or-append_right, get_or-take}
 use Rattle.tydi_base.specs.Bits.{bits_of, unpack, IsPacked}
-use Rattle.tydi_base.proofs.BitsLemmas.{bit_value, bits_of-add, length-bits_of, length-unpack, length_packed, refill_whole, unpack-cons}
+use Rattle.tydi_base.proofs.BitsLemmas.{bits_of-add, length-bits_of, length-unpack, length_packed, refill_whole, unpack-cons}
 
 -- ---- a bit at a place
 
