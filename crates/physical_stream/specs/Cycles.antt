@@ -1,10 +1,11 @@
 -- The cycles of one stream (this project's own, after the Tydi specification's handshake).
 use Rattle.std.specs.Prelude.{Bool, if◌then◌else◌, List, [], ◌∷◌, Option, None, IfSome}
-use Rattle.std.specs.Option.{option_to_list}
+use Rattle.std.specs.Option.{option_to_list, option_copied}
 use Rattle.std.specs.List.{flat_map, All}
 use Rattle.physical_stream.specs.Params.{Parameters}
 use Rattle.physical_stream.specs.Signals.{Shows}
 use Rattle.physical_stream.specs.Items.{items_of_all}
+use Rattle.physical_stream.specs.declared.row.Row.{Row}
 use Rattle.physical_stream.specs.declared.transfer.Transfer.{Transfer}
 use Rattle.physical_stream.specs.declared.item.Item.{Item}
 
@@ -12,6 +13,10 @@ use Rattle.physical_stream.specs.declared.item.Item.{Item}
 pub record Cycle : Type 0 where
   pub ready : Bool
   pub shown : Option Transfer
+
+-- the cycle that a row says
+abbrev pub cycle_in : Row → Cycle
+cycle_in row = record { ready = row.ready; shown = option_copied row.shown }
 
 -- a transfer is done in a cycle with valid and ready
 abbrev pub done_in : Cycle → List Transfer
