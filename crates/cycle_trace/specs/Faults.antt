@@ -1,0 +1,21 @@
+-- The faults of a trace text and of a row of it, apart from want of memory (this project's own).
+use Rattle.std.specs.Prelude.{Option, Some, None}
+use Rattle.cycle_trace.specs.declared.fault.TraceFault.{TraceFault}
+use Rattle.cycle_trace.specs.declared.fault.TraceFault.TheVariants as faults
+use Rattle.cycle_trace.specs.declared.fault.Misspelling.{Misspelling}
+use Rattle.cycle_trace.specs.declared.fault.Misspelling.TheVariants as misspellings
+
+-- the fault that an error stands for; want of memory is none
+abbrev pub fault_in : TraceFault → Option TraceFault
+fault_in (faults.BadHeader line) = Some (faults.BadHeader line)
+fault_in faults.TooManyCycles = Some faults.TooManyCycles
+fault_in (faults.BadRow line) = Some (faults.BadRow line)
+fault_in (faults.WrongSignals line) = Some (faults.WrongSignals line)
+fault_in (faults.RowsMissing want got) = Some (faults.RowsMissing want got)
+fault_in (faults.RowsLeft line) = Some (faults.RowsLeft line)
+fault_in faults.Memory = None
+
+-- that words spell nothing; want of memory is none
+abbrev pub misspelling_in : Misspelling → Option (Unit {0})
+misspelling_in misspellings.Unspelled = Some tt
+misspelling_in misspellings.Memory = None

@@ -1,0 +1,9 @@
+pub mod Faults
+pub mod HeaderText
+pub mod RowText
+pub mod Spelling
+pub mod TextSet
+pub mod Trace
+pub mod TraceText
+pub mod WordsLeft
+pub mod TraceView

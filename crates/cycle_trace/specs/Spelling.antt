@@ -1,0 +1,84 @@
+-- The one text of a trace, version 1 (this project's own), and the laws that tie it to the reading.
+use Rattle.std.specs.Prelude.{◌≡◌, ℕ, Bool, if◌then◌else◌, List, [], ◌∷◌, ◌++◌, Option, Some, None, Ok, is_some, codes, decimal}
+use Rattle.std.specs.List.{flat_map, join_with_byte}
+use Rattle.tydi_base.specs.Bits.{bits_of}
+use Rattle.tydi_base.specs.Hex.{hex_of}
+use Rattle.tydi_base.specs.Path.{path_text}
+use Rattle.tydi_base.specs.Level.{number_of}
+use Rattle.physical_stream.specs.Params.{Parameters}
+use Rattle.physical_stream.specs.Signals.{has_content, has_last, has_stai, has_endi, has_strb, has_user}
+use Rattle.physical_stream.specs.Cycles.{Cycle}
+use Rattle.physical_stream.specs.declared.transfer.Transfer.{Transfer}
+use Rattle.physical_stream.specs.declared.head.Head.{Head}
+use Rattle.cycle_trace.specs.Trace.{TraceText, IsTrace, params_of_heads, owed}
+use Rattle.cycle_trace.specs.TraceText.{trace_of}
+
+abbrev pub LF : ℕ
+LF = 10
+
+-- words with one space between each two
+abbrev pub words_text : List (List ℕ) → List ℕ
+words_text words = join_with_byte 32 words
+
+abbrev pub direction_text : Bool → List ℕ
+direction_text reversed = if reversed then codes "reverse" else codes "forward"
+
+-- the words of a stream line
+abbrev pub head_words : Head → List (List ℕ)
+head_words head =
+    codes "stream" ∷ path_text head.path ∷ codes "lanes" ∷ decimal head.params.lanes ∷ codes "dims" ∷ decimal head.params.dims ∷ codes "level" ∷ decimal (number_of head.params.level)
+    ∷ codes "element" ∷ decimal head.params.element ∷ codes "user" ∷ decimal head.params.user ∷ direction_text head.reversed ∷ []
+
+abbrev pub head_text : Head → List ℕ
+head_text head = words_text (head_words head) ++ LF ∷ []
+
+-- the text of a header of so many cycles and of these heads
+abbrev pub header_text : ℕ → List Head → List ℕ
+header_text cycles heads = codes "tydi-trace 1\ncycles " ++ decimal cycles ++ LF ∷ flat_map head_text heads
+
+-- a signal: its key, `=` and its value, where the stream has it
+abbrev pub signal_words : Bool → ℕ → List ℕ → List (List ℕ)
+signal_words present key value = if present then (key ∷ 61 ∷ value) ∷ [] else []
+
+-- the signals that a stream has, in their order
+abbrev pub transfer_words : Parameters → Transfer → List (List ℕ)
+transfer_words p t =
+    signal_words (has_content p) 100 (hex_of t.content) ++ signal_words (has_last p) 108 (hex_of t.last) ++ signal_words (has_stai p) 115 (decimal t.stai)
+    ++ signal_words (has_endi p) 101 (decimal t.endi) ++ signal_words (has_strb p) 98 (hex_of (bits_of p.lanes t.strb)) ++ signal_words (has_user p) 117 (hex_of t.user)
+
+-- `-` where there is no word
+abbrev pub or_dash : List (List ℕ) → List (List ℕ)
+or_dash [] = codes "-" ∷ []
+or_dash (word ∷ words) = word ∷ words
+
+-- the words of what a cycle shows
+abbrev pub payload_words : Parameters → Option Transfer → List (List ℕ)
+payload_words p None = codes "-" ∷ []
+payload_words p (Some t) = or_dash (transfer_words p t)
+
+abbrev pub bit_text : Bool → List ℕ
+bit_text bit = if bit then codes "1" else codes "0"
+
+-- the line of a row
+abbrev pub row_line : Parameters → Cycle → List ℕ
+row_line p cycle = words_text (bit_text (is_some cycle.shown) ∷ bit_text cycle.ready ∷ payload_words p cycle.shown)
+
+abbrev pub row_text : Parameters → Cycle → List ℕ
+row_text p cycle = row_line p cycle ++ LF ∷ []
+
+-- the rows of these streams, one row for each
+abbrev pub rows_text : List Parameters → List Cycle → List ℕ
+rows_text (p ∷ streams) (cycle ∷ cycles) = row_text p cycle ++ rows_text streams cycles
+rows_text streams cycles = []
+
+-- the text of a trace
+abbrev pub trace_text : TraceText → List ℕ
+trace_text t = header_text t.cycles t.heads ++ rows_text (owed (params_of_heads t.heads) t.cycles) t.rows
+
+-- what spells a trace is read as that trace
+abbrev pub TracesAreReadAsSpelled : Type 0
+TracesAreReadAsSpelled = (t : TraceText) → IsTrace t → trace_of (trace_text t) ≡ Ok t
+
+-- what is read as a trace is the one text of it
+abbrev pub TracesAreSpelledAsRead : Type 0
+TracesAreSpelledAsRead = (text : List ℕ) (t : TraceText) → trace_of text ≡ Ok t → IsTrace t × (text ≡ trace_text t)

@@ -1,0 +1,11 @@
+//! Traces of physical streams, cycle by cycle, and their text.
+#![tactic(auto)]
+
+mod fault;
+mod own_row;
+mod trace;
+mod words_left;
+
+pub use fault::TraceFault;
+pub use own_row::OwnRow;
+pub use trace::Trace;
