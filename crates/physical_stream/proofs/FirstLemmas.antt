@@ -26,7 +26,7 @@ rule_numbered-number_of_rule Nest = refl
 rule_numbered-number_of_rule Tag = refl
 
 -- no two rules have one number
-same_rule : (a b : Rule) → number_of_rule a ≡ number_of_rule b → a ≡ b
+pub same_rule : (a b : Rule) → number_of_rule a ≡ number_of_rule b → a ≡ b
 same_rule a b e = sym (rule_numbered-number_of_rule a) ∙ ap rule_numbered e ∙ rule_numbered-number_of_rule b
 
 -- two offences, each not after the other, are one

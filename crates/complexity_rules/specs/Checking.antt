@@ -1,0 +1,43 @@
+-- What a checker stands for, and what it says of one cycle more (this project's own).
+use Rattle.std.specs.Prelude.{◌≡◌, ℕ, ◌≤◌, if◌then◌else◌, List, [], ◌∷◌, ◌++◌, length, Option, Some, None}
+use Rattle.physical_stream.specs.Params.{Parameters}
+use Rattle.physical_stream.specs.Cycles.{Cycle, items_done, waiting_of}
+use Rattle.physical_stream.specs.Shape.{tail_of}
+use Rattle.physical_stream.specs.Counts.{transfers_of, packets_of}
+use Rattle.physical_stream.specs.Breaks.{BreaksAfter}
+use Rattle.physical_stream.specs.Rules.{number_of_rule}
+use Rattle.physical_stream.specs.declared.rule.Rule.{Rule}
+use Rattle.physical_stream.specs.declared.transfer.Transfer.{Transfer}
+use Rattle.complexity_rules.specs.declared.checker.Checker.{Checker}
+
+-- no rule is broken by the cycle, or this is the one with the lowest number
+abbrev pub IsLowestBroken : Parameters → List Cycle → Cycle → Option Rule → Type 0
+IsLowestBroken p before now None = (rule : Rule) → BreaksAfter rule p before now → ⊥
+IsLowestBroken p before now (Some lowest) =
+    BreaksAfter lowest p before now × ((rule : Rule) → BreaksAfter rule p before now → number_of_rule lowest ≤ number_of_rule rule)
+
+-- the stream that a checker checks
+abbrev pub params_in : Checker → Parameters
+params_in checker = checker.params
+
+-- how many cycles it has seen
+abbrev pub seen_in : Checker → ℕ
+seen_in checker = checker.seen
+
+-- the transfer that waits to be taken
+abbrev pub waiting_in : Checker → Option Transfer
+waiting_in checker = if checker.waits then Some checker.offered else None
+
+-- a checker stands for these cycles of its stream: what it keeps of them is theirs
+pub record StandsFor (checker : Checker) (cycles : List Cycle) : Type 0 where
+  pub seen : seen_in checker ≡ length cycles
+  pub waiting : waiting_in checker ≡ waiting_of cycles
+  pub tail : checker.tail ≡ tail_of (items_done checker.params cycles)
+  pub transfers : checker.transfers ≡ transfers_of cycles
+  pub packets : checker.packets ≡ packets_of checker.params cycles
+
+-- one cycle more: the lowest rule that it breaks, and the checker is as before; or it breaks none, and the checker stands for the
+-- longer list
+abbrev pub Steps : Checker → Checker → List Cycle → Cycle → Option Rule → Type 0
+Steps old new before now None = IsLowestBroken (params_in old) before now None × StandsFor new (before ++ now ∷ [])
+Steps old new before now (Some rule) = IsLowestBroken (params_in old) before now (Some rule) × (new ≡ old)

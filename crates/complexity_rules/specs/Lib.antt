@@ -1,0 +1,6 @@
+pub mod Checking
+pub mod Levels
+pub mod Lowest
+pub mod Pauses
+pub mod Table
+pub mod Walk

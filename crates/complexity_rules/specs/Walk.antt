@@ -1,0 +1,46 @@
+-- What a walk over the items of a transfer finds (this project's own).
+use Rattle.std.specs.Prelude.{◌≡◌, ℕ, suc, ◌+◌, ◌<◌, Bool, true, false, not, ◌||◌, List, [], ◌∷◌, count_by, Option, Some, None}
+use Rattle.physical_stream.specs.Params.{Parameters}
+use Rattle.physical_stream.specs.Items.{lane_items, last_bit, parts_below}
+use Rattle.physical_stream.specs.Shape.{kind_of, may_close}
+use Rattle.physical_stream.specs.Counts.{ends_packet}
+use Rattle.physical_stream.specs.declared.item.Item.{Item}
+use Rattle.physical_stream.specs.declared.item.Item.TheVariants as items
+use Rattle.physical_stream.specs.declared.item.Tail.{Tail}
+use Rattle.physical_stream.specs.declared.transfer.Transfer.{Transfer}
+use Rattle.complexity_rules.specs.declared.walk.Walk.{Walk}
+
+-- the kind of the last of these items, or what it was before them
+abbrev pub tail_over : Option Tail → List Item → Option Tail
+tail_over tail [] = tail
+tail_over tail (item ∷ more) = tail_over (Some (kind_of item)) more
+
+-- the item is a Close that may not stand after this tail
+abbrev pub is_misplaced : Option Tail → Item → Bool
+is_misplaced tail (items.Elem word) = false
+is_misplaced tail (items.Close dim) = not (may_close tail dim)
+
+-- some of these items is such a Close
+abbrev pub has_misplaced : Option Tail → List Item → Bool
+has_misplaced tail [] = false
+has_misplaced tail (item ∷ more) = is_misplaced tail item || has_misplaced (Some (kind_of item)) more
+
+-- some of these items is an element
+abbrev pub has_element : List Item → Bool
+has_element [] = false
+has_element (items.Elem word ∷ more) = true
+has_element (items.Close dim ∷ more) = has_element more
+
+-- the dimension of the first Close
+abbrev pub first_close : List Item → Option ℕ
+first_close [] = None
+first_close (items.Elem word ∷ more) = first_close more
+first_close (items.Close dim ∷ more) = Some dim
+
+-- what a walk finds that begins after this tail and goes over these items
+pub record Finds (dims : ℕ) (begins : Option Tail) (over : List Item) (walk : Walk) : Type 0 where
+  pub last : walk.tail ≡ tail_over begins over
+  pub active : walk.active ≡ has_element over
+  pub first : walk.first_close ≡ first_close over
+  pub misplaced : walk.misplaced ≡ has_misplaced begins over
+  pub packets : walk.packets ≡ count_by (ends_packet dims) over
