@@ -1,5 +1,5 @@
 -- The lowest rule of those whose tests hold (this project's own).
-use Rattle.std.specs.Prelude.{ℕ, Bool, ◌&&◌, nat_le, if◌then◌else◌, Option, Some, None}
+use Rattle.std.specs.Prelude.{ℕ, Bool, ◌&&◌, nat_le, if◌then◌else◌, Option, Some}
 use Rattle.tydi_base.specs.Level.{number_of}
 use Rattle.physical_stream.specs.Rules.{binds_up_to}
 use Rattle.physical_stream.specs.declared.rule.Rule.{Rule}

@@ -1,13 +1,10 @@
 -- What a walk over the items of a transfer finds (this project's own).
-use Rattle.std.specs.Prelude.{◌≡◌, ℕ, suc, ◌+◌, ◌<◌, Bool, true, false, not, ◌||◌, List, [], ◌∷◌, count_by, Option, Some, None}
-use Rattle.physical_stream.specs.Params.{Parameters}
-use Rattle.physical_stream.specs.Items.{lane_items, last_bit, parts_below}
-use Rattle.physical_stream.specs.Shape.{kind_of, may_close}
+use Rattle.std.specs.Prelude.{◌≡◌, ℕ, Bool, true, false, not, ◌||◌, List, [], ◌∷◌, count_by, Option, Some, None}
+use Rattle.physical_stream.specs.Shape.{kind_of, closes_empty, may_close}
 use Rattle.physical_stream.specs.Counts.{ends_packet}
 use Rattle.physical_stream.specs.declared.item.Item.{Item}
 use Rattle.physical_stream.specs.declared.item.Item.TheVariants as items
 use Rattle.physical_stream.specs.declared.item.Tail.{Tail}
-use Rattle.physical_stream.specs.declared.transfer.Transfer.{Transfer}
 use Rattle.complexity_rules.specs.declared.walk.Walk.{Walk}
 
 -- the kind of the last of these items, or what it was before them
@@ -37,6 +34,11 @@ first_close [] = None
 first_close (items.Elem word ∷ more) = first_close more
 first_close (items.Close dim ∷ more) = Some dim
 
+-- the first of two, where there is one
+abbrev pub first_of_two : Option ℕ → Option ℕ → Option ℕ
+first_of_two None y = y
+first_of_two (Some x) y = Some x
+
 -- what a walk finds that begins after this tail and goes over these items
 pub record Finds (dims : ℕ) (begins : Option Tail) (over : List Item) (walk : Walk) : Type 0 where
   pub last : walk.tail ≡ tail_over begins over
@@ -44,3 +46,8 @@ pub record Finds (dims : ℕ) (begins : Option Tail) (over : List Item) (walk : 
   pub first : walk.first_close ≡ first_close over
   pub misplaced : walk.misplaced ≡ has_misplaced begins over
   pub packets : walk.packets ≡ count_by (ends_packet dims) over
+
+-- nothing is closed first, or what is closed first is no empty sequence
+abbrev pub misses_empty : Option Tail → Option ℕ → Bool
+misses_empty tail None = true
+misses_empty tail (Some dim) = not (closes_empty tail dim)

@@ -1,9 +1,21 @@
-use physical_stream::Tail;
+//! A walk over the items of a transfer, lane by lane. It makes no list of them.
 
-/// What a walk over the items of a transfer has found so far.
+ghost use Rattle.std.specs.Prelude.{◌≡◌, ◌↔◌, ℕ, ◌+◌, ◌*◌, ◌<◌, ◌≤◌, ◌++◌, ◌∷◌, [], List, Bool, ◌||◌, not, ◌==◌, cond, Option, Some, if◌then◌else◌, IsTrue};
+ghost use Rattle.physical_stream.specs.Breaks.{BreaksLaneLast};
+ghost use Rattle.physical_stream.specs.Items.{is_active, items_of, lane_closes, lane_items, lane_word, last_bit, parts_below};
+ghost use Rattle.physical_stream.specs.Shape.{may_close};
+ghost use Rattle.physical_stream.specs.Signals.{Fits};
+ghost use Rattle.physical_stream.specs.declared.item.Item.{Item};
+ghost use Rattle.physical_stream.specs.declared.item.Item.TheVariants as items;
+ghost use Rattle.physical_stream.specs.declared.item.Tail.{Tail};
+ghost use Rattle.complexity_rules.specs.Walk.{Finds, first_of_two};
+
+use physical_stream::{Params, Tail, Transfer, is_active, is_last};
+
+/// What a walk over items has found so far.
 #[derive(Clone, Copy, Debug, PartialEq, Eq)]
 pub(crate) struct Walk {
-    /// The kind of the last item, also of those before the transfer.
+    /// The kind of the last item, also of those before the walk.
     pub tail: Option<Tail>,
     /// Whether an element came.
     pub active: bool,
@@ -13,4 +25,192 @@ pub(crate) struct Walk {
     pub misplaced: bool,
     /// The items that end a packet.
     pub packets: u64,
+}
+
+impl Walk {
+    /// A walk before its first item, after an item of this kind.
+    pub(crate) fn after(tail: Option<Tail>) -> Walk
+        ensures found { (dims : ℕ) → Finds dims tail [] result }
+        ensures few { result.packets ≡ 0 }
+    {
+        Walk {
+            tail,
+            active: false,
+            first_close: None,
+            misplaced: false,
+            packets: 0,
+        }
+    }
+
+    /// The walk goes over an element.
+    fn over_element(self, p: &Params) -> Walk
+        requires room { self.packets < 2 * 4224 }
+        ensures found { (begins : Option Tail) (over : List Item) (word : List Bool) → Finds p.now.dims begins over self → Finds p.now.dims begins (over ++ items.Elem word ∷ []) result }
+        ensures few { result.packets ≤ self.packets + 1 }
+    {
+        Walk {
+            tail: Some(Tail::Elem),
+            active: true,
+            packets: self.packets + counted(p.dims == 0),
+            ..self
+        }
+    }
+
+    /// The walk goes over a Close.
+    fn over_close(self, p: &Params, dim: u8) -> Walk
+        requires within { dim < p.now.dims }
+        requires room { self.packets < 2 * 4224 }
+        ensures found { (begins : Option Tail) (over : List Item) → Finds p.now.dims begins over self → Finds p.now.dims begins (over ++ items.Close dim ∷ []) result }
+        ensures few { result.packets ≤ self.packets + 1 }
+    {
+        Walk {
+            tail: Some(Tail::Close(dim)),
+            active: self.active,
+            first_close: first_of_two(self.first_close, dim),
+            misplaced: either(self.misplaced, is_misplaced(self.tail, dim)),
+            packets: self.packets + counted(is_outermost(p, dim)),
+        }
+    }
+
+    /// The walk goes over the end of this dimension where this lane marks it.
+    fn over_mark(self, p: &Params, transfer: &Transfer, lane: u16, dim: u8) -> Walk
+        requires fits { Fits p.now transfer.now }
+        requires within { lane < p.now.lanes }
+        requires in_lane { dim < p.now.dims }
+        requires room { self.packets < 2 * 4224 }
+        ensures found { (begins : Option Tail) (over : List Item) → Finds p.now.dims begins over self
+            → Finds p.now.dims begins (over ++ (if last_bit p.now transfer.now lane dim then items.Close dim ∷ [] else [])) result }
+        ensures few { result.packets ≤ self.packets + 1 }
+    {
+        if is_last(p, transfer, lane, dim) {
+            self.over_close(p, dim)
+        } else {
+            self
+        }
+    }
+
+    /// The walk goes over the ends that this lane marks.
+    fn over_marks(self, p: &Params, transfer: &Transfer, lane: u16) -> Walk
+        requires fits { Fits p.now transfer.now }
+        requires within { lane < p.now.lanes }
+        requires room { self.packets ≤ 4224 + 1 }
+        ensures found { (begins : Option Tail) (over : List Item) → Finds p.now.dims begins over self → Finds p.now.dims begins (over ++ lane_closes p.now transfer.now lane) result }
+        ensures few { result.packets ≤ self.packets + 32 }
+    {
+        let mut walk = self;
+        'dims: for dim in 0..p.dims {
+            walk = walk.over_mark(p, transfer, lane, dim);
+        }
+        walk
+    }
+
+    /// The walk goes over the element of this lane where it is active.
+    fn over_lane_element(self, p: &Params, transfer: &Transfer, lane: u16) -> Walk
+        requires numbered { lane < 128 }
+        requires room { self.packets ≤ 4224 }
+        ensures found { (begins : Option Tail) (over : List Item) → Finds p.now.dims begins over self
+            → Finds p.now.dims begins (over ++ (if is_active transfer.now lane then items.Elem (lane_word p.now transfer.now lane) ∷ [] else [])) result }
+        ensures few { result.packets ≤ self.packets + 1 }
+    {
+        if is_active(transfer, lane) {
+            self.over_element(p)
+        } else {
+            self
+        }
+    }
+
+    /// The walk goes over the items of this lane.
+    fn over_lane(self, p: &Params, transfer: &Transfer, lane: u16) -> Walk
+        requires fits { Fits p.now transfer.now }
+        requires within { lane < p.now.lanes }
+        requires numbered { lane < 128 }
+        requires room { self.packets ≤ 33 * lane }
+        ensures found { (begins : Option Tail) (over : List Item) → Finds p.now.dims begins over self → Finds p.now.dims begins (over ++ lane_items p.now transfer.now lane) result }
+        ensures few { result.packets ≤ 33 * (lane + 1) }
+    {
+        self.over_lane_element(p, transfer, lane)
+            .over_marks(p, transfer, lane)
+    }
+
+    /// The walk goes over the items of the first lanes, so many of them.
+    fn over_lanes(self, p: &Params, transfer: &Transfer, count: u16) -> Walk
+        requires fits { Fits p.now transfer.now }
+        requires within { count ≤ p.now.lanes }
+        requires numbered { count ≤ 128 }
+        requires fresh { self.packets ≡ 0 }
+        ensures found { (begins : Option Tail) → Finds p.now.dims begins [] self → Finds p.now.dims begins (parts_below (lane_items p.now transfer.now) count) result }
+        ensures few { result.packets ≤ 33 * count }
+    {
+        let mut walk = self;
+        'lanes: for lane in 0..count {
+            walk = walk.over_lane(p, transfer, lane);
+        }
+        walk
+    }
+}
+
+/// What the items of a transfer are, after an item of some kind.
+#[derive(Clone, Copy, Debug, PartialEq, Eq)]
+pub(crate) struct Shown {
+    /// Whether a lane before the last one marks an end.
+    pub early: bool,
+    /// The walk over all its items.
+    pub walk: Walk,
+}
+
+/// Walks over the items of a transfer, after an item of this kind.
+pub(crate) fn walk_over(p: &Params, transfer: &Transfer, tail: Option<Tail>) -> Shown
+    requires fits { Fits p.now transfer.now }
+    ensures found { Finds p.now.dims tail (items_of p.now transfer.now) result.walk }
+    ensures early { IsTrue result.early ↔ BreaksLaneLast p.now transfer.now }
+    ensures few { result.walk.packets ≤ 4224 }
+{
+    let last = p.lanes - 1;
+    let before = Walk::after(tail).over_lanes(p, transfer, last);
+    Shown {
+        early: before.first_close.is_some(),
+        walk: before.over_lane(p, transfer, last),
+    }
+}
+
+/// Whether this is the dimension of packets.
+fn is_outermost(p: &Params, dim: u8) -> bool
+    ensures { result ≡ (dim + 1 == p.now.dims) }
+{
+    u16::from(dim) + 1 == u16::from(p.dims)
+}
+
+/// 1 for true.
+fn counted(counts: bool) -> u64
+    ensures { result ≡ cond counts 1 0 }
+{
+    u64::from(counts)
+}
+
+/// Whether one of two holds. It looks at both, since neither is foreseen.
+fn either(one: bool, other: bool) -> bool
+    ensures { result ≡ (one || other) }
+{
+    one | other
+}
+
+/// The first of two dimensions, where there is one.
+fn first_of_two(first: Option<u8>, dim: u8) -> Option<u8>
+    ensures { result ≡ first_of_two first (Some dim) }
+{
+    match first {
+        None => Some(dim),
+        Some(first) => Some(first),
+    }
+}
+
+/// Whether a Close of this dimension may not stand after an item of this kind.
+fn is_misplaced(tail: Option<Tail>, dim: u8) -> bool
+    ensures { result ≡ not (may_close tail dim) }
+{
+    match tail {
+        None => false,
+        Some(Tail::Elem) => dim > 0,
+        Some(Tail::Close(inner)) => u16::from(dim) > u16::from(inner) + 1,
+    }
 }

@@ -6,7 +6,7 @@ ghost use Rattle.physical_stream.specs.Signals.{Fits};
 ghost use Rattle.physical_stream.specs.declared.item.Item.TheVariants.{Close};
 
 use crate::item::Item;
-use crate::lane::is_active;
+use crate::lane::{is_active, is_last};
 use crate::params::Params;
 use crate::transfer::Transfer;
 use std::alloc::Global;
@@ -85,19 +85,8 @@ fn push_close(
     requires in_lane { dim < p.now.dims }
     ensures { OnOk result (items.new ≡ items.old ++ (if last_bit p.now transfer.now lane dim then Close dim ∷ [] else [])) }
 {
-    if last_bit(p, transfer, lane, dim) {
+    if is_last(p, transfer, lane, dim) {
         items.push(Item::Close(dim))?;
     }
     Ok(())
-}
-
-// The last bit of a dimension in a lane.
-fn last_bit(p: &Params, transfer: &Transfer, lane: u16, dim: u8) -> bool
-    requires fits { Fits p.now transfer.now }
-    requires within { lane < p.now.lanes }
-    requires in_lane { dim < p.now.dims }
-    ensures { result ≡ last_bit p.now transfer.now lane dim }
-{
-    let place = usize::from(lane) * usize::from(p.dims) + usize::from(dim);
-    transfer.last.get(place)
 }

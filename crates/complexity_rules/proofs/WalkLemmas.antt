@@ -1,0 +1,131 @@
+-- What a walk over items finds, item by item and list by list.
+use Rattle.std.proofs.Common.{◌≡◌, ◌∙◌, ℕ, ◌+◌, Bool, true, false, not, ◌||◌, if◌then◌else◌, List, [], ◌∷◌, ◌++◌, cond, ◌==◌, Option, None, Some, refl, sym, ap, subst, append_assoc}
+use Rattle.std.proofs.Math.Bool.{or_assoc}
+use Rattle.std.proofs.lemmas.List.{append-nil}
+use Rattle.std.proofs.lemmas.List.Sums.{sum_by_push}
+use Rattle.physical_stream.specs.Params.{Parameters}
+use Rattle.physical_stream.specs.Items.{parts_below, lane_items, items_of}
+use Rattle.physical_stream.specs.declared.transfer.Transfer.{Transfer}
+use Rattle.physical_stream.specs.Counts.{ends_packet}
+use Rattle.physical_stream.specs.Shape.{kind_of, tail_of, may_close}
+use Rattle.physical_stream.specs.declared.item.Item.{Item}
+use Rattle.physical_stream.specs.declared.item.Item.TheVariants as items
+use Rattle.physical_stream.specs.declared.item.Tail.{Tail}
+use Rattle.physical_stream.specs.declared.item.Tail.TheVariants as tails
+use Rattle.physical_stream.proofs.ItemsLemmas.{parts_below-more}
+use Rattle.complexity_rules.specs.Walk.{tail_over, is_misplaced, has_misplaced, has_element, first_close, first_of_two, Finds}
+use Rattle.complexity_rules.specs.declared.walk.Walk.{Walk}
+
+pub tail_over-append : (tail : Option Tail) (a b : List Item) → tail_over tail (a ++ b) ≡ tail_over (tail_over tail a) b
+tail_over-append tail [] b = refl
+tail_over-append tail (i ∷ a) b = tail_over-append (Some (kind_of i)) a b
+
+pub has_misplaced-append : (tail : Option Tail) (a b : List Item) → has_misplaced tail (a ++ b) ≡ (has_misplaced tail a || has_misplaced (tail_over tail a) b)
+has_misplaced-append tail [] b = refl
+has_misplaced-append tail (i ∷ a) b =
+    ap (λ (more : Bool). is_misplaced tail i || more) (has_misplaced-append (Some (kind_of i)) a b)
+    ∙ sym (or_assoc (is_misplaced tail i) (has_misplaced (Some (kind_of i)) a) (has_misplaced (tail_over (Some (kind_of i)) a) b))
+
+pub has_element-append : (a b : List Item) → has_element (a ++ b) ≡ (has_element a || has_element b)
+has_element-append [] b = refl
+has_element-append (items.Elem word ∷ a) b = refl
+has_element-append (items.Close dim ∷ a) b = has_element-append a b
+
+pub first_close-append : (a b : List Item) → first_close (a ++ b) ≡ first_of_two (first_close a) (first_close b)
+first_close-append [] b = refl
+first_close-append (items.Elem word ∷ a) b = first_close-append a b
+first_close-append (items.Close dim ∷ a) b = refl
+
+-- ---- the tail
+
+tail_of-over_none : (is : List Item) → tail_of is ≡ tail_over None is
+tail_of-over_none [] = refl
+tail_of-over_none (i ∷ []) = refl
+tail_of-over_none (i ∷ j ∷ more) = tail_of-over_none (j ∷ more)
+
+-- the tail of more items is that of a walk from the tail before them
+pub tail_of-over : (done is : List Item) → tail_of (done ++ is) ≡ tail_over (tail_of done) is
+tail_of-over done is =
+    tail_of-over_none (done ++ is) ∙ tail_over-append None done is ∙ ap (λ (t : Option Tail). tail_over t is) (sym (tail_of-over_none done))
+
+-- ---- one item more
+
+or_false : (b : Bool) → (b || false) ≡ b
+or_false false = refl
+or_false true = refl
+
+or_true : (b : Bool) → (b || true) ≡ true
+or_true false = refl
+or_true true = refl
+
+first_of_two-none : (x : Option ℕ) → first_of_two x None ≡ x
+first_of_two-none None = refl
+first_of_two-none (Some x) = refl
+
+-- over an element
+pub Finds-element : (dims : ℕ) (begins : Option Tail) (over : List Item) (word : List Bool) (walk : Walk) (packets : ℕ) →
+    packets ≡ walk.packets + cond (dims == 0) 1 0 → Finds dims begins over walk →
+    Finds dims begins (over ++ items.Elem word ∷ [])
+    (record { tail = Some tails.Elem; active = true; first_close = walk.first_close; misplaced = walk.misplaced; packets = packets })
+Finds-element dims begins over word walk packets counted f = record {
+  last = sym (tail_over-append begins over (items.Elem word ∷ []));
+  active = sym (has_element-append over (items.Elem word ∷ []) ∙ or_true (has_element over));
+  first = f.first ∙ sym (first_close-append over (items.Elem word ∷ []) ∙ first_of_two-none (first_close over));
+  misplaced = f.misplaced ∙ sym (has_misplaced-append begins over (items.Elem word ∷ []) ∙ or_false (has_misplaced begins over));
+  packets =
+      counted ∙ ap (λ (n : ℕ). n + cond (dims == 0) 1 0) f.packets
+      ∙ sym (sum_by_push (λ i. cond (ends_packet dims i) 1 0) over (items.Elem word));
+}
+
+-- over a Close
+pub Finds-close : (dims : ℕ) (begins : Option Tail) (over : List Item) (dim : ℕ) (walk : Walk) (first : Option ℕ) (misplaced : Bool) (packets : ℕ) →
+    first ≡ first_of_two walk.first_close (Some dim) → misplaced ≡ (walk.misplaced || not (may_close walk.tail dim)) →
+    packets ≡ walk.packets + cond (dim + 1 == dims) 1 0 → Finds dims begins over walk →
+    Finds dims begins (over ++ items.Close dim ∷ [])
+    (record { tail = Some (tails.Close dim); active = walk.active; first_close = first; misplaced = misplaced; packets = packets })
+Finds-close dims begins over dim walk first misplaced packets first_is misplaced_is counted f = record {
+  last = sym (tail_over-append begins over (items.Close dim ∷ []));
+  active = f.active ∙ sym (has_element-append over (items.Close dim ∷ []) ∙ or_false (has_element over));
+  first = first_is ∙ ap (λ (x : Option ℕ). first_of_two x (Some dim)) f.first ∙ sym (first_close-append over (items.Close dim ∷ []));
+  misplaced =
+      misplaced_is ∙ ap (λ (b : Bool). b || not (may_close walk.tail dim)) f.misplaced
+      ∙ ap (λ (t : Option Tail). has_misplaced begins over || not (may_close t dim)) f.last
+      ∙ ap (λ (b : Bool). has_misplaced begins over || b) (sym (or_false (not (may_close (tail_over begins over) dim))))
+      ∙ sym (has_misplaced-append begins over (items.Close dim ∷ []));
+  packets =
+      counted ∙ ap (λ (n : ℕ). n + cond (dim + 1 == dims) 1 0) f.packets
+      ∙ sym (sum_by_push (λ i. cond (ends_packet dims i) 1 0) over (items.Close dim));
+}
+
+-- no item more
+pub Finds-none : (dims : ℕ) (begins : Option Tail) (over : List Item) (walk : Walk) → Finds dims begins over walk → Finds dims begins (over ++ []) walk
+Finds-none dims begins over walk f = subst (λ (is : List Item). Finds dims begins is walk) (sym (append-nil over)) f
+
+-- the items of one place more, where a walk goes place by place
+pub Finds-place : (dims : ℕ) (begins : Option Tail) (over : List Item) (part : ℕ → List Item) (n : ℕ) (walk : Walk) →
+    Finds dims begins ((over ++ parts_below part n) ++ part n) walk → Finds dims begins (over ++ parts_below part (n + 1)) walk
+Finds-place dims begins over part n walk f =
+    subst (λ (is : List Item). Finds dims begins is walk)
+    (append_assoc over (parts_below part n) (part n) ∙ ap (λ (is : List Item). over ++ is) (sym (parts_below-more part n))) f
+
+-- an item that is there, or not
+pub Finds-there : (dims : ℕ) (begins : Option Tail) (over : List Item) (item : Item) (there : Bool) (walk : Walk) → there ≡ true →
+    Finds dims begins (over ++ item ∷ []) walk → Finds dims begins (over ++ (if there then item ∷ [] else [])) walk
+Finds-there dims begins over item there walk is f =
+    subst (λ (b : Bool). Finds dims begins (over ++ (if b then item ∷ [] else [])) walk) (sym is) f
+
+pub Finds-absent : (dims : ℕ) (begins : Option Tail) (over : List Item) (item : Item) (there : Bool) (walk : Walk) → there ≡ false →
+    Finds dims begins over walk → Finds dims begins (over ++ (if there then item ∷ [] else [])) walk
+Finds-absent dims begins over item there walk is f =
+    subst (λ (b : Bool). Finds dims begins (over ++ (if b then item ∷ [] else [])) walk) (sym is) (Finds-none dims begins over walk f)
+
+-- two parts, one after another
+pub Finds-parts : (dims : ℕ) (begins : Option Tail) (over a b : List Item) (walk : Walk) →
+    Finds dims begins ((over ++ a) ++ b) walk → Finds dims begins (over ++ (a ++ b)) walk
+Finds-parts dims begins over a b walk f = subst (λ (is : List Item). Finds dims begins is walk) (append_assoc over a b) f
+
+-- the lanes before the last one, and then the last one, are all
+pub Finds-all : (p : Parameters) (t : Transfer) (begins : Option Tail) (before : ℕ) (walk : Walk) → before + 1 ≡ p.lanes →
+    Finds p.dims begins (parts_below (lane_items p t) before ++ lane_items p t before) walk → Finds p.dims begins (items_of p t) walk
+Finds-all p t begins before walk next f =
+    subst (λ (is : List Item). Finds p.dims begins is walk) (sym (parts_below-more (lane_items p t) before) ∙ ap (parts_below (lane_items p t)) next) f
