@@ -1,2 +1,4 @@
 pub mod WalkLemmas
 pub mod LaneLemmas
+pub mod StrobeLemmas
+pub mod BreakLemmas

@@ -1,6 +1,6 @@
 //! What one lane of a transfer says.
 
-ghost use Rattle.std.specs.Prelude.{◌≡◌, ◌<◌};
+ghost use Rattle.std.specs.Prelude.{◌≡◌, ◌-◌, ◌^◌, ◌<◌, ◌≤◌};
 ghost use Rattle.physical_stream.specs.Items.{is_active, last_bit};
 ghost use Rattle.physical_stream.specs.Signals.{Fits};
 
@@ -24,4 +24,16 @@ pub fn is_last(p: &Params, transfer: &Transfer, lane: u16, dim: u8) -> bool
 {
     let place = usize::from(lane) * usize::from(p.dims) + usize::from(dim);
     transfer.last.get(place)
+}
+
+/// The strobe bits of so many lanes, each of them 1.
+pub fn all_lanes(lanes: u16) -> u128
+    requires { lanes ≤ 128 }
+    ensures { result ≡ 2 ^ lanes - 1 }
+{
+    if lanes == 128 {
+        u128::MAX
+    } else {
+        (1 << lanes) - 1
+    }
 }

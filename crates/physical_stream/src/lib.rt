@@ -20,7 +20,7 @@ pub use end::End;
 pub use head::{Head, Header};
 pub use item::{Item, Tail};
 pub use items::items_of;
-pub use lane::{is_active, is_last};
+pub use lane::{all_lanes, is_active, is_last};
 pub use params::Params;
 pub use row::Row;
 pub use rule::Rule;
