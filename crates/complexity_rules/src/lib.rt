@@ -4,6 +4,8 @@
 #![tactic(auto)]
 
 mod checker;
+mod table;
 mod walk;
 
 pub use checker::Checker;
+pub use table::{BINDS, RuleTable, binds};
