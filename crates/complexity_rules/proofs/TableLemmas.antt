@@ -1,8 +1,8 @@
 -- Tables of cells: the test by recursion, what it says of each entry, and the table of the rules.
 use Rattle.std.proofs.Common.{◌≡◌, ◌∙◌, ℕ, zero, suc, ◌+◌, ◌-◌, ◌<◌, ◌≤◌, ◌↔◌, ◌⊎◌, inl, inr, Bool, true, false, not, ◌&&◌, ◌||◌, IsTrue, nat_lt, nat_le, List, [], ◌∷◌, length, get_or, drop, slice_get, Option, Some, refl, sym, ap, arith, subst}
 use Rattle.std.specs.List.{list_all}
-use Rattle.std.proofs.lemmas.List.{at_drop_more, get_or_default}
-use Rattle.std.proofs.lemmas.Option.{get_or_from_slice_get, slice_get-get_or, slice_get_read, slice_get_within}
+use Rattle.std.proofs.lemmas.List.{at_drop_more, at_drop_all}
+use Rattle.std.proofs.lemmas.Option.{get_or_from_slice_get, slice_get-get_or, slice_get_within}
 use Rattle.std.proofs.lemmas.Bool.Decides.{nat_tests}
 use borrow.Author.Count.{below_more}
 use Rattle.tydi_base.specs.Level.{IsLevel, number_of}
@@ -64,28 +64,48 @@ row_test row = (
   (λ monotone. falls_from_monotone true row (behind_true row monotone))
 )
 
--- one cell more of a row
-pub falls_more : (row : List Bool) (before cell : Bool) (i : ℕ) → i < length row → cell ≡ get_or row i cell →
-    falls_after before (drop i row) ≡ falls_after true row → ((before || not cell) && falls_after cell (drop (i + 1) row)) ≡ falls_after true row
-falls_more row before cell i within read so_far =
-    ap (λ (c : Bool). (before || not c) && falls_after c (drop (i + 1) row)) read ∙ sym (at_drop_more (falls_after before) row i cell within) ∙ so_far
+-- a true cell behind a false one
+pub row_stops : (row : List Bool) (before : Bool) (i : ℕ) → i < length row → before ≡ false → get_or row i false ≡ true →
+    falls_after before (drop i row) ≡ falls_after true row → IsTrue false ↔ IsMonotoneRow row
+row_stops row before i within clear set so_far = (
+  (λ e. absurd cc),
+  (λ monotone.
+    let here : falls_after before (drop i row) ≡ falls_after before (get_or row i false ∷ drop (i + 1) row) = at_drop_more (falls_after before) row i false within in
+    let stops : falls_after before (get_or row i false ∷ drop (i + 1) row) ≡ false = rw (clear, set) in
+    let falls : falls_after true row ≡ true = (row_test row).1 monotone in
+    cc)
+)
+
+-- at the end of a row
+pub row_ends : (row : List Bool) (before : Bool) (i : ℕ) → length row ≤ i → falls_after before (drop i row) ≡ falls_after true row → IsTrue true ↔ IsMonotoneRow row
+row_ends row before i past so_far = (
+  (λ e. (row_test row).0 (sym so_far ∙ at_drop_all (falls_after before) row i past)),
+  (λ monotone. refl)
+)
 
 -- the rows above n
 abbrev pub RowsBelow : List (List Bool) → ℕ → Type 0
 RowsBelow cells n = (rule : ℕ) → rule < n → IsMonotoneRow (get_or cells rule [])
 
-pub rows_more : (cells : List (List Bool)) (row : List Bool) (n : ℕ) → n < length cells → row ≡ get_or cells n row → IsMonotoneRow row →
-    RowsBelow cells n → RowsBelow cells (n + 1)
-rows_more cells row n within read here below =
-    below_more (λ rule. IsMonotoneRow (get_or cells rule [])) n below (subst IsMonotoneRow (read ∙ get_or_default cells n row [] within) here)
+pub rows_more : (cells : List (List Bool)) (n : ℕ) → IsMonotoneRow (get_or cells n []) → RowsBelow cells n → RowsBelow cells (n + 1)
+rows_more cells n here below = below_more (λ rule. IsMonotoneRow (get_or cells rule [])) n below here
 
-pub rows_all : (cells : List (List Bool)) (n : ℕ) → length cells ≤ n → RowsBelow cells n → IsMonotone cells
-rows_all cells n whole below rule lower level row less at on =
+pub rows_stop : (cells : List (List Bool)) (n : ℕ) (told : Bool) → n < length cells → told ≡ false → IsTrue told ↔ IsMonotoneRow (get_or cells n []) →
+    IsTrue false ↔ IsMonotone cells
+rows_stop cells n told within clear tells = (
+  (λ e. absurd cc),
+  (λ monotone.
+    let on : told ≡ true = tells.1 (λ lower level less at. monotone n lower level (get_or cells n []) less (slice_get-get_or cells n [] within) at) in
+    cc)
+)
+
+pub rows_end : (cells : List (List Bool)) (n : ℕ) → length cells ≤ n → RowsBelow cells n → IsTrue true ↔ IsMonotone cells
+rows_end cells n whole below = (
+  (λ e rule lower level row less at on.
     let within : rule < length cells = slice_get_within cells rule row at in
-    subst IsMonotoneRow (get_or_from_slice_get cells rule row [] at) (below rule (omega arith)) lower level less on
-
-pub rows_not : (cells : List (List Bool)) (row : List Bool) (n : ℕ) → n < length cells → row ≡ get_or cells n row → IsMonotone cells → IsMonotoneRow row
-rows_not cells row n within read monotone lower level less on = monotone n lower level row less (slice_get_read cells (length cells) n row refl within read) on
+    subst IsMonotoneRow (get_or_from_slice_get cells rule row [] at) (below rule (omega arith)) lower level less on),
+  (λ monotone. refl)
+)
 
 -- the test of a whole table
 rows_by_test : (cells : List (List Bool)) → list_all (falls_after true) cells ≡ true → IsMonotone cells
