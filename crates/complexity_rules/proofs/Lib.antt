@@ -1,1 +1,3 @@
+pub mod LevelLemmas
+pub mod PauseLemmas
 pub mod TableLemmas

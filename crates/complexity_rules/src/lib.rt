@@ -4,8 +4,12 @@
 #![tactic(auto)]
 
 mod checker;
+mod levels;
+mod pauses;
 mod table;
 mod walk;
 
 pub use checker::Checker;
-pub use table::{BINDS, RuleTable, binds};
+pub use levels::levels_are_kept;
+pub use pauses::may_pause;
+pub use table::{BINDS, RuleTable, binds, table_is_monotone};

@@ -57,6 +57,14 @@ fn is_monotone_row(row: &[bool]) -> bool
     true
 }
 
+/// The table of the rules is monotone: what binds at a level binds at every lower one.
+pub fn table_is_monotone()
+    ensures { IsMonotone BINDS.cells }
+{
+    let monotone = BINDS.is_monotone();
+    prove!(monotone);
+}
+
 /// Whether the rule binds at the level, read from the table.
 #[inline]
 pub fn binds(rule: Rule, level: Level) -> bool
