@@ -12,7 +12,7 @@ use Rattle.physical_stream.specs.declared.rule.Rule.TheVariants.{InnerPause, Out
 use Rattle.complexity_rules.specs.Pauses.{MayPause, is_after_element, is_inside_packet, is_inside_sequence}
 
 pub inner_pause_test : (p : Parameters) (done : List Item) (tail : Option Tail) → tail ≡ tail_of done → IsTrue (is_inside_sequence p.dims tail) ↔ BreaksInnerPause p done
-inner_pause_test p done tail e = ?
+inner_pause_test p done tail e = grind (arith, nat_tests)
 
 pub outer_pause_test : (p : Parameters) (done : List Item) (tail : Option Tail) → tail ≡ tail_of done → IsTrue (is_inside_packet p.dims tail) ↔ BreaksOuterPause p done
-outer_pause_test p done tail e = ?
+outer_pause_test p done tail e = grind (arith, nat_tests)
