@@ -1,17 +1,16 @@
 -- What one level allows, every greater one allows: what is forbidden does not depend on the level, but for where rules bind.
-use Rattle.std.proofs.Common.{◌≡◌, ◌∙◌, ℕ, ◌<◌, ◌≤◌, List, length, get_or, take, slice_get, Option, Some, None, arith, sym, ap, subst}
+use Rattle.std.proofs.Common.{◌≡◌, ◌∙◌, ℕ, ◌<◌, ◌≤◌, List, length, get_or, take, slice_get, Option, Some, None, arith, ap, subst}
 use Rattle.std.proofs.lemmas.Option.{slice_get-get_or, slice_get_within}
 use Rattle.tydi_base.specs.Level.{number_of}
 use Rattle.physical_stream.specs.Params.{Parameters}
 use Rattle.physical_stream.specs.Cycles.{Cycle, StreamTrace, items_done}
 use Rattle.physical_stream.specs.Breaks.{BreaksLaneLast, BreaksStrobe, BreaksEmpty, BreaksNest, OnShown, Forbids, BreaksAfter, Breaks}
 use Rattle.physical_stream.specs.Ending.{ending_of}
-use Rattle.physical_stream.specs.First.{Offence, Offends}
 use Rattle.physical_stream.specs.declared.item.Item.{Item}
 use Rattle.physical_stream.specs.declared.rule.Rule.{Rule}
-use Rattle.physical_stream.specs.declared.rule.Rule.TheVariants.{Hold, Index, LaneLast, Strobe, Start, End, Empty, InnerPause, OuterPause, Nest, Tag}
+use Rattle.physical_stream.specs.declared.rule.Rule.TheVariants.{LaneLast, Strobe, Empty, Nest}
 use Rattle.physical_stream.specs.declared.transfer.Transfer.{Transfer}
-use Rattle.complexity_rules.specs.Levels.{at_level, IsRaised, AreRaised, OffencesFall, EndingStays}
+use Rattle.complexity_rules.specs.Levels.{at_level, IsRaised, OffencesFall, EndingStays}
 
 -- a rule on the transfer that is shown, where one forbids no more than another
 on_shown : (P Q : Transfer → Type 0) → ((t : Transfer) → P t → Q t) → (shown : Option Transfer) → OnShown P shown → OnShown Q shown
@@ -52,7 +51,7 @@ breaks_after-at_level : (rule : Rule) (level : ℕ) (p : Parameters) (before : L
     BreaksAfter rule (at_level level p) before now → BreaksAfter rule p before now
 breaks_after-at_level rule level p before now higher broken = (
   (let binds = broken.0 in omega arith),
-  forbids-at_level rule level p before now broken.1
+  forbids-at_level rule level p before now broken.1,
 )
 
 breaks_fall : (rule : Rule) (number : ℕ) (low high : StreamTrace) → IsRaised low high → Breaks rule high.params high.cycles number → Breaks rule low.params low.cycles number
@@ -60,9 +59,9 @@ breaks_fall rule number low high raised broken = record {
   now = broken.now;
   stands = subst (λ (cycles : List Cycle). slice_get cycles number ≡ Some broken.now) raised.cycles broken.stands;
   broken =
-    breaks_after-at_level rule high.params.level low.params (take number low.cycles) broken.now raised.level
+      breaks_after-at_level rule high.params.level low.params (take number low.cycles) broken.now raised.level
       (subst (λ (p : Parameters). BreaksAfter rule p (take number low.cycles) broken.now) raised.params
-        (subst (λ (cycles : List Cycle). BreaksAfter rule high.params (take number cycles) broken.now) raised.cycles broken.broken));
+      (subst (λ (cycles : List Cycle). BreaksAfter rule high.params (take number cycles) broken.now) raised.cycles broken.broken));
 }
 
 pub offences_fall : OffencesFall

@@ -1,5 +1,5 @@
 -- Tables of cells: the test by recursion, what it says of each entry, and the table of the rules.
-use Rattle.std.proofs.Common.{◌≡◌, ◌∙◌, ℕ, zero, suc, ◌+◌, ◌-◌, ◌<◌, ◌≤◌, ◌↔◌, ◌⊎◌, inl, inr, Bool, true, false, not, ◌&&◌, ◌||◌, IsTrue, nat_lt, nat_le, List, [], ◌∷◌, length, get_or, drop, slice_get, Option, Some, refl, sym, ap, arith, subst}
+use Rattle.std.proofs.Common.{◌≡◌, ◌∙◌, ℕ, zero, suc, ◌+◌, ◌-◌, ◌<◌, ◌≤◌, ◌↔◌, ◌⊎◌, inl, inr, Bool, true, false, not, ◌&&◌, ◌||◌, IsTrue, nat_lt, nat_le, List, [], ◌∷◌, length, get_or, drop, slice_get, Some, refl, sym, ap, arith, subst}
 use Rattle.std.specs.List.{list_all}
 use Rattle.std.proofs.lemmas.List.{at_drop_more, at_drop_all}
 use Rattle.std.proofs.lemmas.Option.{get_or_from_slice_get, slice_get-get_or, slice_get_within}
@@ -8,7 +8,7 @@ use borrow.Author.Count.{below_more}
 use Rattle.tydi_base.specs.Level.{IsLevel, number_of}
 use Rattle.physical_stream.specs.Rules.{Binds, binds_up_to, number_of_rule}
 use Rattle.physical_stream.specs.declared.rule.Rule.{Rule}
-use Rattle.physical_stream.specs.declared.rule.Rule.TheVariants.{Hold, Index, LaneLast, Strobe, Start, End, Empty, InnerPause, OuterPause, Nest, Tag}
+use Rattle.physical_stream.specs.declared.rule.Rule.TheVariants.{Hold}
 use Rattle.complexity_rules.specs.Table.{IsMonotone, IsMonotoneRow}
 use Rattle.complexity_rules.specs.declared.table.TheConstants.{BINDS}
 
@@ -61,7 +61,7 @@ behind_true row monotone (suc lower) (suc level) less on = monotone lower level 
 pub row_test : (row : List Bool) → IsTrue (falls_after true row) ↔ IsMonotoneRow row
 row_test row = (
   (λ e lower level less on. monotone_from_falls true row e (suc lower) (suc level) (omega arith) on),
-  (λ monotone. falls_from_monotone true row (behind_true row monotone))
+  (λ monotone. falls_from_monotone true row (behind_true row monotone)),
 )
 
 -- a true cell behind a false one
@@ -70,17 +70,17 @@ pub row_stops : (row : List Bool) (before : Bool) (i : ℕ) → i < length row �
 row_stops row before i within clear set so_far = (
   (λ e. absurd cc),
   (λ monotone.
-    let here : falls_after before (drop i row) ≡ falls_after before (get_or row i false ∷ drop (i + 1) row) = at_drop_more (falls_after before) row i false within in
-    let stops : falls_after before (get_or row i false ∷ drop (i + 1) row) ≡ false = rw (clear, set) in
-    let falls : falls_after true row ≡ true = (row_test row).1 monotone in
-    cc)
+      let here : falls_after before (drop i row) ≡ falls_after before (get_or row i false ∷ drop (i + 1) row) = at_drop_more (falls_after before) row i false within in
+      let stops : falls_after before (get_or row i false ∷ drop (i + 1) row) ≡ false = rw (clear, set) in
+      let falls : falls_after true row ≡ true = (row_test row).1 monotone in
+      cc),
 )
 
 -- at the end of a row
 pub row_ends : (row : List Bool) (before : Bool) (i : ℕ) → length row ≤ i → falls_after before (drop i row) ≡ falls_after true row → IsTrue true ↔ IsMonotoneRow row
 row_ends row before i past so_far = (
   (λ e. (row_test row).0 (sym so_far ∙ at_drop_all (falls_after before) row i past)),
-  (λ monotone. refl)
+  (λ monotone. refl),
 )
 
 -- the rows above n
@@ -95,16 +95,16 @@ pub rows_stop : (cells : List (List Bool)) (n : ℕ) (told : Bool) → n < lengt
 rows_stop cells n told within clear tells = (
   (λ e. absurd cc),
   (λ monotone.
-    let on : told ≡ true = tells.1 (λ lower level less at. monotone n lower level (get_or cells n []) less (slice_get-get_or cells n [] within) at) in
-    cc)
+      let on : told ≡ true = tells.1 (λ lower level less at. monotone n lower level (get_or cells n []) less (slice_get-get_or cells n [] within) at) in
+      cc),
 )
 
 pub rows_end : (cells : List (List Bool)) (n : ℕ) → length cells ≤ n → RowsBelow cells n → IsTrue true ↔ IsMonotone cells
 rows_end cells n whole below = (
   (λ e rule lower level row less at on.
-    let within : rule < length cells = slice_get_within cells rule row at in
-    subst IsMonotoneRow (get_or_from_slice_get cells rule row [] at) (below rule (omega arith)) lower level less on),
-  (λ monotone. refl)
+      let within : rule < length cells = slice_get_within cells rule row at in
+      subst IsMonotoneRow (get_or_from_slice_get cells rule row [] at) (below rule (omega arith)) lower level less on),
+  (λ monotone. refl),
 )
 
 -- the test of a whole table
@@ -161,7 +161,7 @@ cell_test rule level within =
     let says = row_says rule in
     let many = says.many in
     let cell : cell_at (number_of_rule rule) level ≡ nat_lt (level - 1) (binds_up_to rule) =
-        up_to-cell (binds_up_to rule) 0 (level - 1) (level - 1) (row_of rule) says.up_to (omega arith) (omega arith) in
+    up_to-cell (binds_up_to rule) 0 (level - 1) (level - 1) (row_of rule) says.up_to (omega arith) (omega arith) in
     ((λ e. grind (arith, nat_tests)), (λ binds. grind (arith, nat_tests)))
 
 -- a true cell says that the rule binds, and a false one that it does not
@@ -190,6 +190,6 @@ cell-below rule number level place named placed within on lower low less =
     let many = says.many in
     let row_within = says.within in
     let monotone : IsMonotoneRow (row_of rule) =
-        λ low high under at. binds_is_monotone (number_of_rule rule - 1) low high (row_of rule) under (slice_get-get_or BINDS.cells (number_of_rule rule - 1) [] row_within) at in
+    λ low high under at. binds_is_monotone (number_of_rule rule - 1) low high (row_of rule) under (slice_get-get_or BINDS.cells (number_of_rule rule - 1) [] row_within) at in
     let here : get_or (row_of rule) (place - 1) false ≡ true = subst (λ (n : ℕ). IsTrue (cell_at n place)) named on in
     (cell-binds rule (number_of_rule rule) lower lower refl refl low).0 (row_below (row_of rule) (lower - 1) (place - 1) monotone (omega arith) (omega arith) here)

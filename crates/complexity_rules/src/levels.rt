@@ -6,5 +6,4 @@ pub fn levels_are_kept()
     ensures offences { OffencesFall }
     ensures items { ItemsStay }
     ensures ending { EndingStays }
-{
-}
+{}

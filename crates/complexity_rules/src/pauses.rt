@@ -3,9 +3,8 @@ ghost use Rattle.physical_stream.specs.Shape.{tail_of};
 ghost use Rattle.physical_stream.specs.declared.item.Item.{Item};
 ghost use Rattle.complexity_rules.specs.Pauses.{MayPause, is_inside_packet, is_inside_sequence};
 
-use physical_stream::{Params, Rule, Tail};
-
 use crate::table::binds;
+use physical_stream::{Params, Rule, Tail};
 
 /// Whether the stream may hold valid low after the items of which this is the kind of the last one: false exactly where one of
 /// the rules on pauses forbids it.

@@ -1,4 +1,4 @@
-use Rattle.std.proofs.Common.{arith, refl}
+use Rattle.std.proofs.Common.{arith}
 use Rattle.complexity_rules.proofs.TableLemmas.{rows_more, rows_stop, rows_end}
 use Rattle.complexity_rules.proofs.table.RuleTable.is_monotone.Goals as goal
 
