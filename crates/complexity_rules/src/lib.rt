@@ -7,6 +7,8 @@ mod checker;
 mod levels;
 mod pauses;
 mod table;
+#[cfg(test)]
+mod table_tests;
 mod walk;
 
 pub use checker::Checker;
