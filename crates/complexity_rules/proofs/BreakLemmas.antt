@@ -12,7 +12,8 @@ use Rattle.physical_stream.specs.declared.item.Item.{Item}
 use Rattle.physical_stream.specs.declared.item.Item.TheVariants as items
 use Rattle.physical_stream.specs.declared.item.Tail.{Tail}
 use Rattle.physical_stream.specs.declared.transfer.Transfer.{Transfer}
-use Rattle.complexity_rules.specs.Walk.{tail_over, is_misplaced, has_misplaced, has_element, first_close, misses_empty}
+use Rattle.complexity_rules.specs.Walk.{tail_over, is_misplaced, has_misplaced, has_element, first_close, misses_empty, Finds}
+use Rattle.complexity_rules.specs.declared.walk.Walk.{Walk}
 use Rattle.complexity_rules.proofs.WalkLemmas.{has_misplaced-append, tail_of-over}
 use Rattle.complexity_rules.proofs.LaneLemmas.{IsInactive-has_element, has_element-IsInactive}
 
@@ -111,3 +112,19 @@ BreaksEmpty-misses p done t = (
       and_from (not (has_element (items_of p t))) (misses_empty (tail_of done) (first_close (items_of p t))) (not_from_false (has_element (items_of p t)) none)
       (first_misses done (items_of p t) none b.closes),
 )
+
+-- ---- the tests
+
+pub Empty-test : (p : Parameters) (done : List Item) (t : Transfer) (tail : Option Tail) (walk : Walk) (test : Bool) → tail ≡ tail_of done → Finds p.dims tail (items_of p t) walk →
+    test ≡ (not walk.active && misses_empty tail walk.first_close) → IsTrue test ↔ BreaksEmpty p done t
+Empty-test p done t tail walk test last_is found is =
+    let same : test ≡ (not (has_element (items_of p t)) && misses_empty (tail_of done) (first_close (items_of p t))) =
+    is ∙ ap (λ (b : Bool). not b && misses_empty tail walk.first_close) found.active
+    ∙ ap (λ (first : Option ℕ). not (has_element (items_of p t)) && misses_empty tail first) found.first
+    ∙ ap (λ (o : Option Tail). not (has_element (items_of p t)) && misses_empty o (first_close (items_of p t))) last_is in
+    subst (λ (b : Bool). IsTrue b ↔ BreaksEmpty p done t) (sym same) (BreaksEmpty-misses p done t)
+
+pub Nest-test : (p : Parameters) (done : List Item) (t : Transfer) (tail : Option Tail) (walk : Walk) → tail ≡ tail_of done → Finds p.dims tail (items_of p t) walk →
+    IsTrue walk.misplaced ↔ BreaksNest p done t
+Nest-test p done t tail walk last_is found =
+    subst (λ (b : Bool). IsTrue b ↔ BreaksNest p done t) (sym (found.misplaced ∙ ap (λ (o : Option Tail). has_misplaced o (items_of p t)) last_is)) (BreaksNest-misplaced p done t)

@@ -1,5 +1,5 @@
 -- Which lanes are active and which mark ends, by the items of lanes.
-use Rattle.std.proofs.Common.{◌≡◌, ◌∙◌, ◌↔◌, ℕ, zero, suc, ◌+◌, ◌*◌, ◌/◌, ◌%◌, ◌<◌, ◌≤◌, inl, inr, ◌⊎◌, Bool, true, false, ◌||◌, if◌then◌else◌, IsTrue, List, [], ◌∷◌, ◌++◌, length, Option, None, Some, is_some, refl, sym, ap, subst, arith}
+use Rattle.std.proofs.Common.{◌≡◌, ◌∙◌, ◌↔◌, ℕ, zero, suc, ◌+◌, ◌*◌, ◌/◌, ◌%◌, ◌<◌, ◌≤◌, inl, inr, ◌⊎◌, Bool, true, false, ◌||◌, if◌then◌else◌, IsTrue, List, [], ◌∷◌, ◌++◌, length, Option, None, Some, is_some, not, refl, sym, ap, subst, arith}
 use Rattle.std.specs.List.{All, slice_index_or}
 use Rattle.std.proofs.Math.Nat.{div-add-mod, mod-lt, mul-le-mul_right}
 use Rattle.std.proofs.lemmas.Bool.{cases_lt}
@@ -178,3 +178,16 @@ IsInactive-has_element p t none = idle_below p t p.lanes none
 
 pub has_element-IsInactive : (p : Parameters) (t : Transfer) → IsInactive p t → has_element (items_of p t) ≡ false
 has_element-IsInactive p t idle = no_element_below p t p.lanes idle
+
+-- no last bit is set exactly where no Close comes
+pub no_close-All : (p : Parameters) (t : Transfer) (found : Option ℕ) (test : Bool) → length t.last ≡ p.lanes * p.dims → found ≡ first_close (items_of p t) →
+    is_some found ≡ not test → IsTrue test ↔ All (λ bit. bit ≡ false) t.last
+no_close-All p t None true long is tells = (λ holds. All-unmarked p t long (IsUnmarked-none p t p.lanes (sym is)), λ all. refl)
+no_close-All p t None false long is tells = cc
+no_close-All p t (Some d) true long is tells = cc
+no_close-All p t (Some d) false long is tells = (
+  λ holds. cc,
+  λ all.
+      let found = IsMarked-some p t p.lanes d (sym is) in
+      let clash : false ≡ true = sym (IsUnmarked-All p t long all found.lane found.early found.dim found.within) ∙ found.marked in cc,
+)

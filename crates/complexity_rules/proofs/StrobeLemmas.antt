@@ -1,8 +1,8 @@
 -- Strobe bits that are not all equal.
-use Rattle.std.proofs.Common.{◌≡◌, ◌∙◌, ◌↔◌, ℕ, zero, suc, ◌+◌, ◌-◌, ◌*◌, ◌/◌, ◌%◌, ◌^◌, ◌<◌, ◌≤◌, inl, inr, ◌⊎◌, refl, sym, ap, arith}
+use Rattle.std.proofs.Common.{◌≡◌, ◌∙◌, ◌↔◌, ℕ, zero, suc, ◌+◌, ◌-◌, ◌*◌, ◌/◌, ◌%◌, ◌^◌, ◌<◌, ◌≤◌, inl, inr, ◌⊎◌, Bool, not, ◌==◌, IsTrue, eq-eqb, refl, sym, ap, arith}
 use Rattle.std.specs.Int.{bit_at}
 use Rattle.std.proofs.Math.Nat.{pow-succ', div-add-mod, mod-lt}
-use Rattle.std.proofs.lemmas.Bool.{cases_lt}
+use Rattle.std.proofs.lemmas.Bool.{cases_lt, both_ways, not-true, not_from_false, false_from_ne_true, eqb-true}
 use Rattle.std.proofs.lemmas.Nat.Bits.{bit_at_lowest, bit_at-suc, bit_at-zero, bit_at_ones}
 use Rattle.physical_stream.specs.Params.{Parameters}
 use Rattle.physical_stream.specs.Breaks.{BreaksStrobe}
@@ -67,3 +67,17 @@ mixed-BreaksStrobe p t below b = (not_zero t.strb refl, not_ones (cases_lt (t.st
     not_ones (inr more) =
         let ones : t.strb ≡ 2 ^ p.lanes - 1 = omega arith in
         let clash : ◌≡◌ {A = ℕ} 1 0 = sym (bit_at_ones p.lanes b.other b.other_within) ∙ ap (λ (n : ℕ). bit_at n b.other) (sym ones) ∙ b.other_clear in absurd (omega arith)
+
+-- a strobe that is not zero is mixed exactly where it is not all ones
+pub BreaksStrobe-not_ones : (p : Parameters) (t : Transfer) (lanes ones : ℕ) → lanes ≡ p.lanes → ones ≡ 2 ^ lanes - 1 → t.strb < 2 ^ p.lanes → (t.strb ≡ 0 → ⊥) →
+    IsTrue (not (t.strb == ones)) ↔ BreaksStrobe p t
+BreaksStrobe-not_ones p t lanes ones same ones_are below some = (
+  λ holds.
+      let differs : t.strb ≡ ones → ⊥ = λ e. both_ways (t.strb == ones) (not-true (t.strb == ones) holds) (eq-eqb t.strb ones e) in
+      let power : 2 ^ lanes ≡ 2 ^ p.lanes = ap (λ (n : ℕ). 2 ^ n) same in
+      BreaksStrobe-mixed p t below (omega (arith, some)) (omega (arith, differs)),
+  λ b.
+      let mixed = mixed-BreaksStrobe p t below b in
+      let power : 2 ^ lanes ≡ 2 ^ p.lanes = ap (λ (n : ℕ). 2 ^ n) same in
+      not_from_false (t.strb == ones) (false_from_ne_true (t.strb == ones) (λ e. let is : t.strb ≡ ones = eqb-true t.strb ones e in omega (arith, mixed.1))),
+)

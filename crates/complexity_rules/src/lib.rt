@@ -3,7 +3,16 @@
 //! cycles, and keeps of them the kind of the last item and the transfer that waits.
 #![tactic(auto)]
 
+mod breaking;
 mod checker;
+mod levels;
+mod pauses;
+mod table;
+#[cfg(test)]
+mod table_tests;
 mod walk;
 
 pub use checker::Checker;
+pub use levels::levels_are_kept;
+pub use pauses::may_pause;
+pub use table::{BINDS, RuleTable, binds, table_is_monotone};

@@ -2,6 +2,7 @@ pub mod Faults
 pub mod HeaderText
 pub mod RowText
 pub mod Spelling
+pub mod Survey
 pub mod TextSet
 pub mod Trace
 pub mod TraceText

@@ -1,0 +1,80 @@
+-- What one level allows, every greater one allows: what is forbidden does not depend on the level, but for where rules bind.
+use Rattle.std.proofs.Common.{◌≡◌, ◌∙◌, ℕ, ◌<◌, ◌≤◌, List, length, get_or, take, slice_get, Option, Some, None, arith, ap, subst}
+use Rattle.std.proofs.lemmas.Option.{slice_get-get_or, slice_get_within}
+use Rattle.tydi_base.specs.Level.{number_of}
+use Rattle.physical_stream.specs.Params.{Parameters}
+use Rattle.physical_stream.specs.Cycles.{Cycle, StreamTrace, items_done}
+use Rattle.physical_stream.specs.Breaks.{BreaksLaneLast, BreaksStrobe, BreaksEmpty, BreaksNest, OnShown, Forbids, BreaksAfter, Breaks}
+use Rattle.physical_stream.specs.Ending.{ending_of}
+use Rattle.physical_stream.specs.declared.item.Item.{Item}
+use Rattle.physical_stream.specs.declared.rule.Rule.{Rule}
+use Rattle.physical_stream.specs.declared.rule.Rule.TheVariants.{LaneLast, Strobe, Empty, Nest}
+use Rattle.physical_stream.specs.declared.transfer.Transfer.{Transfer}
+use Rattle.complexity_rules.specs.Levels.{at_level, IsRaised, OffencesFall, EndingStays}
+
+-- a rule on the transfer that is shown, where one forbids no more than another
+on_shown : (P Q : Transfer → Type 0) → ((t : Transfer) → P t → Q t) → (shown : Option Transfer) → OnShown P shown → OnShown Q shown
+on_shown P Q less None broken = broken
+on_shown P Q less (Some t) broken = less t broken
+
+lane_last-at_level : (level : ℕ) (p : Parameters) (t : Transfer) → BreaksLaneLast (at_level level p) t → BreaksLaneLast p t
+lane_last-at_level level p t broken = record { lane = broken.lane; dim = broken.dim; early = broken.early; within = broken.within; marked = broken.marked }
+
+strobe-at_level : (level : ℕ) (p : Parameters) (t : Transfer) → BreaksStrobe (at_level level p) t → BreaksStrobe p t
+strobe-at_level level p t broken = record {
+  one = broken.one;
+  other = broken.other;
+  one_within = broken.one_within;
+  other_within = broken.other_within;
+  one_set = broken.one_set;
+  other_clear = broken.other_clear;
+}
+
+empty-at_level : (level : ℕ) (p : Parameters) (done : List Item) (t : Transfer) → BreaksEmpty (at_level level p) done t → BreaksEmpty p done t
+empty-at_level level p done t broken = record { inactive = broken.inactive; closes = broken.closes }
+
+nest-at_level : (level : ℕ) (p : Parameters) (done : List Item) (t : Transfer) → BreaksNest (at_level level p) done t → BreaksNest p done t
+nest-at_level level p done t broken = record { front = broken.front; dim = broken.dim; rest = broken.rest; splits = broken.splits; misplaced = broken.misplaced }
+
+-- what a rule forbids is the same at each level
+forbids-at_level : (rule : Rule) (level : ℕ) (p : Parameters) (before : List Cycle) (now : Cycle) → Forbids rule (at_level level p) before now → Forbids rule p before now
+forbids-at_level LaneLast level p before now broken = on_shown (BreaksLaneLast (at_level level p)) (BreaksLaneLast p) (lane_last-at_level level p) now.shown broken
+forbids-at_level Strobe level p before now broken = on_shown (BreaksStrobe (at_level level p)) (BreaksStrobe p) (strobe-at_level level p) now.shown broken
+forbids-at_level Empty level p before now broken =
+    on_shown (BreaksEmpty (at_level level p) (items_done p before)) (BreaksEmpty p (items_done p before)) (empty-at_level level p (items_done p before)) now.shown broken
+forbids-at_level Nest level p before now broken =
+    on_shown (BreaksNest (at_level level p) (items_done p before)) (BreaksNest p (items_done p before)) (nest-at_level level p (items_done p before)) now.shown broken
+forbids-at_level other level p before now broken = broken
+
+-- a cycle that breaks a rule at the greater level breaks it at the lower one
+breaks_after-at_level : (rule : Rule) (level : ℕ) (p : Parameters) (before : List Cycle) (now : Cycle) → number_of p.level ≤ number_of level →
+    BreaksAfter rule (at_level level p) before now → BreaksAfter rule p before now
+breaks_after-at_level rule level p before now higher broken = (
+  (let binds = broken.0 in omega arith),
+  forbids-at_level rule level p before now broken.1,
+)
+
+breaks_fall : (rule : Rule) (number : ℕ) (low high : StreamTrace) → IsRaised low high → Breaks rule high.params high.cycles number → Breaks rule low.params low.cycles number
+breaks_fall rule number low high raised broken = record {
+  now = broken.now;
+  stands = subst (λ (cycles : List Cycle). slice_get cycles number ≡ Some broken.now) raised.cycles broken.stands;
+  broken =
+      breaks_after-at_level rule high.params.level low.params (take number low.cycles) broken.now raised.level
+      (subst (λ (p : Parameters). BreaksAfter rule p (take number low.cycles) broken.now) raised.params
+      (subst (λ (cycles : List Cycle). BreaksAfter rule high.params (take number cycles) broken.now) raised.cycles broken.broken));
+}
+
+pub offences_fall : OffencesFall
+offences_fall from to o raised offends =
+    let low = get_or from o.stream offends.trace in
+    let within : o.stream < length to = slice_get_within to o.stream offends.trace offends.stands in
+    let many = raised.many in
+    let here : slice_get from o.stream ≡ Some low = slice_get-get_or from o.stream offends.trace (omega arith) in
+    record {
+      trace = low;
+      stands = here;
+      breaks = breaks_fall o.rule o.cycle low offends.trace (raised.each o.stream low offends.trace here offends.stands) offends.breaks;
+    }
+
+pub ending_stays : EndingStays
+ending_stays from to raised = ap (ending_of to.params) raised.cycles ∙ ap (λ (p : Parameters). ending_of p from.cycles) raised.params

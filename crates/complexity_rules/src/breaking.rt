@@ -1,0 +1,161 @@
+//! The lowest rule that a cycle breaks. All that the rules need of the cycles before is the transfer that waits to be taken,
+//! and the kind of the last item done.
+
+ghost use Rattle.std.specs.Prelude.{◌≡◌, ◌↔◌, ◌&&◌, not, Some, None, List, Bool, Option, IsTrue};
+ghost use Rattle.std.specs.Option.{option_copied};
+ghost use Rattle.physical_stream.specs.Breaks.{BreaksEnd, BreaksIndex, BreaksLaneLast, BreaksStart, BreaksStrobe};
+ghost use Rattle.physical_stream.specs.Cycles.{Cycle, items_done, waiting_of};
+ghost use Rattle.physical_stream.specs.Items.{items_of};
+ghost use Rattle.physical_stream.specs.Shape.{closes_empty, tail_of};
+ghost use Rattle.physical_stream.specs.Signals.{Fits};
+ghost use Rattle.physical_stream.specs.declared.item.Tail.{Tail};
+ghost use Rattle.complexity_rules.specs.Checking.{IsLowestBroken};
+ghost use Rattle.complexity_rules.specs.Lowest.{Changes, or_higher};
+ghost use Rattle.complexity_rules.specs.Walk.{Finds, first_close, misses_empty};
+
+use crate::pauses::{breaks_inner_pause, breaks_outer_pause};
+use crate::table::binds;
+use crate::walk::{Shown, Walk};
+use physical_stream::{Params, Rule, Tail, Transfer, all_lanes};
+use tydi_base::Level;
+
+/// A row for each rule, in the order of their numbers: its name, and the condition under which a cycle does what it forbids. The
+/// lowest rule that binds at this level and whose condition holds.
+macro_rules! lowest_broken {
+    ($level:expr;) => { None };
+    ($level:expr; $rule:ident if $forbidden:expr, $($rest:tt)*) => {
+        or_higher($level, Rule::$rule, $forbidden, lowest_broken!($level; $($rest)*))
+    };
+}
+
+/// The lowest rule that a cycle breaks that shows this transfer.
+pub(crate) fn lowest_of_shown(
+    p: &Params,
+    waiting: Option<&Transfer>,
+    tail: Option<Tail>,
+    transfer: &Transfer,
+    items: &Shown,
+) -> Option<Rule>
+    requires fits { Fits p.now transfer.now }
+    requires found { Finds p.now.dims tail (items_of p.now transfer.now) items.now.walk }
+    requires early { IsTrue items.now.early ↔ BreaksLaneLast p.now transfer.now }
+    ensures { (before : List Cycle) (ready : Bool) → option_copied waiting.entry ≡ waiting_of before → tail ≡ tail_of (items_done p.now before)
+        → IsLowestBroken p.now before (record { ready = ready; shown = Some transfer.now }) result }
+{
+    lowest_broken! { p.level;
+        Hold if changes(waiting, Some(transfer)),
+        Index if breaks_index(p, transfer),
+        LaneLast if items.early,
+        Strobe if breaks_strobe(p, transfer),
+        Start if breaks_start(transfer),
+        End if breaks_end(p, transfer, &items.walk),
+        Empty if breaks_empty(tail, &items.walk),
+        Nest if items.walk.misplaced,
+    }
+}
+
+/// The lowest rule that a cycle breaks that shows no transfer.
+pub(crate) fn lowest_of_pause(
+    p: &Params,
+    waiting: Option<&Transfer>,
+    tail: Option<Tail>,
+) -> Option<Rule>
+    ensures { (before : List Cycle) (ready : Bool) → option_copied waiting.entry ≡ waiting_of before → tail ≡ tail_of (items_done p.now before)
+        → IsLowestBroken p.now before (record { ready = ready; shown = None }) result }
+{
+    lowest_broken! { p.level;
+        Hold if changes(waiting, None),
+        InnerPause if breaks_inner_pause(p, tail),
+        OuterPause if breaks_outer_pause(p, tail),
+    }
+}
+
+/// The rule, where it binds at this level and the cycle does what it forbids; else what a rule of a greater number says.
+fn or_higher(level: Level, rule: Rule, forbidden: bool, higher: Option<Rule>) -> Option<Rule>
+    ensures { result ≡ or_higher level rule forbidden higher }
+{
+    if forbidden && binds(rule, level) {
+        Some(rule)
+    } else {
+        higher
+    }
+}
+
+/// Whether a transfer waits, and is not shown again, the same in every signal.
+fn changes(waiting: Option<&Transfer>, shown: Option<&Transfer>) -> bool
+    ensures { IsTrue result ↔ Changes (option_copied waiting.entry) (option_copied shown.entry) }
+{
+    match waiting {
+        None => false,
+        Some(offered) => !shows(shown, offered),
+    }
+}
+
+/// Whether this transfer is shown.
+fn shows(shown: Option<&Transfer>, offered: &Transfer) -> bool
+    ensures { IsTrue result ↔ (option_copied shown.entry ≡ Some offered.now) }
+{
+    match shown {
+        None => false,
+        Some(transfer) => transfer.equals(offered),
+    }
+}
+
+/// Whether not stai ≤ endi ≤ N-1.
+fn breaks_index(p: &Params, transfer: &Transfer) -> bool
+    ensures { IsTrue result ↔ BreaksIndex p.now transfer.now }
+{
+    transfer.endi < transfer.stai || p.lanes <= transfer.endi
+}
+
+/// Whether some strobe bit is 1 and another is 0.
+fn breaks_strobe(p: &Params, transfer: &Transfer) -> bool
+    requires { Fits p.now transfer.now }
+    ensures { IsTrue result ↔ BreaksStrobe p.now transfer.now }
+{
+    transfer.strb != 0 && transfer.strb != all_lanes(p.lanes)
+}
+
+/// Whether stai is not 0.
+fn breaks_start(transfer: &Transfer) -> bool
+    ensures { IsTrue result ↔ BreaksStart transfer.now }
+{
+    transfer.stai > 0
+}
+
+/// Whether endi is not N-1, and no last bit is set.
+fn breaks_end(p: &Params, transfer: &Transfer, walk: &Walk) -> bool
+    requires fits { Fits p.now transfer.now }
+    requires found { walk.now.first_close ≡ first_close (items_of p.now transfer.now) }
+    ensures { IsTrue result ↔ BreaksEnd p.now transfer.now }
+{
+    transfer.endi != p.lanes - 1 && walk.first_close.is_none()
+}
+
+/// Whether no lane is active, and nothing is closed or not an empty sequence first.
+fn breaks_empty(tail: Option<Tail>, walk: &Walk) -> bool
+    ensures { result ≡ (not walk.now.active && misses_empty tail walk.now.first_close) }
+{
+    !walk.active && misses_empty(tail, walk.first_close)
+}
+
+/// Whether nothing is closed first, or what is closed first is no empty sequence.
+fn misses_empty(tail: Option<Tail>, first_close: Option<u8>) -> bool
+    ensures { result ≡ misses_empty tail first_close }
+{
+    match first_close {
+        None => true,
+        Some(dim) => !closes_empty(tail, dim),
+    }
+}
+
+/// Whether a Close of this dimension closes an empty sequence after an item of this kind.
+fn closes_empty(tail: Option<Tail>, dim: u8) -> bool
+    ensures { result ≡ closes_empty tail dim }
+{
+    match tail {
+        None => true,
+        Some(Tail::Elem) => false,
+        Some(Tail::Close(inner)) => dim <= inner,
+    }
+}
