@@ -1,5 +1,5 @@
 -- What a walk over the items of a transfer says of rules Empty and Nest, and what its last bits say of rule End.
-use Rattle.std.proofs.Common.{◌≡◌, ◌∙◌, ◌↔◌, ℕ, ◌+◌, inl, inr, ◌⊎◌, Bool, true, false, not, ◌||◌, ◌&&◌, IsTrue, List, [], ◌∷◌, ◌++◌, Option, None, Some, length, refl, sym, ap, subst, arith}
+use Rattle.std.proofs.Common.{◌≡◌, ◌∙◌, ◌↔◌, ℕ, inl, inr, ◌⊎◌, Bool, true, false, not, ◌||◌, ◌&&◌, IsTrue, List, [], ◌∷◌, ◌++◌, Option, Some, refl, sym, ap, subst, arith}
 use Rattle.std.specs.List.{All}
 use Rattle.std.proofs.lemmas.Bool.{and_parts, and_from, not-true, not_from_false}
 use Rattle.std.proofs.lemmas.List.{append-nil}
@@ -12,7 +12,7 @@ use Rattle.physical_stream.specs.declared.item.Item.{Item}
 use Rattle.physical_stream.specs.declared.item.Item.TheVariants as items
 use Rattle.physical_stream.specs.declared.item.Tail.{Tail}
 use Rattle.physical_stream.specs.declared.transfer.Transfer.{Transfer}
-use Rattle.complexity_rules.specs.Walk.{tail_over, is_misplaced, has_misplaced, has_element, first_close, misses_empty, Finds}
+use Rattle.complexity_rules.specs.Walk.{tail_over, has_misplaced, has_element, first_close, misses_empty, Finds}
 use Rattle.complexity_rules.specs.declared.walk.Walk.{Walk}
 use Rattle.complexity_rules.proofs.WalkLemmas.{has_misplaced-append, tail_of-over}
 use Rattle.complexity_rules.proofs.LaneLemmas.{IsInactive-has_element, has_element-IsInactive}
@@ -56,7 +56,10 @@ BreaksNest-misplaced p done t = (
   λ some.
       let found = find_misplaced (tail_of done) (items_of p t) some in
       record {
-        front = found.front; dim = found.dim; rest = found.rest; splits = found.splits;
+        front = found.front;
+        dim = found.dim;
+        rest = found.rest;
+        splits = found.splits;
         misplaced = ap (λ (tail : Option Tail). may_close tail found.dim) (tail_of-over done found.front) ∙ found.wrong;
       },
   λ b.
@@ -87,7 +90,7 @@ misses_first done is none misses = by_first (without_elements is none)
     by_first (inr close) = inr (
       record { front = []; dim = close.0; rest = close.1; elements = All-nil IsElem; splits = close.2 },
       ap (λ (before : List Item). closes_empty (tail_of before) close.0) (append-nil done)
-      ∙ not-true (closes_empty (tail_of done) close.0) (ap (λ (more : List Item). misses_empty (tail_of done) (first_close more)) (sym close.2) ∙ misses),
+          ∙ not-true (closes_empty (tail_of done) close.0) (ap (λ (more : List Item). misses_empty (tail_of done) (first_close more)) (sym close.2) ∙ misses),
     )
 
 first_misses : (done is : List Item) → has_element is ≡ false →

@@ -1,4 +1,5 @@
 pub mod BreakLemmas
+pub mod CheckerLemmas
 pub mod LaneLemmas
 pub mod LevelLemmas
 pub mod LowestLemmas

@@ -1,5 +1,5 @@
 -- Strobe bits that are not all equal.
-use Rattle.std.proofs.Common.{◌≡◌, ◌∙◌, ◌↔◌, ℕ, zero, suc, ◌+◌, ◌-◌, ◌*◌, ◌/◌, ◌%◌, ◌^◌, ◌<◌, ◌≤◌, inl, inr, ◌⊎◌, Bool, not, ◌==◌, IsTrue, eq-eqb, refl, sym, ap, arith}
+use Rattle.std.proofs.Common.{◌≡◌, ◌∙◌, ◌↔◌, ℕ, zero, suc, ◌+◌, ◌-◌, ◌/◌, ◌%◌, ◌^◌, ◌<◌, ◌≤◌, inl, inr, ◌⊎◌, not, ◌==◌, IsTrue, eq-eqb, refl, sym, ap, arith}
 use Rattle.std.specs.Int.{bit_at}
 use Rattle.std.proofs.Math.Nat.{pow-succ', div-add-mod, mod-lt}
 use Rattle.std.proofs.lemmas.Bool.{cases_lt, both_ways, not-true, not_from_false, false_from_ne_true, eqb-true}

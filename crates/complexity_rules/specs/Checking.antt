@@ -6,6 +6,7 @@ use Rattle.physical_stream.specs.Shape.{tail_of}
 use Rattle.physical_stream.specs.Counts.{transfers_of, packets_of}
 use Rattle.physical_stream.specs.Breaks.{BreaksAfter}
 use Rattle.physical_stream.specs.Rules.{number_of_rule}
+use Rattle.physical_stream.specs.declared.item.Tail.{Tail}
 use Rattle.physical_stream.specs.declared.rule.Rule.{Rule}
 use Rattle.physical_stream.specs.declared.transfer.Transfer.{Transfer}
 use Rattle.complexity_rules.specs.declared.checker.Checker.{Checker}
@@ -28,13 +29,18 @@ seen_in checker = checker.seen
 abbrev pub waiting_in : Checker → Option Transfer
 waiting_in checker = if checker.waits then Some checker.offered else None
 
--- a checker stands for these cycles of its stream: what it keeps of them is theirs
-pub record StandsFor (checker : Checker) (cycles : List Cycle) : Type 0 where
-  pub seen : seen_in checker ≡ length cycles
-  pub waiting : waiting_in checker ≡ waiting_of cycles
-  pub tail : checker.tail ≡ tail_of (items_done checker.params cycles)
-  pub transfers : checker.transfers ≡ transfers_of cycles
-  pub packets : checker.packets ≡ packets_of checker.params cycles
+-- what is kept of the cycles of a stream: how many they are, the transfer that waits, the kind of the last item done, and how many
+-- transfers and packets are done
+pub record Keeps (p : Parameters) (cycles : List Cycle) (seen_so_far : ℕ) (offered : Option Transfer) (last : Option Tail) (done packed : ℕ) : Type 0 where
+  pub seen : seen_so_far ≡ length cycles
+  pub waiting : offered ≡ waiting_of cycles
+  pub tail : last ≡ tail_of (items_done p cycles)
+  pub transfers : done ≡ transfers_of cycles
+  pub packets : packed ≡ packets_of p cycles
+
+-- a checker stands for these cycles of its stream: what it keeps is theirs
+abbrev pub StandsFor : Checker → List Cycle → Type 0
+StandsFor checker cycles = Keeps (params_in checker) cycles (seen_in checker) (waiting_in checker) checker.tail checker.transfers checker.packets
 
 -- one cycle more: the lowest rule that it breaks, and the checker is as before; or it breaks none, and the checker stands for the
 -- longer list

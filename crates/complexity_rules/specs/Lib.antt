@@ -3,4 +3,5 @@ pub mod Levels
 pub mod Lowest
 pub mod Pauses
 pub mod Table
+pub mod Tails
 pub mod Walk

@@ -1,5 +1,5 @@
 -- The lowest rule of those that are broken (this project's own).
-use Rattle.std.specs.Prelude.{◌≡◌, Bool, ◌&&◌, nat_le, ℕ, if◌then◌else◌, Option, Some, None}
+use Rattle.std.specs.Prelude.{◌≡◌, Bool, ◌&&◌, nat_le, ℕ, if◌then◌else◌, Option, Some}
 use Rattle.tydi_base.specs.Level.{number_of}
 use Rattle.physical_stream.specs.Rules.{binds_up_to}
 use Rattle.physical_stream.specs.declared.rule.Rule.{Rule}

@@ -1,25 +1,32 @@
-ghost use Rattle.std.specs.Prelude.{◌≤◌, ◌*◌};
+ghost use Rattle.std.specs.Prelude.{◌≡◌, ◌↔◌, ◌+◌, ◌-◌, ◌*◌, ◌^◌, ◌<◌, ◌≤◌, ◌∷◌, ◌++◌, [], List, Option, Some, None, IfOk, IfSome, IsSome};
+ghost use Rattle.std.specs.Option.{option_copied};
+ghost use Rattle.physical_stream.specs.Cycles.{Cycle};
 ghost use Rattle.physical_stream.specs.Signals.{Fits};
+ghost use Rattle.complexity_rules.specs.Tails.{IsTailIn};
 
 use physical_stream::{Params, Tail, Transfer};
+use std::alloc::Global;
+use tydi_base::Memory;
 
-/// Checks the cycles of one stream as they come.
+/// Checks the cycles of one stream as they come. It keeps of them the transfer that waits to be taken, the kind of the last
+/// item done, and counts.
 #[derive(Debug, Drop)]
 pub struct Checker {
-    params: Params,
+    pub(crate) params: Params,
     /// Whether a transfer waits to be taken.
-    waits: bool,
+    pub(crate) waits: bool,
     /// The transfer that waits, where one does; else only the room for one.
-    offered: Transfer,
+    pub(crate) offered: Transfer,
     /// The kind of the last item done.
-    tail: Option<Tail>,
+    pub(crate) tail: Option<Tail>,
     /// The cycles seen.
-    seen: u32,
+    pub(crate) seen: u32,
     /// The transfers done.
-    transfers: u64,
+    pub(crate) transfers: u64,
     /// The packets done.
-    packets: u64,
+    pub(crate) packets: u64,
     ghost room: { Fits params offered },
+    ghost tail_in: { IsTailIn params.dims tail },
     ghost few_transfers: { transfers ≤ seen },
     ghost few_packets: { packets ≤ 4224 * seen },
 }

@@ -5,6 +5,7 @@
 
 mod breaking;
 mod checker;
+mod checking;
 mod levels;
 mod pauses;
 mod table;

@@ -1,4 +1,4 @@
-use Rattle.std.proofs.Common.{◌≡◌, ◌+◌, ap, arith}
+use Rattle.std.proofs.Common.{ap, arith}
 use Rattle.physical_stream.specs.Params.{Parameters}
 use Rattle.complexity_rules.proofs.LaneLemmas.{no_close-All}
 use Rattle.complexity_rules.proofs.breaking.breaks_end.Goals as goal

@@ -1,0 +1,236 @@
+//! What a checker says, cycle by cycle.
+
+ghost use Rattle.std.specs.Prelude.{◌≡◌, ◌↔◌, ◌+◌, ◌-◌, ◌*◌, ◌^◌, ◌<◌, ◌≤◌, ◌∷◌, ◌++◌, [], List, Bool, true, false, Option, Some, None, IfOk, IfSome, IsSome};
+ghost use Rattle.std.specs.Option.{option_copied};
+ghost use Rattle.physical_stream.specs.Cycles.{Cycle, cycle_in, items_done};
+ghost use Rattle.physical_stream.specs.Counts.{transfers_of, packets_of};
+ghost use Rattle.physical_stream.specs.Ending.{ending_of, ending_after, unclosed};
+ghost use Rattle.physical_stream.specs.Items.{items_of};
+ghost use Rattle.physical_stream.specs.Shape.{is_whole, tail_of};
+ghost use Rattle.physical_stream.specs.Signals.{Fits};
+ghost use Rattle.complexity_rules.specs.Checking.{IsLowestBroken, StandsFor, Steps, params_in, seen_in, waiting_in};
+ghost use Rattle.complexity_rules.specs.Tails.{IsTailIn};
+ghost use Rattle.complexity_rules.specs.Walk.{Finds};
+
+use crate::breaking::{lowest_of_pause, lowest_of_shown};
+use crate::checker::Checker;
+use crate::walk::{Walk, walk_over};
+use physical_stream::{End, Params, Row, Rule, Tail, Transfer};
+use std::alloc::Global;
+use tydi_base::Memory;
+
+/// What a cycle is that shows a transfer.
+#[derive(Clone, Copy, Debug, PartialEq, Eq)]
+struct Judged {
+    /// The lowest rule that it breaks.
+    broken: Option<Rule>,
+    /// The walk over the items of the transfer.
+    walk: Walk,
+}
+
+impl Checker {
+    /// A checker of this stream that has seen no cycle. All the memory that it needs is taken here.
+    pub fn new(alloc: Global, params: Params) -> Result<Checker, Memory>
+        ensures params { IfOk result (λ checker. params_in checker ≡ params) }
+        ensures stands { IfOk result (λ checker. StandsFor checker []) }
+    {
+        let offered = Transfer::zero(alloc, &params)?;
+        Ok(Checker {
+            params,
+            waits: false,
+            offered,
+            tail: None,
+            seen: 0,
+            transfers: 0,
+            packets: 0,
+        })
+    }
+
+    /// The stream.
+    pub fn params(&self) -> &Params
+        ensures { result.now ≡ params_in self.now }
+    {
+        &self.params
+    }
+
+    /// One cycle more: the lowest of rules 1 to 10 that it breaks, and the checker is as before; or None, and the cycle is seen.
+    pub fn step(&mut self, row: Row<'_>) -> Option<Rule>
+        requires fits { IfSome (option_copied row.shown) (Fits (params_in self.old)) }
+        requires room { seen_in self.old < 2 ^ 32 - 1 }
+        ensures params { params_in self.new ≡ params_in self.old }
+        ensures steps { (cycles : List Cycle) → StandsFor self.old cycles → Steps self.old self.new cycles (cycle_in row.entry) result }
+    {
+        match row.shown {
+            Some(transfer) => self.step_shown(transfer, row.ready),
+            None => self.step_pause(row.ready),
+        }
+    }
+
+    /// One cycle more, which shows this transfer.
+    fn step_shown(&mut self, transfer: &Transfer, ready: bool) -> Option<Rule>
+        requires fits { Fits (params_in self.old) transfer.now }
+        requires room { seen_in self.old < 2 ^ 32 - 1 }
+        ensures params { params_in self.new ≡ params_in self.old }
+        ensures steps { (cycles : List Cycle) → StandsFor self.old cycles → Steps self.old self.new cycles (record { ready = ready; shown = Some transfer.now }) result }
+    {
+        let judged = self.judge_shown(transfer);
+        if judged.broken.is_none() {
+            self.see_shown(transfer, ready, judged.walk);
+        }
+        judged.broken
+    }
+
+    /// One cycle more, which shows no transfer.
+    fn step_pause(&mut self, _ready: bool) -> Option<Rule>
+        requires room { seen_in self.old < 2 ^ 32 - 1 }
+        ensures params { params_in self.new ≡ params_in self.old }
+        ensures steps { (cycles : List Cycle) → StandsFor self.old cycles → Steps self.old self.new cycles (record { ready = _ready; shown = None }) result }
+    {
+        let broken = self.judge_pause();
+        if broken.is_none() {
+            self.see_pause();
+        }
+        broken
+    }
+
+    /// What a cycle is that shows this transfer.
+    fn judge_shown(&self, transfer: &Transfer) -> Judged
+        requires { Fits (params_in self.now) transfer.now }
+        ensures lowest { (cycles : List Cycle) (ready : Bool) → StandsFor self.now cycles → IsLowestBroken (params_in self.now) cycles (record { ready = ready; shown = Some transfer.now }) result.broken }
+        ensures found { Finds (params_in self.now).dims self.now.tail (items_of (params_in self.now) transfer.now) result.walk }
+        ensures few { result.walk.packets ≤ 4224 }
+    {
+        let items = walk_over(&self.params, transfer, self.tail);
+        let broken = lowest_of_shown(&self.params, self.waiting(), self.tail, transfer, &items);
+        Judged {
+            broken,
+            walk: items.walk,
+        }
+    }
+
+    /// The lowest rule that a cycle breaks that shows no transfer.
+    fn judge_pause(&self) -> Option<Rule>
+        ensures { (cycles : List Cycle) (ready : Bool) → StandsFor self.now cycles → IsLowestBroken (params_in self.now) cycles (record { ready = ready; shown = None }) result }
+    {
+        lowest_of_pause(&self.params, self.waiting(), self.tail)
+    }
+
+    /// The transfer that waits to be taken.
+    fn waiting(&self) -> Option<&Transfer>
+        ensures { option_copied result ≡ waiting_in self.now }
+    {
+        if self.waits {
+            Some(&self.offered)
+        } else {
+            None
+        }
+    }
+
+    /// Sees a cycle that shows no transfer.
+    fn see_pause(&mut self)
+        requires room { seen_in self.old < 2 ^ 32 - 1 }
+        ensures params { params_in self.new ≡ params_in self.old }
+        ensures stands { (cycles : List Cycle) (ready : Bool) → StandsFor self.old cycles → StandsFor self.new (cycles ++ record { ready = ready; shown = None } ∷ []) }
+    {
+        self.waits = false;
+        self.seen += 1;
+    }
+
+    /// Sees a cycle that shows this transfer.
+    fn see_shown(&mut self, transfer: &Transfer, ready: bool, walk: Walk)
+        requires fits { Fits (params_in self.old) transfer.now }
+        requires room { seen_in self.old < 2 ^ 32 - 1 }
+        requires found { Finds (params_in self.old).dims self.old.tail (items_of (params_in self.old) transfer.now) walk }
+        requires few { walk.packets ≤ 4224 }
+        ensures params { params_in self.new ≡ params_in self.old }
+        ensures stands { (cycles : List Cycle) → StandsFor self.old cycles → StandsFor self.new (cycles ++ record { ready = ready; shown = Some transfer.now } ∷ []) }
+    {
+        if ready {
+            self.see_done(transfer, walk);
+        } else {
+            self.see_offered(transfer);
+        }
+    }
+
+    /// Sees a cycle in which this transfer is done.
+    fn see_done(&mut self, _transfer: &Transfer, walk: Walk)
+        requires room { seen_in self.old < 2 ^ 32 - 1 }
+        requires found { Finds (params_in self.old).dims self.old.tail (items_of (params_in self.old) _transfer.now) walk }
+        requires few { walk.packets ≤ 4224 }
+        ensures params { params_in self.new ≡ params_in self.old }
+        ensures stands { (cycles : List Cycle) → StandsFor self.old cycles → StandsFor self.new (cycles ++ record { ready = true; shown = Some _transfer.now } ∷ []) }
+    {
+        self.waits = false;
+        self.tail = walk.tail;
+        self.seen += 1;
+        self.transfers += 1;
+        self.packets += walk.packets;
+    }
+
+    /// Sees a cycle that offers this transfer, which is not taken.
+    fn see_offered(&mut self, transfer: &Transfer)
+        requires fits { Fits (params_in self.old) transfer.now }
+        requires room { seen_in self.old < 2 ^ 32 - 1 }
+        ensures params { params_in self.new ≡ params_in self.old }
+        ensures stands { (cycles : List Cycle) → StandsFor self.old cycles → StandsFor self.new (cycles ++ record { ready = false; shown = Some transfer.now } ∷ []) }
+    {
+        self.offered.copy_from(transfer);
+        self.waits = true;
+        self.seen += 1;
+    }
+
+    /// How the cycles seen end.
+    pub fn end(&self) -> End
+        ensures { (cycles : List Cycle) → StandsFor self.now cycles → result ≡ ending_of (params_in self.now) cycles }
+    {
+        if self.waits {
+            End::Pending
+        } else {
+            self.end_of_items()
+        }
+    }
+
+    /// What the items done leave open.
+    fn end_of_items(&self) -> End
+        ensures { result ≡ ending_after (params_in self.now).dims self.now.tail }
+    {
+        match self.tail {
+            None => End::Whole,
+            Some(Tail::Elem) => {
+                if self.params.dims == 0 {
+                    End::Whole
+                } else {
+                    End::Unclosed(0)
+                }
+            }
+            Some(Tail::Close(dim)) => {
+                if dim + 1 == self.params.dims {
+                    End::Whole
+                } else {
+                    End::Unclosed(dim + 1)
+                }
+            }
+        }
+    }
+
+    /// The kind of the last item done.
+    pub fn tail(&self) -> Option<Tail>
+        ensures { (cycles : List Cycle) → StandsFor self.now cycles → result ≡ tail_of (items_done (params_in self.now) cycles) }
+    {
+        self.tail
+    }
+
+    /// The transfers done.
+    pub fn transfers(&self) -> u64
+        ensures { (cycles : List Cycle) → StandsFor self.now cycles → result ≡ transfers_of cycles }
+    {
+        self.transfers
+    }
+
+    /// The packets done: ends of the outermost sequence, or elements where there is no dimension.
+    pub fn packets(&self) -> u64
+        ensures { (cycles : List Cycle) → StandsFor self.now cycles → result ≡ packets_of (params_in self.now) cycles }
+    {
+        self.packets
+    }
+}
