@@ -1,0 +1,5 @@
+pub mod HeaderLemmas
+pub mod StreamsLemmas
+pub mod TextSetLemmas
+pub mod LayoutLemmas
+pub mod RowLemmas

@@ -7,3 +7,5 @@ pub mod Trace
 pub mod TraceText
 pub mod WordsLeft
 pub mod TraceView
+pub mod OpeningView
+pub mod RowLayout

@@ -2,7 +2,10 @@
 #![tactic(auto)]
 
 mod fault;
+mod header_text;
 mod own_row;
+mod row_layout;
+mod row_text;
 mod trace;
 mod words_left;
 
