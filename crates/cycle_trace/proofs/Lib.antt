@@ -3,3 +3,5 @@ pub mod StreamsLemmas
 pub mod TextSetLemmas
 pub mod LayoutLemmas
 pub mod RowLemmas
+pub mod RowsLemmas
+pub mod FormLemmas

@@ -9,3 +9,4 @@ pub mod WordsLeft
 pub mod TraceView
 pub mod OpeningView
 pub mod RowLayout
+pub mod RowsText

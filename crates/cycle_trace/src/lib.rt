@@ -4,11 +4,15 @@
 mod fault;
 mod header_text;
 mod own_row;
+mod reading;
+mod row_form;
 mod row_layout;
 mod row_text;
+mod rows_text;
 mod trace;
 mod words_left;
 
 pub use fault::TraceFault;
 pub use own_row::OwnRow;
+pub use reading::read;
 pub use trace::Trace;
