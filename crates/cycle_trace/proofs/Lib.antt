@@ -5,3 +5,5 @@ pub mod LayoutLemmas
 pub mod RowLemmas
 pub mod RowsLemmas
 pub mod FormLemmas
+pub mod ShownLemmas
+pub mod ViewLemmas

@@ -89,6 +89,9 @@ some_stream cycles (suc count) got lt = omega arith
 turn_below : (cycles count turn stream got : ℕ) → got ≡ turn * count + stream → got < cycles * count → turn < cycles
 turn_below cycles count turn stream got place lt = lt_of_not-le (λ (large : cycles ≤ turn). let more : cycles * count ≤ turn * count = mul-le-mul_right count large in omega arith)
 
+abbrev left_after : ℕ → ℕ → Cycles
+left_after count got = Err (RowsLeft (3 + count + got))
+
 -- ---- the loop over the rows
 
 -- so many rows of these streams are got, the next is of this stream, and they stand in front of what the rest gives
@@ -199,13 +202,14 @@ module _ (streams : List Parameters) (count cycles : ℕ) (text : List ℕ) (got
         sym h.whole ∙ ap (with_front (cycles_of rows)) here ∙ rw (append-nil (cycles_of rows)) refl
 
     -- all rows are read, and something is left
-    pub rows_from-rest : (rest ≡ [] → ⊥) → rows_from (cycles * count) 0 (3 + count) (owed streams cycles) (lines_of text) ≡ Err (RowsLeft (3 + count + got))
+    pub rows_from-rest : got ≤ cycles * count → (rest ≡ [] → ⊥) → rows_from (cycles * count) 0 (3 + count) (owed streams cycles) (lines_of text) ≡ Err (RowsLeft (3 + count + cycles * count))
     unfolding with_front
-    rows_from-rest some =
+    rows_from-rest most some =
         let other : lines_of rest ≡ [] ∷ [] → ⊥ = λ same. some (sym (join-pieces_of 10 rest) ∙ ap (join_with_byte 10) same) in
+        let all : got ≡ cycles * count = omega arith in
         let here : rows_from (cycles * count) got (3 + count + got) (drop got (owed streams cycles)) (lines_of rest) ≡ Err (RowsLeft (3 + count + got)) =
         rw none_owed (rows_from-left (cycles * count) got (3 + count + got) (lines_of rest) (some_line rest) other) in
-        sym h.whole ∙ ap (with_front (cycles_of rows)) here
+        sym h.whole ∙ ap (with_front (cycles_of rows)) here ∙ ap (left_after count) all
 
 pub empty_is : (text : List ℕ) → true ≡ eqb (length text) 0 → text ≡ []
 empty_is [] same = refl

@@ -8,6 +8,7 @@ mod reading;
 mod row_form;
 mod row_layout;
 mod row_text;
+mod rows;
 mod rows_text;
 mod trace;
 mod words_left;

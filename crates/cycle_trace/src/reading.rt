@@ -36,7 +36,7 @@ pub fn read(alloc: Global, text: &[u8]) -> Result<Trace, TraceFault>
 /// The trace whose header is read.
 #[tactic(auto, unfolding(crate::specs::TraceText::trace_from))]
 fn trace_after(alloc: Global, opening: Opening<'_>) -> Result<Trace, TraceFault>
-    requires { are_heads opening.entry.heads ≡ true }
+    requires { are_heads opening.heads ≡ true }
     ensures { Gives fault_in trace_view result (trace_from (opening_view opening.entry)) }
 {
     let Opening {

@@ -33,5 +33,4 @@ returns-then-is_empty c =
 
 pub returns-else-is_empty : goal.returns-else-is_empty
 returns-else-is_empty c =
-    let all : c.args.cycles * length c.args.layouts.now ≡ c.rows.got = omega (arith, c.rows-test.false, c.rows.auto.got-end) in
-    rw all (rows_from-rest _ _ c.args.cycles c.args.text.now c.rows.got c.rows.stream c.rows.rows c.rows.rest.now c.rows.invariant c.rows-test.false (some_is_not c.rows.rest.now c.if-is_empty.ensures))
+    rows_from-rest _ _ c.args.cycles c.args.text.now c.rows.got c.rows.stream c.rows.rows c.rows.rest.now c.rows.invariant c.rows-test.false c.rows.auto.got-end (some_is_not c.rows.rest.now c.if-is_empty.ensures)
