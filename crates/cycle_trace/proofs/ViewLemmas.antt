@@ -6,7 +6,7 @@ use Rattle.std.proofs.Math.Nat.{mul-le-mul_right, suc-mul}
 use Rattle.std.proofs.lemmas.Bool.Decides.{nat_tests}
 use Rattle.std.proofs.lemmas.List.{length-map}
 use Rattle.std.proofs.lemmas.Nat.{mul-add-lt}
-use Rattle.std.proofs.lemmas.Option.{slice_get-get_or, slice_get-map}
+use Rattle.std.proofs.lemmas.Option.{slice_get-get_or, slice_get-map, get_or_from_slice_get}
 use Rattle.physical_stream.specs.Params.{Parameters}
 use Rattle.physical_stream.specs.Cycles.{Cycle}
 use Rattle.physical_stream.specs.Signals.{Shows}
@@ -39,7 +39,25 @@ module _ (header : Header) (rows : List OwnRow) (whole : IsTrace (text_of header
       row_in-row = ap option_to_list row_there
 
       stream_there : (head : Head) → slice_get header.heads stream ≡ Some head → slice_get (owed (params_of_heads header.heads) header.cycles) (cycle * length header.heads + stream) ≡ Some head.params
-      stream_there head e = ?
+      stream_there head e =
+          let streams = params_of_heads header.heads in
+          let p = head.params in
+          let counted : length streams ≡ length header.heads = length-map header.heads (λ (h : Head). h.params) in
+          let place : cycle * length streams + stream ≡ cycle * length header.heads + stream = ap (λ (n : ℕ). cycle * n + stream) counted in
+          let within : cycle * length header.heads + stream < length (owed streams header.cycles) = omega (arith, row_within, length-rows, length-owed streams header.cycles, ap (λ (n : ℕ). header.cycles * n) counted) in
+          let inside : stream < length streams = omega (arith, counted) in
+          let here : slice_get streams stream ≡ Some p = slice_get-map (λ (h : Head). h.params) header.heads stream ∙ ap (option_map (λ (h : Head). h.params)) e in
+          let same : get_or (owed streams header.cycles) (cycle * length header.heads + stream) p ≡ p =
+          ap (λ (i : ℕ). get_or (owed streams header.cycles) i p) (sym place) ∙ get_or-owed streams header.cycles cycle stream p inside cycle_in ∙ get_or_from_slice_get streams stream p p here in
+          slice_get-get_or (owed streams header.cycles) (cycle * length header.heads + stream) p within ∙ ap Some same
+
+      shown_by : (t : Transfer) → row.shown ≡ Some t → (found : Option Head) → slice_get header.heads stream ≡ found → IfSome found (λ head. Shows head.params t)
+      shown_by t shown None e = tt
+      shown_by t shown (Some head) e = whole.shown.each (cycle * length header.heads + stream) head.params (cycle_of row) t (stream_there head e) row_there shown
+
+      any_shown : (shown : Option Transfer) → row.shown ≡ shown → IfSome shown (λ t. IfSome (slice_get header.heads stream) (λ head. Shows head.params t))
+      any_shown None e = tt
+      any_shown (Some t) e = shown_by t e (slice_get header.heads stream) refl
 
       pub row-shown : IsShownIn (text_of header rows) stream (cycle_of row)
-      row-shown = ?
+      row-shown = any_shown row.shown refl
