@@ -1,5 +1,5 @@
 -- The faults of a trace text and of a row of it, apart from want of memory (this project's own).
-use Rattle.std.specs.Prelude.{Option, Some, None}
+use Rattle.std.specs.Prelude.{ℕ, Option, Some, None}
 use Rattle.cycle_trace.specs.declared.fault.TraceFault.{TraceFault}
 use Rattle.cycle_trace.specs.declared.fault.TraceFault.TheVariants as faults
 use Rattle.cycle_trace.specs.declared.fault.Misspelling.{Misspelling}
@@ -19,3 +19,8 @@ fault_in faults.Memory = None
 abbrev pub misspelling_in : Misspelling → Option (Unit {0})
 misspelling_in misspellings.Unspelled = Some tt
 misspelling_in misspellings.Memory = None
+
+-- the fault of the header line of this number, where there is one
+abbrev pub header_fault : ℕ → Option (Unit {0}) → Option TraceFault
+header_fault line None = None
+header_fault line (Some e) = Some (faults.BadHeader line)

@@ -8,3 +8,6 @@ pub mod Trace
 pub mod TraceText
 pub mod WordsLeft
 pub mod TraceView
+pub mod OpeningView
+pub mod RowLayout
+pub mod RowsText

@@ -1,7 +1,14 @@
 -- A trace, apart from where it lies in memory (this project's own).
+use Rattle.std.specs.Prelude.{ℕ, IfSome, slice_get}
+use Rattle.physical_stream.specs.Signals.{Shows}
+use Rattle.physical_stream.specs.Cycles.{Cycle}
 use Rattle.cycle_trace.specs.Trace.{TraceText, text_of}
 use Rattle.cycle_trace.specs.declared.trace.Trace.{Trace}
 
 -- what a trace says
 abbrev pub trace_view : Trace → TraceText
 trace_view trace = text_of trace.header trace.rows
+
+-- what a cycle shows can be shown by the stream of this number
+abbrev pub IsShownIn : TraceText → (stream : ℕ) → Cycle → Type 0
+IsShownIn t stream cycle = IfSome cycle.shown (λ shown. IfSome (slice_get t.heads stream) (λ head. Shows head.params shown))

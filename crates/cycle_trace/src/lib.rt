@@ -3,8 +3,14 @@
 
 mod counts;
 mod fault;
+mod header_text;
 mod own_row;
 mod reading;
+mod row_form;
+mod row_layout;
+mod row_text;
+mod rows;
+mod rows_text;
 mod surveying;
 mod trace;
 mod words_left;

@@ -8,7 +8,7 @@ use tydi_base::List;
 /// fits its stream, and a signal that the stream lacks stands at its default.
 #[derive(Debug, Drop)]
 pub struct Trace {
-    header: Header,
-    rows: List<OwnRow>,
+    pub(crate) header: Header,
+    pub(crate) rows: List<OwnRow>,
     ghost whole: { IsTrace (text_of header rows) },
 }

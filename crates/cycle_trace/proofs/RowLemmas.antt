@@ -1,0 +1,71 @@
+-- The rows of a trace text: the values of their signals.
+use Rattle.std.proofs.Common.{◌≡◌, ℕ, zero, suc, ◌+◌, ◌-◌, ◌*◌, ◌^◌, ◌<◌, ◌≤◌, Bool, true, false, nat_le, nat_lt, List, [], ◌∷◌, length, drop, if◌then◌else◌, Option, Some, None, Result, Ok, Err, refl, sym, ap, ◌∙◌, arith}
+use Rattle.std.proofs.lemmas.Bool.Decides.{nat_tests}
+use Rattle.std.proofs.lemmas.List.{length-replicate}
+use Rattle.std.proofs.Math.ListN.{drop_of_length-le}
+use Rattle.tydi_base.specs.Reading.{◌>>=◌, or_fault, Gives}
+use Rattle.tydi_base.specs.Bits.{zero_bits, number_of_bits}
+use Rattle.tydi_base.specs.Decimal.{decimal_of, below}
+use Rattle.tydi_base.specs.Hex.{word_at, no_ones}
+use Rattle.tydi_base.specs.Numbers.{number_below}
+use Rattle.tydi_base.proofs.ReadingLaws.{bind_ok, or_fault_ok, ok_is}
+use Rattle.tydi_base.proofs.HexLemmas.{hex_of-word_at}
+use Rattle.cycle_trace.specs.RowText.{value_of, word_field, index_of, strobe_field}
+use Rattle.cycle_trace.proofs.HeaderLemmas.{below-short}
+
+-- a word of bits has its width
+pub word_field-length : (present : Bool) (key width : ℕ) (words : List (List ℕ)) (x : List Bool × List (List ℕ)) → word_field present key width words ≡ Ok x → length x.0 ≡ width
+unfolding word_field
+word_field-length false key width words x e = rw (← ok_is (zero_bits width, words) x e) (length-replicate width false)
+word_field-length true key width words x e =
+    let a = bind_ok (value_of key words) _ x e in
+    let b = bind_ok (or_fault tt (word_at width a.0.0)) _ x a.2 in
+    let same = ok_is (b.0, a.0.1) x b.2 in
+    rw (← same) (hex_of-word_at width a.0.0 b.0 (or_fault_ok tt (word_at width a.0.0) b.0 b.1)).1
+
+-- ---- the strobe
+
+pub number_below-narrow : (place : ℕ) (bits : List Bool) → length bits ≤ place → number_below place bits ≡ Some (number_of_bits bits)
+unfolding number_below no_ones
+number_below-narrow place bits le = rw (drop_of_length-le bits le) refl
+
+-- the strobe bits, as they are read
+pub strobe_field-read : (lanes : ℕ) (words rest : List (List ℕ)) (bits : List Bool) (n : ℕ) → lanes ≤ 128 → word_field true 98 lanes words ≡ Ok (bits, rest) → number_below 128 bits ≡ Some n → strobe_field true lanes words ≡ Ok (n, rest)
+unfolding strobe_field
+strobe_field-read lanes words rest bits n narrow read number =
+    let wide = word_field-length true 98 lanes words (bits, rest) read in
+    let whole : Some (number_of_bits bits) ≡ Some n = sym (number_below-narrow 128 bits (omega (arith, wide))) ∙ number in
+    let same : number_of_bits bits ≡ n = cc in
+    rw (read, same) refl
+
+pub strobe_field-none : (lanes : ℕ) (words rest : List (List ℕ)) (bits : List Bool) → lanes ≤ 128 → word_field true 98 lanes words ≡ Ok (bits, rest) → number_below 128 bits ≡ None → ⊥
+strobe_field-none lanes words rest bits narrow read number =
+    let wide = word_field-length true 98 lanes words (bits, rest) read in
+    let whole : ◌≡◌ {A = Option ℕ} (Some (number_of_bits bits)) None = sym (number_below-narrow 128 bits (omega (arith, wide))) ∙ number in
+    cc
+
+-- ---- numbers of lanes
+
+module _ (width : ℕ) (digits : List ℕ) where
+  pub index_of-long : 5 < length digits → index_of width digits ≡ Err tt
+  unfolding index_of
+  index_of-long long = let past : nat_le (length digits) 5 ≡ false = grind (arith, nat_tests) in rw past refl
+
+  module _ (found : Option ℕ) (short : length digits ≤ 5) (is : found ≡ below (2 ^ 64) (decimal_of digits)) where
+    value : decimal_of digits ≡ found
+    value = sym (below-short digits (omega arith)) ∙ sym is
+
+    within : nat_le (length digits) 5 ≡ true
+    within = grind (arith, nat_tests)
+
+    pub index_of-none : found ≡ None → index_of width digits ≡ Err tt
+    unfolding index_of
+    index_of-none none = rw (within, value, none) refl
+
+    pub index_of-read : (n : ℕ) → found ≡ Some n → n < 2 ^ width → index_of width digits ≡ Ok n
+    unfolding index_of
+    index_of-read n some fits = let small : nat_lt n (2 ^ width) ≡ true = grind (arith, nat_tests) in rw (within, value, some, small) refl
+
+    pub index_of-large : (n : ℕ) → found ≡ Some n → 2 ^ width ≤ n → index_of width digits ≡ Err tt
+    unfolding index_of
+    index_of-large n some large = let past : nat_lt n (2 ^ width) ≡ false = grind (arith, nat_tests) in rw (within, value, some, past) refl

@@ -1,0 +1,31 @@
+use Rattle.std.proofs.Common.{ℕ, ◌∙◌, ◌≡◌, ◌-◌, ◌*◌, ◌^◌, ◌%◌, ap, sym, subst, refl, arith}
+use Rattle.physical_stream.specs.Params.{Parameters}
+use Rattle.signal_layout.specs.declared.signal.Signal.{Signal}
+use Rattle.signal_layout.specs.declared.signal.Signal.TheVariants as signals
+use Rattle.signal_layout.specs.Layout.{width_in, width_of}
+use Rattle.cycle_trace.proofs.LayoutLemmas.{there, payload_there, limit_is}
+use Rattle.cycle_trace.proofs.row_layout.RowLayout.of.Goals as goal
+
+pub invariant_of-result-2 : goal.invariant_of-result-2
+invariant_of-result-2 c =
+    let inside = c.p.inside in
+    let p : Parameters = record { lanes = inside.lanes; dims = inside.dims; level = inside.level; element = inside.element; user = inside.user } in
+    let found = c.of-signals.result in
+    let of : (s : Signal) → width_in found s ≡ width_of p s = subst (λ (q : Parameters). (s : Signal) → width_in found s ≡ width_of q s) (sym c.p.view_is) c.of-signals.ensures in
+    let limit = limit_is c.index_width.result c.index_width.ensures.small in
+    record {
+      laid = record {
+        content_word = record { there = c.is_some.ensures ∙ there p found of signals.Content; wide = rw c.from-lanes.ensures refl };
+        last_word = record { there = c.is_some-2.ensures ∙ there p found of signals.Last; wide = rw (c.from-lanes.ensures, c.from.ensures) refl };
+        strb_word = record { there = c.is_some-3.ensures ∙ there p found of signals.Strb; wide = c.from-lanes.ensures };
+        user_word = record { there = c.is_some-4.ensures ∙ there p found of signals.User; wide = refl };
+        stai_there = c.is_some-5.ensures ∙ there p found of signals.Stai;
+        endi_there = c.is_some-6.ensures ∙ there p found of signals.Endi;
+        payload_there = c.has_payload.ensures ∙ payload_there p found of;
+        limit = limit.0 ∙ ap (λ (n : ℕ). 2 ^ n) c.index_width.ensures.value;
+        small = rw limit.0 limit.1;
+        lane = refl;
+        ones = c.ones.ensures;
+        narrow = c.p.invariant.lanes_most;
+      };
+    }

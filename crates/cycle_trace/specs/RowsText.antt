@@ -1,0 +1,9 @@
+-- The fault of a text that ends where a row is wanted (this project's own).
+use Rattle.std.specs.Prelude.{ℕ, List, [], ◌∷◌}
+use Rattle.cycle_trace.specs.declared.fault.TraceFault.{TraceFault}
+use Rattle.cycle_trace.specs.declared.fault.TraceFault.TheVariants.{BadRow, RowsMissing}
+
+-- what is left where the row of this number of line is wanted: nothing, or bytes with no LF
+abbrev pub cut_row : List ℕ → (want got number : ℕ) → TraceFault
+cut_row [] want got number = RowsMissing want got
+cut_row (byte ∷ rest) want got number = BadRow number

@@ -1,0 +1,95 @@
+//! What reading a row needs to know of its stream, found once for all its rows.
+
+ghost use Rattle.std.specs.Prelude.{◌≡◌, ◌-◌, ◌^◌, ◌≤◌};
+ghost use Rattle.physical_stream.specs.Signals.{index_width};
+ghost use Rattle.cycle_trace.specs.RowLayout.{LaysOut, has_payload_in};
+
+use physical_stream::{Params, index_width};
+use signal_layout::Signals;
+
+/// A signal that is a word of bits.
+#[derive(Clone, Copy, Debug)]
+pub(crate) struct WordSignal {
+    /// Whether the stream has it.
+    pub present: bool,
+    /// Its width in bits, which is 0 only where it is absent.
+    pub width: usize,
+}
+
+/// Which signals the rows of a stream show, how wide they are, and what an absent one stands at.
+#[derive(Clone, Copy, Debug)]
+pub(crate) struct RowLayout {
+    pub params: Params,
+    pub content: WordSignal,
+    pub last: WordSignal,
+    pub strb: WordSignal,
+    pub user: WordSignal,
+    pub has_stai: bool,
+    pub has_endi: bool,
+    /// Whether there is a signal besides valid and ready.
+    pub has_payload: bool,
+    /// Above each number that fits stai and endi.
+    pub index_limit: u32,
+    /// The number of the last lane, at which an absent endi stands.
+    pub last_lane: u16,
+    /// A one for each lane, at which an absent strb stands.
+    pub all_lanes: u128,
+    ghost laid: { LaysOut params content last strb user has_stai has_endi has_payload index_limit last_lane all_lanes },
+}
+
+impl RowLayout {
+    /// The layout of the rows of this stream.
+    pub(crate) fn of(p: &Params) -> RowLayout
+        ensures { result.params ≡ p.now }
+    {
+        let signals = Signals::of(p);
+        let lanes = usize::from(p.lanes);
+        RowLayout {
+            params: *p,
+            content: WordSignal {
+                present: signals.content.is_some(),
+                width: lanes * p.element as usize,
+            },
+            last: WordSignal {
+                present: signals.last.is_some(),
+                width: lanes * usize::from(p.dims),
+            },
+            strb: WordSignal {
+                present: signals.strb.is_some(),
+                width: lanes,
+            },
+            user: WordSignal {
+                present: signals.user.is_some(),
+                width: p.user as usize,
+            },
+            has_stai: signals.stai.is_some(),
+            has_endi: signals.endi.is_some(),
+            has_payload: has_payload(&signals),
+            index_limit: 1u32 << index_width(p.lanes),
+            last_lane: p.lanes - 1,
+            all_lanes: ones(p.lanes),
+        }
+    }
+}
+
+/// Whether there is a signal besides valid and ready.
+fn has_payload(signals: &Signals) -> bool
+    ensures { result ≡ has_payload_in signals.now }
+{
+    signals.content.is_some()
+        || signals.last.is_some()
+        || signals.stai.is_some()
+        || signals.endi.is_some()
+        || signals.strb.is_some()
+        || signals.user.is_some()
+}
+
+/// So many ones, from the lowest bit.
+fn ones(count: u16) -> u128
+    requires some { 1 ≤ count }
+    requires most { count ≤ 128 }
+    ensures { result ≡ 2 ^ count - 1 }
+{
+    let highest = 1u128 << (count - 1);
+    highest - 1 + highest
+}
