@@ -3,6 +3,7 @@ pub mod HeaderText
 pub mod RowText
 pub mod Spelling
 pub mod Survey
+pub mod Surveying
 pub mod TextSet
 pub mod Trace
 pub mod TraceText
