@@ -1,3 +1,5 @@
 mod PlainWords
 mod SignalSpelling
 mod RowSpelling
+mod RowsSpelling
+mod HeadSpelling

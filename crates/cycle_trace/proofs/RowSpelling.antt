@@ -81,10 +81,10 @@ unfolding no_more
 no_more-some [] x e = refl
 no_more-some (word ∷ words) x e = absurd cc
 
-chain : (a b c d e f u v w x y z end : List (List ℕ)) → u ≡ a ++ v → v ≡ b ++ w → w ≡ c ++ x → x ≡ d ++ y → y ≡ e ++ z → z ≡ f ++ end → end ≡ [] → u ≡ a ++ (b ++ (c ++ (d ++ (e ++ f))))
+chain : (a b c d e f u v w x y z end : List (List ℕ)) → u ≡ a ++ v → v ≡ b ++ w → w ≡ c ++ x → x ≡ d ++ y → y ≡ e ++ z → z ≡ f ++ end → end ≡ [] → u ≡ ((((a ++ b) ++ c) ++ d) ++ e) ++ f
 chain a b c d e f u v w x y z end p q r s t l none =
     let last : z ≡ f = l ∙ ap (λ (rest : List (List ℕ)). f ++ rest) none ∙ append-nil f in
-    rw (p, q, r, s, t, last) refl
+    rw (p, q, r, s, t, last) (sym (flat a b c d e f))
 
 -- what was read of the words of a transfer
 pub record TransferRead (p : Parameters) (words : List (List ℕ)) (t : Transfer) : Type 0 where
@@ -111,7 +111,7 @@ transfer_of-some p words t some e =
     let strb_read = strobe_field-some (has_strb p) p.lanes endi.0.1 strb.0 strb.1 in
     let user_read = word_field-some (has_user p) 117 p.user strb.0.1 user.0 user.1 in
     rw (← same) (record {
-      spelled = chain (content_of p found) (last_of p found) (stai_of p found) (endi_of p found) (strb_of p found) (user_of p found) words content.0.1 last.0.1 stai.0.1 endi.0.1 strb.0.1 user.0.1 content_read.spelled last_read.spelled stai_read.spelled endi_read.spelled strb_read.spelled user_read.spelled (no_more-some user.0.1 nothing.0 nothing.1) ∙ sym (transfer_words-flat p found);
+      spelled = chain (content_of p found) (last_of p found) (stai_of p found) (endi_of p found) (strb_of p found) (user_of p found) words content.0.1 last.0.1 stai.0.1 endi.0.1 strb.0.1 user.0.1 content_read.spelled last_read.spelled stai_read.spelled endi_read.spelled strb_read.spelled user_read.spelled (no_more-some user.0.1 nothing.0 nothing.1);
       shows = record {
         fits = record { content = content_read.wide; last = last_read.wide; stai = stai_read.below; endi = endi_read.below; strb = strb_read.below; user = user_read.wide };
         defaults = record { stai = stai_read.absent; endi = endi_read.absent; strb = strb_read.absent };
