@@ -1,8 +1,8 @@
 -- A stream line of a trace text: what is spelled is read, and what is read is spelled so.
-use Rattle.std.proofs.Common.{◌≡◌, ℕ, zero, suc, ◌+◌, ◌^◌, ◌<◌, ◌≤◌, Bool, true, false, not, ◌&&◌, nat_le, nat_lt, eqb, List, [], ◌∷◌, ◌++◌, length, Some, Result, Ok, Err, cond, All, refl, sym, ap, ◌∙◌, inl, inr, arith}
+use Rattle.std.proofs.Common.{◌≡◌, ℕ, ◌^◌, ◌<◌, ◌≤◌, Bool, true, false, not, ◌&&◌, nat_le, nat_lt, eqb, List, [], ◌∷◌, length, Result, Ok, Err, cond, refl, sym, ap, ◌∙◌, inl, inr, arith}
 use Rattle.std.specs.Prelude.{codes}
 use Rattle.std.specs.Fmt.{decimal}
-use Rattle.std.specs.List.{join_with_byte, list_any}
+use Rattle.std.specs.List.{list_any}
 use Rattle.std.specs.Str.{bytes_eq}
 use Rattle.std.proofs.lemmas.Bool.{eqb-true}
 use Rattle.std.proofs.lemmas.Bool.Decides.{nat_tests}
@@ -10,10 +10,9 @@ use Rattle.std.proofs.lemmas.Fmt.{length-decimal-le}
 use Rattle.std.proofs.lemmas.Slice.Eq.{bytes_eq-Decides}
 use Rattle.tydi_base.specs.Decimal.{decimal_of}
 use Rattle.tydi_base.specs.Level.{IsLevel}
-use Rattle.tydi_base.specs.Name.{is_name}
 use Rattle.tydi_base.specs.Path.{path_of, path_text}
 use Rattle.tydi_base.specs.Pieces.{words_of}
-use Rattle.tydi_base.specs.Reading.{◌>>=◌, or_fault}
+use Rattle.tydi_base.specs.Reading.{or_fault}
 use Rattle.tydi_base.proofs.DecimalLaws.{decimal_of-decimal, decimal_of-some}
 use Rattle.tydi_base.proofs.PathLaws.{path_of-path_text, path_of-some}
 use Rattle.tydi_base.proofs.PieceLaws.{join-pieces_of}
@@ -22,7 +21,7 @@ use Rattle.physical_stream.specs.Params.{Parameters, AreInRange}
 use Rattle.physical_stream.specs.declared.head.Head.{Head}
 use Rattle.cycle_trace.specs.HeaderText.{header_number, are_parameters, params_of, direction_of, nth, has_keys, head_of_words, head_of, head_after}
 use Rattle.cycle_trace.specs.Spelling.{IsHead, direction_text, head_words, words_text}
-use Rattle.cycle_trace.proofs.PlainWords.{is_plain, are_plain, and_parts, both, decimal-plain, path_text-plain, words_of-plain}
+use Rattle.cycle_trace.proofs.PlainWords.{is_plain, are_plain, and_parts, decimal-plain, path_text-plain, words_of-plain}
 use Rattle.cycle_trace.proofs.SignalSpelling.{decimal_of-below}
 
 -- ---- numbers
@@ -38,10 +37,10 @@ pub header_number-some : (digits : List ℕ) (n : ℕ) → header_number digits 
 unfolding header_number
 header_number-some digits n e = elim (chosen (nat_le (length digits) 10) (or_fault tt (decimal_of digits)) (Err tt) (Ok n) e) [
   | inl h ↦ (
-    let is = or_fault_ok tt (decimal_of digits) n h.1 in
-    let short : length digits ≤ 10 = grind (arith, nat_tests) in
-    let lt : n < 10 ^ 10 = decimal_of-below digits n 10 short is in
-    decimal_of-some digits n (omega arith) is)
+      let is = or_fault_ok tt (decimal_of digits) n h.1 in
+      let short : length digits ≤ 10 = grind (arith, nat_tests) in
+      let lt : n < 10 ^ 10 = decimal_of-below digits n 10 short is in
+      decimal_of-some digits n (omega arith) is)
   | inr h ↦ absurd (cc (h.1))
 ]
 
@@ -97,8 +96,14 @@ unfolding params_of
 params_of-spelled p h =
     let r = h.range in
     let l = h.level in
-    rw (header_number-spelled p.lanes (omega arith), header_number-spelled p.dims (omega arith), header_number-spelled p.level (omega arith),
-    header_number-spelled p.element (omega arith), header_number-spelled p.user (omega arith), are_parameters-from p h) refl
+    rw (
+      header_number-spelled p.lanes (omega arith),
+      header_number-spelled p.dims (omega arith),
+      header_number-spelled p.level (omega arith),
+      header_number-spelled p.element (omega arith),
+      header_number-spelled p.user (omega arith),
+      are_parameters-from p h,
+    ) refl
 
 -- what was read of the words of parameters
 record ParametersRead (lanes dims level element user : List ℕ) (p : Parameters) : Type 0 where
@@ -120,15 +125,15 @@ params_of-some lanes dims level element user p e =
     let found : Parameters = record { lanes = n.0; dims = d.0; level = c.0; element = w.0; user = u.0 } in
     elim (chosen (are_parameters n.0 d.0 c.0 w.0 u.0) (Ok found) (Err tt) (Ok p) u.2) [
       | inl h ↦ (
-        let same = ok_is found p h.1 in
-        rw (← same) (record {
-          lanes_is = header_number-some lanes n.0 n.1;
-          dims_is = header_number-some dims d.0 d.1;
-          level_is = header_number-some level c.0 c.1;
-          element_is = header_number-some element w.0 w.1;
-          user_is = header_number-some user u.0 u.1;
-          may = are_parameters-to found h.0;
-        }))
+          let same = ok_is found p h.1 in
+          rw (← same) (record {
+            lanes_is = header_number-some lanes n.0 n.1;
+            dims_is = header_number-some dims d.0 d.1;
+            level_is = header_number-some level c.0 c.1;
+            element_is = header_number-some element w.0 w.1;
+            user_is = header_number-some user u.0 u.1;
+            may = are_parameters-to found h.0;
+          }))
       | inr h ↦ absurd (cc (h.1))
     ]
 
@@ -241,8 +246,15 @@ pub head_words-plain : (head : Head) → IsHead head → are_plain (head_words h
 head_words-plain head h =
     let r = h.range in
     let l = h.level in
-    rw (path_text-plain head.path h.names, decimal-plain head.params.lanes (omega arith), decimal-plain head.params.dims (omega arith), decimal-plain head.params.level (omega arith),
-    decimal-plain head.params.element (omega arith), decimal-plain head.params.user (omega arith), direction_text-plain head.reversed) refl
+    rw (
+      path_text-plain head.path h.names,
+      decimal-plain head.params.lanes (omega arith),
+      decimal-plain head.params.dims (omega arith),
+      decimal-plain head.params.level (omega arith),
+      decimal-plain head.params.element (omega arith),
+      decimal-plain head.params.user (omega arith),
+      direction_text-plain head.reversed,
+    ) refl
 
 abbrev where_keys : List (List ℕ) → Result Head (Unit {0})
 where_keys words = cond (has_keys words) (head_of_words words) (Err tt)
@@ -260,11 +272,11 @@ head_of-some : (line : List ℕ) (head : Head) → head_of line ≡ Ok head → 
 unfolding head_of
 head_of-some line head e = elim (chosen (has_keys (words_of line)) (head_of_words (words_of line)) (Err tt) (Ok head) e) [
   | inl h ↦ (
-    let read = head_of_words-some (words_of line) head h.1 in
-    record {
-      spelled = sym (join-pieces_of 32 line) ∙ ap words_text (words-spelled (words_of line) head (has_keys-to (words_of line) h.0) read);
-      is_head = read.is_head;
-    })
+      let read = head_of_words-some (words_of line) head h.1 in
+      record {
+        spelled = sym (join-pieces_of 32 line) ∙ ap words_text (words-spelled (words_of line) head (has_keys-to (words_of line) h.0) read);
+        is_head = read.is_head;
+      })
   | inr h ↦ absurd (cc (h.1))
 ]
 
@@ -289,10 +301,10 @@ if_new paths head = cond (nat_lt (length paths) 65536 && not (list_any (bytes_eq
 if_new-some : (paths : List (List ℕ)) (line : List ℕ) (found head : Head) → HeadLineRead line found → if_new paths found ≡ Ok head → HeadAfter paths line head
 if_new-some paths line found head read e = elim (chosen (nat_lt (length paths) 65536 && not (list_any (bytes_eq (path_text found.path)) paths)) (Ok found) (Err tt) (Ok head) e) [
   | inl h ↦ (
-    let parts = and_parts (nat_lt (length paths) 65536) (not (list_any (bytes_eq (path_text found.path)) paths)) h.0 in
-    let few = parts.0 in
-    let same = ok_is found head h.1 in
-    rw (← same) (record { read = read; room = grind (arith, nat_tests); new = parts.1 }))
+      let parts = and_parts (nat_lt (length paths) 65536) (not (list_any (bytes_eq (path_text found.path)) paths)) h.0 in
+      let few = parts.0 in
+      let same = ok_is found head h.1 in
+      rw (← same) (record { read = read; room = grind (arith, nat_tests); new = parts.1 }))
   | inr h ↦ absurd (cc (h.1))
 ]
 

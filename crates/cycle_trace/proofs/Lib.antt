@@ -3,3 +3,5 @@ mod SignalSpelling
 mod RowSpelling
 mod RowsSpelling
 mod HeadSpelling
+mod HeadsSpelling
+mod TraceSpelling

@@ -1,5 +1,5 @@
 -- A row of a trace text: what is spelled is read, and what is read is spelled so.
-use Rattle.std.proofs.Common.{◌≡◌, ℕ, ◌-◌, ◌*◌, ◌^◌, ◌<◌, ◌≤◌, Bool, true, false, ◌||◌, nat_lt, List, [], ◌∷◌, ◌++◌, length, Option, Some, None, Result, Ok, Err, cond, append_assoc, refl, sym, ap, ◌∙◌, inl, inr, arith}
+use Rattle.std.proofs.Common.{◌≡◌, ℕ, ◌-◌, ◌*◌, ◌^◌, ◌<◌, ◌≤◌, Bool, true, false, ◌||◌, nat_lt, List, [], ◌∷◌, ◌++◌, Option, Some, None, Result, Ok, Err, cond, append_assoc, refl, sym, ap, ◌∙◌, inl, inr, arith}
 use Rattle.std.specs.List.{join_with_byte}
 use Rattle.std.proofs.Math.Pow.{pow_mono}
 use Rattle.std.specs.Option.{is_some}
@@ -11,7 +11,6 @@ use Rattle.std.proofs.lemmas.Slice.Eq.{bytes_eq-Decides}
 use Rattle.tydi_base.specs.Bits.{bits_of}
 use Rattle.tydi_base.specs.Hex.{hex_of}
 use Rattle.tydi_base.specs.Pieces.{words_of}
-use Rattle.tydi_base.specs.Reading.{◌>>=◌}
 use Rattle.tydi_base.proofs.PieceLaws.{join-pieces_of}
 use Rattle.tydi_base.proofs.ReadingLaws.{bind_ok, chosen, ok_is}
 use Rattle.physical_stream.specs.Params.{Parameters}
@@ -20,10 +19,9 @@ use Rattle.physical_stream.specs.Cycles.{Cycle}
 use Rattle.physical_stream.specs.declared.transfer.Transfer.{Transfer}
 use Rattle.physical_stream.proofs.WidthLemmas.{index_width-enough}
 use Rattle.std.specs.Fmt.{decimal}
-use Rattle.cycle_trace.specs.declared.fault.TraceFault.{TraceFault}
-use Rattle.cycle_trace.specs.RowText.{word_field, index_field, strobe_field, no_more, transfer_of, has_payload, is_dash, payload_of, shown_of, bit_of, cycle_of_words, row_of, row_at, row_fault}
+use Rattle.cycle_trace.specs.RowText.{word_field, index_field, strobe_field, no_more, transfer_of, has_payload, is_dash, payload_of, shown_of, bit_of, cycle_of_words, row_of, row_at}
 use Rattle.cycle_trace.specs.Spelling.{signal_words, transfer_words, or_dash, payload_words, bit_text, row_line}
-use Rattle.cycle_trace.proofs.PlainWords.{is_plain, are_plain, and_parts, both, are_plain-append, decimal-plain, hex_of-plain, words_of-plain}
+use Rattle.cycle_trace.proofs.PlainWords.{is_plain, are_plain, both, are_plain-append, decimal-plain, hex_of-plain, words_of-plain}
 use Rattle.cycle_trace.proofs.SignalSpelling.{index_width-most, word_field-spelled, word_field-some, index_field-spelled, index_field-some, strobe_field-spelled, strobe_field-some}
 
 -- ---- a transfer

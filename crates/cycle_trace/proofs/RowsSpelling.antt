@@ -1,5 +1,5 @@
 -- The rows of a trace text: what is spelled is read, and what is read is spelled so.
-use Rattle.std.proofs.Common.{◌≡◌, ℕ, zero, suc, ◌+◌, ◌<◌, ◌≤◌, Bool, true, ◌&&◌, nat_le, List, [], ◌∷◌, ◌++◌, length, Option, Some, None, Result, Ok, Err, append_assoc, eqb, refl, sym, ap, ◌∙◌, arith}
+use Rattle.std.proofs.Common.{◌≡◌, ℕ, zero, suc, ◌<◌, ◌≤◌, Bool, true, ◌&&◌, nat_le, List, [], ◌∷◌, ◌++◌, length, Some, Result, Ok, append_assoc, eqb, refl, sym, ap, ◌∙◌, arith}
 use Rattle.std.specs.List.{list_all, join_with_byte, slice_get}
 use Rattle.std.proofs.lemmas.Bool.Decides.{nat_tests}
 use Rattle.std.proofs.lemmas.List.Folds.{list_all-append}
@@ -34,6 +34,9 @@ has_lanes p e =
     let high = parts.1 in
     record { some = grind (arith, nat_tests); few = grind (arith, nat_tests) }
 
+pub have_lanes-first : (p : Parameters) (streams : List Parameters) → have_lanes (p ∷ streams) ≡ true → p.lanes ≤ 128
+have_lanes-first p streams e = (has_lanes p (and_parts (nat_le 1 p.lanes && nat_le p.lanes 128) (have_lanes streams) e).0).few
+
 pub have_lanes-owed : (streams : List Parameters) (cycles : ℕ) → have_lanes streams ≡ true → have_lanes (owed streams cycles) ≡ true
 have_lanes-owed streams zero e = refl
 have_lanes-owed streams (suc cycles) e =
@@ -52,7 +55,7 @@ rows_from-cons want got number p streams (byte ∷ line) (next ∷ lines) some =
 
 -- ---- rows that are shown
 
-AreShown-first : (p : Parameters) (streams : List Parameters) (cycle : Cycle) (cycles : List Cycle) → AreShown (p ∷ streams) (cycle ∷ cycles) → (t : Transfer) → cycle.shown ≡ Some t → Shows p t
+pub AreShown-first : (p : Parameters) (streams : List Parameters) (cycle : Cycle) (cycles : List Cycle) → AreShown (p ∷ streams) (cycle ∷ cycles) → (t : Transfer) → cycle.shown ≡ Some t → Shows p t
 AreShown-first p streams cycle cycles h t is = h.each zero p cycle t refl refl is
 
 AreShown-rest : (p : Parameters) (streams : List Parameters) (cycle : Cycle) (cycles : List Cycle) → AreShown (p ∷ streams) (cycle ∷ cycles) → AreShown streams cycles
@@ -77,7 +80,7 @@ AreShown-more p streams cycle cycles first rest = record { many = let many = res
 
 -- ---- all rows
 
-rows_text-lines : (p : Parameters) (streams : List Parameters) (cycle : Cycle) (cycles : List Cycle) → p.lanes ≤ 128 → ((t : Transfer) → cycle.shown ≡ Some t → Shows p t)
+pub rows_text-lines : (p : Parameters) (streams : List Parameters) (cycle : Cycle) (cycles : List Cycle) → p.lanes ≤ 128 → ((t : Transfer) → cycle.shown ≡ Some t → Shows p t)
     → lines_of (rows_text (p ∷ streams) (cycle ∷ cycles)) ≡ row_line p cycle ∷ lines_of (rows_text streams cycles)
 rows_text-lines p streams cycle cycles few first =
     ap lines_of (append_assoc (row_line p cycle) (10 ∷ []) (rows_text streams cycles))

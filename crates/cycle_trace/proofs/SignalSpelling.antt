@@ -1,5 +1,5 @@
 -- The signals of a row: what is spelled is read, and what is read is spelled so.
-use Rattle.std.proofs.Common.{◌≡◌, ℕ, zero, suc, ◌+◌, ◌-◌, ◌*◌, ◌^◌, ◌<◌, ◌≤◌, Bool, true, false, ◌&&◌, eqb, nat_le, nat_lt, List, [], ◌∷◌, ◌++◌, length, Some, Result, Ok, Err, cond, refl, sym, ap, ◌∙◌, ◌⊎◌, inl, inr, arith}
+use Rattle.std.proofs.Common.{◌≡◌, ℕ, zero, suc, ◌+◌, ◌-◌, ◌^◌, ◌<◌, ◌≤◌, Bool, true, false, ◌&&◌, eqb, nat_le, nat_lt, List, [], ◌∷◌, ◌++◌, length, Some, Result, Ok, Err, cond, refl, sym, ap, ◌∙◌, ◌⊎◌, inl, inr, arith}
 use Rattle.std.specs.Fmt.{decimal}
 use Rattle.std.proofs.Math.Pow.{pow_mono}
 use Rattle.std.proofs.lemmas.Bool.{cases_lt, eqb-true, eq-eqb}
@@ -63,9 +63,9 @@ value_of-some key ([] ∷ words) x e = absurd cc
 value_of-some key ((k ∷ []) ∷ words) x e = absurd cc
 value_of-some key ((k ∷ sign ∷ value) ∷ words) x e = elim (chosen (eqb k key && eqb sign 61) (Ok (value, words)) (Err tt) (Ok x) e) [
   | inl h ↦ (
-    let parts = and_parts (eqb k key) (eqb sign 61) h.0 in
-    let same = ok_is (value, words) x h.1 in
-    rw (← same, eqb-true k key parts.0, eqb-true sign 61 parts.1) refl)
+      let parts = and_parts (eqb k key) (eqb sign 61) h.0 in
+      let same = ok_is (value, words) x h.1 in
+      rw (← same, eqb-true k key parts.0, eqb-true sign 61 parts.1) refl)
   | inr h ↦ absurd (cc (h.1))
 ]
 
@@ -126,11 +126,11 @@ index_of-some : (width n : ℕ) (digits : List ℕ) → index_of width digits �
 unfolding index_of
 index_of-some width n digits e = elim (chosen (nat_le (length digits) 5) (or_fault tt (decimal_of digits) >>= where_below (2 ^ width)) (Err tt) (Ok n) e) [
   | inl h ↦ (
-    let read = bind_ok (or_fault tt (decimal_of digits)) (where_below (2 ^ width)) n h.1 in
-    let is = or_fault_ok tt (decimal_of digits) read.0 read.1 in
-    let short : length digits ≤ 5 = grind (arith, nat_tests) in
-    let lt : read.0 < 10 ^ 5 = decimal_of-below digits read.0 5 short is in
-    where_below-some (2 ^ width) read.0 n digits (decimal_of-some digits read.0 (omega arith) is) read.2)
+      let read = bind_ok (or_fault tt (decimal_of digits)) (where_below (2 ^ width)) n h.1 in
+      let is = or_fault_ok tt (decimal_of digits) read.0 read.1 in
+      let short : length digits ≤ 5 = grind (arith, nat_tests) in
+      let lt : read.0 < 10 ^ 5 = decimal_of-below digits read.0 5 short is in
+      where_below-some (2 ^ width) read.0 n digits (decimal_of-some digits read.0 (omega arith) is) read.2)
   | inr h ↦ absurd (cc (h.1))
 ]
 

@@ -2,10 +2,12 @@
 #![tactic(auto)]
 
 mod fault;
+mod laws;
 mod own_row;
 mod trace;
 mod words_left;
 
 pub use fault::TraceFault;
+pub use laws::traces_are_read_as_spelled;
 pub use own_row::OwnRow;
 pub use trace::Trace;
