@@ -5,3 +5,4 @@ mod RowsSpelling
 mod HeadSpelling
 mod HeadsSpelling
 mod TraceSpelling
+mod WritingLemmas

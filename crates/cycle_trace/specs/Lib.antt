@@ -6,4 +6,5 @@ pub mod TextSet
 pub mod Trace
 pub mod TraceText
 pub mod WordsLeft
+pub mod Writing
 pub mod TraceView

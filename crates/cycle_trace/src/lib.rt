@@ -6,8 +6,10 @@ mod laws;
 mod own_row;
 mod trace;
 mod words_left;
+mod writing;
 
 pub use fault::TraceFault;
 pub use laws::traces_are_read_as_spelled;
 pub use own_row::OwnRow;
 pub use trace::Trace;
+pub use writing::{write_header, write_row};
