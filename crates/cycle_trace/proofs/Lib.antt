@@ -1,8 +1,8 @@
-mod PlainWords
-mod SignalSpelling
-mod RowSpelling
-mod RowsSpelling
-mod HeadSpelling
-mod HeadsSpelling
-mod TraceSpelling
-mod WritingLemmas
+pub mod PlainWords
+pub mod SignalSpelling
+pub mod RowSpelling
+pub mod RowsSpelling
+pub mod HeadSpelling
+pub mod HeadsSpelling
+pub mod TraceSpelling
+pub mod WritingLemmas

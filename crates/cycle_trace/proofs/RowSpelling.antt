@@ -11,6 +11,7 @@ use Rattle.std.proofs.lemmas.Slice.Eq.{bytes_eq-Decides}
 use Rattle.tydi_base.specs.Bits.{bits_of}
 use Rattle.tydi_base.specs.Hex.{hex_of}
 use Rattle.tydi_base.specs.Pieces.{words_of}
+use Rattle.tydi_base.specs.Reading.{◌>>=◌}
 use Rattle.tydi_base.proofs.PieceLaws.{join-pieces_of}
 use Rattle.tydi_base.proofs.ReadingLaws.{bind_ok, chosen, ok_is}
 use Rattle.physical_stream.specs.Params.{Parameters}
@@ -84,6 +85,9 @@ chain a b c d e f u v w x y z end p q r s t l none =
     let last : z ≡ f = l ∙ ap (λ (rest : List (List ℕ)). f ++ rest) none ∙ append-nil f in
     rw (p, q, r, s, t, last) (sym (flat a b c d e f))
 
+abbrev transfer_with : (content last : List Bool) (stai endi strb : ℕ) (user : List Bool) → Transfer
+transfer_with content last stai endi strb user = record { content = content; last = last; stai = stai; endi = endi; strb = strb; user = user }
+
 -- what was read of the words of a transfer
 pub record TransferRead (p : Parameters) (words : List (List ℕ)) (t : Transfer) : Type 0 where
   pub spelled : words ≡ transfer_words p t
@@ -97,8 +101,9 @@ transfer_of-some p words t some e =
     let stai = bind_ok (index_field (has_stai p) 115 (index_width p.lanes) 0 last.0.1) _ t last.2 in
     let endi = bind_ok (index_field (has_endi p) 101 (index_width p.lanes) (p.lanes - 1) stai.0.1) _ t stai.2 in
     let strb = bind_ok (strobe_field (has_strb p) p.lanes endi.0.1) _ t endi.2 in
-    let user = bind_ok (word_field (has_user p) 117 p.user strb.0.1) _ t strb.2 in
-    let found : Transfer = record { content = content.0.0; last = last.0.0; stai = stai.0.0; endi = endi.0.0; strb = strb.0.0; user = user.0.0 } in
+    let with_user = λ (x : List Bool). transfer_with content.0.0 last.0.0 stai.0.0 endi.0.0 strb.0.0 x in
+    let user = bind_ok (word_field (has_user p) 117 p.user strb.0.1) (λ x. no_more x.1 >>= λ nothing. Ok (with_user x.0)) t strb.2 in
+    let found = with_user user.0.0 in
     let nothing = bind_ok (no_more user.0.1) (λ nothing. Ok found) t user.2 in
     let same = ok_is found t nothing.2 in
     let fits : p.lanes - 1 < 2 ^ index_width p.lanes = omega (arith, index_width-enough p.lanes) in
@@ -109,7 +114,8 @@ transfer_of-some p words t some e =
     let strb_read = strobe_field-some (has_strb p) p.lanes endi.0.1 strb.0 strb.1 in
     let user_read = word_field-some (has_user p) 117 p.user strb.0.1 user.0 user.1 in
     rw (← same) (record {
-      spelled = chain (content_of p found) (last_of p found) (stai_of p found) (endi_of p found) (strb_of p found) (user_of p found) words content.0.1 last.0.1 stai.0.1 endi.0.1 strb.0.1 user.0.1 content_read.spelled last_read.spelled stai_read.spelled endi_read.spelled strb_read.spelled user_read.spelled (no_more-some user.0.1 nothing.0 nothing.1);
+      spelled = chain (content_of p found) (last_of p found) (stai_of p found) (endi_of p found) (strb_of p found) (user_of p found) words content.0.1 last.0.1 stai.0.1 endi.0.1 strb.0.1 user.0.1
+          content_read.spelled last_read.spelled stai_read.spelled endi_read.spelled strb_read.spelled user_read.spelled (no_more-some user.0.1 nothing.0 nothing.1);
       shows = record {
         fits = record { content = content_read.wide; last = last_read.wide; stai = stai_read.below; endi = endi_read.below; strb = strb_read.below; user = user_read.wide };
         defaults = record { stai = stai_read.absent; endi = endi_read.absent; strb = strb_read.absent };

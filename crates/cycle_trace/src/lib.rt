@@ -7,6 +7,8 @@ mod own_row;
 mod trace;
 mod words_left;
 mod writing;
+#[cfg(test)]
+mod writing_tests;
 
 pub use fault::TraceFault;
 pub use laws::traces_are_read_as_spelled;
