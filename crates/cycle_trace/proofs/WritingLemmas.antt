@@ -13,6 +13,7 @@ use Rattle.std.proofs.lemmas.List.Concat.{flat_map-append, flat_map-cons}
 use Rattle.tydi_base.specs.Bits.{bits_of}
 use Rattle.tydi_base.specs.Hex.{hex_of}
 use Rattle.tydi_base.specs.Numbers.{word_of_number}
+use Rattle.tydi_base.specs.Path.{path_text}
 use Rattle.tydi_base.proofs.PathLoops.{kept-kept}
 use Rattle.signal_layout.specs.Layout.{is_present, where_present, bits_of_signal, width_in}
 use Rattle.signal_layout.specs.declared.layout.Signals.{Signals}
@@ -21,7 +22,7 @@ use Rattle.signal_layout.specs.declared.signal.Signal.TheVariants as signals
 use Rattle.physical_stream.specs.Params.{Parameters}
 use Rattle.physical_stream.specs.declared.head.Head.{Head}
 use Rattle.physical_stream.specs.declared.transfer.Transfer.{Transfer}
-use Rattle.cycle_trace.specs.Spelling.{bit_text, head_text, header_text, signal_words, transfer_words, words_text}
+use Rattle.cycle_trace.specs.Spelling.{bit_text, direction_text, head_text, head_words, header_text, signal_words, transfer_words, words_text}
 use Rattle.cycle_trace.specs.Writing.{AreSignalsOf, StandsInFront, spaced}
 
 -- ---- what was there before
@@ -45,6 +46,39 @@ spaced-more : (before out new : List ℕ) (words next : List (List ℕ)) → out
 spaced-more before out new words next e f =
     f ∙ ap (λ (text : List ℕ). text ++ spaced next) e ∙ append_assoc before (spaced words) (spaced next)
     ∙ ap (λ (text : List ℕ). before ++ text) (sym (flat_map-append (λ (word : List ℕ). 32 ∷ word) words next))
+
+-- ---- a stream line
+
+-- what stood in front before four pieces
+pub parameters_front : (before a b c d new lanes dims level element : List ℕ) → a ≡ before ++ lanes → b ≡ a ++ dims → c ≡ b ++ level → d ≡ c ++ element → StandsInFront d new → StandsInFront before new
+parameters_front before a b c d new lanes dims level element e f g h kept =
+    let whole : d ≡ before ++ (((lanes ++ dims) ++ level) ++ element) = rw (h, g, f, e) (simp append_assoc) in
+    front-kept before d new (((lanes ++ dims) ++ level) ++ element) whole kept
+
+-- the words of parameters
+abbrev parameter_words : Parameters → List (List ℕ)
+parameter_words p = codes "lanes" ∷ decimal p.lanes ∷ codes "dims" ∷ decimal p.dims ∷ codes "level" ∷ decimal p.level ∷ codes "element" ∷ decimal p.element ∷ codes "user" ∷ decimal p.user ∷ []
+
+spaced-last : (words : List (List ℕ)) (last : List ℕ) → spaced (words ++ last ∷ []) ≡ spaced words ++ 32 ∷ last
+spaced-last words last =
+    flat_map-append (λ (word : List ℕ). 32 ∷ word) words (last ∷ []) ∙ ap (λ (text : List ℕ). spaced words ++ 32 ∷ text) (append-nil last)
+
+head_line : (head : Head) → words_text (head_words head) ≡ codes "stream " ++ (path_text head.path ++ (spaced (parameter_words head.params) ++ 32 ∷ direction_text head.reversed))
+head_line head =
+    words_text-spaced (codes "stream") (path_text head.path ∷ (parameter_words head.params ++ direction_text head.reversed ∷ []))
+    ∙ ap (λ (text : List ℕ). codes "stream " ++ (path_text head.path ++ text)) (spaced-last (parameter_words head.params) (direction_text head.reversed))
+
+pieces_together : (before a b c d new title path params direction : List ℕ) → a ≡ before ++ title → b ≡ a ++ path → c ≡ b ++ params → d ≡ c ++ direction → new ≡ d ++ 10 ∷ []
+    → new ≡ before ++ ((title ++ (path ++ (params ++ direction))) ++ 10 ∷ [])
+pieces_together before a b c d new title path params direction e f g h i = rw (i, h, g, f, e) (simp append_assoc)
+
+-- what the pieces of a stream line are together
+pub head_written : (before a b c d new direction : List ℕ) (head : Head) → a ≡ before ++ codes "stream " → b ≡ a ++ path_text head.path → c ≡ b ++ spaced (parameter_words head.params)
+    → direction ≡ 32 ∷ direction_text head.reversed → d ≡ c ++ direction → new ≡ d ++ 10 ∷ [] → new ≡ before ++ head_text head
+head_written before a b c d new direction head e f g is h i =
+    let last : d ≡ c ++ 32 ∷ direction_text head.reversed = h ∙ ap (λ (text : List ℕ). c ++ text) is in
+    pieces_together before a b c d new (codes "stream ") (path_text head.path) (spaced (parameter_words head.params)) (32 ∷ direction_text head.reversed) e f g last i
+    ∙ ap (λ (line : List ℕ). before ++ (line ++ 10 ∷ [])) (sym (head_line head))
 
 -- ---- a row
 
