@@ -1,11 +1,12 @@
 -- The one text of a trace, version 1 (this project's own), and the laws that tie it to the reading.
-use Rattle.std.specs.Prelude.{◌≡◌, ℕ, Bool, if◌then◌else◌, List, [], ◌∷◌, ◌++◌, Option, Some, None, Ok, is_some, codes, decimal}
+use Rattle.std.specs.Prelude.{◌≡◌, ℕ, Bool, if◌then◌else◌, List, [], ◌∷◌, ◌++◌, Option, Some, None, Ok, is_some, codes, decimal, IsTrue, All}
 use Rattle.std.specs.List.{flat_map, join_with_byte}
 use Rattle.tydi_base.specs.Bits.{bits_of}
 use Rattle.tydi_base.specs.Hex.{hex_of}
 use Rattle.tydi_base.specs.Path.{path_text}
-use Rattle.tydi_base.specs.Level.{number_of}
-use Rattle.physical_stream.specs.Params.{Parameters}
+use Rattle.tydi_base.specs.Level.{IsLevel, number_of}
+use Rattle.tydi_base.specs.Name.{is_name}
+use Rattle.physical_stream.specs.Params.{Parameters, AreInRange}
 use Rattle.physical_stream.specs.Signals.{has_content, has_last, has_stai, has_endi, has_strb, has_user}
 use Rattle.physical_stream.specs.Cycles.{Cycle}
 use Rattle.physical_stream.specs.declared.transfer.Transfer.{Transfer}
@@ -75,10 +76,16 @@ rows_text streams cycles = []
 abbrev pub trace_text : TraceText → List ℕ
 trace_text t = header_text t.cycles t.heads ++ rows_text (owed (params_of_heads t.heads) t.cycles) t.rows
 
+-- a head that a stream may have: names in its path, and parameters in their ranges. Each value of the type `Head` is one.
+pub record IsHead (head : Head) : Type 0 where
+  pub names : All (λ name. IsTrue (is_name name)) head.path
+  pub level : IsLevel head.params.level
+  pub range : AreInRange head.params.lanes head.params.dims head.params.element head.params.user
+
 -- what spells a trace is read as that trace
 abbrev pub TracesAreReadAsSpelled : Type 0
-TracesAreReadAsSpelled = (t : TraceText) → IsTrace t → trace_of (trace_text t) ≡ Ok t
+TracesAreReadAsSpelled = (t : TraceText) → IsTrace t → All IsHead t.heads → trace_of (trace_text t) ≡ Ok t
 
 -- what is read as a trace is the one text of it
 abbrev pub TracesAreSpelledAsRead : Type 0
-TracesAreSpelledAsRead = (text : List ℕ) (t : TraceText) → trace_of text ≡ Ok t → IsTrace t × (text ≡ trace_text t)
+TracesAreSpelledAsRead = (text : List ℕ) (t : TraceText) → trace_of text ≡ Ok t → IsTrace t × (text ≡ trace_text t) × All IsHead t.heads

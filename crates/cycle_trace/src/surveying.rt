@@ -1,8 +1,10 @@
 //! The survey of a trace: a checker for each stream, which is shown the rows in their order.
 
-ghost use Rattle.std.specs.Prelude.{◌≡◌, ◌<◌, ◌≤◌, [], ◌+◌, length, map, slice_get, IfOk, Some, None, Ok, Err};
+ghost use Rattle.std.specs.Prelude.{◌≡◌, ◌<◌, ◌≤◌, [], ◌+◌, length, map, slice_get, IfOk, MatchOption, Result, Some, None, Ok, Err};
 ghost use Rattle.physical_stream.specs.First.{Offends, IsFirst};
 ghost use Rattle.cycle_trace.specs.Survey.{Answers, counts_of, first_unfinished};
+ghost use Rattle.cycle_trace.specs.declared.counts.Counts.{Counts};
+ghost use Rattle.cycle_trace.specs.declared.counts.SurveyFault.{SurveyFault};
 ghost use Rattle.cycle_trace.specs.Surveying.{AreAt, NoneBefore, RowSays, RowsSay};
 ghost use Rattle.cycle_trace.specs.Trace.{streams_of};
 ghost use Rattle.cycle_trace.specs.TraceView.{trace_view};
@@ -103,8 +105,36 @@ fn count(alloc: Global, checkers: &[Checker], trace: &Trace) -> Result<Counts, S
     requires legal { NoneBefore (trace_view trace.now) (trace_view trace.now).cycles 0 }
     ensures { Answers (streams_of (trace_view trace.now)) result }
 {
-    if let Some(fault) = unfinished(checkers) {
+    if let Some(fault) = unfinished(checkers, trace) {
         return Err(fault);
     }
-    counts_of(alloc, checkers)
+    Ok(counts_of(alloc, checkers, trace)?)
+}
+
+/// That a stream does not end whole, and which the first one is, where the checkers have seen all rows.
+fn unfinished(checkers: &[Checker], _trace: &Trace) -> Option<SurveyFault>
+    requires { AreAt (trace_view _trace.now) (trace_view _trace.now).cycles 0 checkers.now }
+    ensures { (found : Result Counts SurveyFault) → MatchOption result
+        (first_unfinished 0 (streams_of (trace_view _trace.now)) found ≡ found)
+        (λ fault. first_unfinished 0 (streams_of (trace_view _trace.now)) found ≡ Err fault) }
+{
+    for (stream, checker) in checkers.iter().enumerate() {
+        let end = checker.end();
+        if end != End::Whole {
+            return Some(SurveyFault::Unfinished { stream, end });
+        }
+    }
+    None
+}
+
+/// The transfers and the packets that each stream has done, where the checkers have seen all rows.
+fn counts_of(alloc: Global, checkers: &[Checker], _trace: &Trace) -> Result<Counts, Memory>
+    requires { AreAt (trace_view _trace.now) (trace_view _trace.now).cycles 0 checkers.now }
+    ensures { IfOk result (λ counts. counts ≡ counts_of (streams_of (trace_view _trace.now))) }
+{
+    let mut streams = List::new(alloc);
+    for checker in checkers {
+        streams.push((checker.transfers(), checker.packets()))?;
+    }
+    Ok(Counts { streams })
 }

@@ -1,0 +1,165 @@
+-- The stream lines of a trace text: what is spelled is read, and what is read is spelled so.
+use Rattle.std.proofs.Common.{◌≡◌, ℕ, suc, ◌+◌, ◌<◌, ◌≤◌, Bool, true, false, not, ◌&&◌, ◌||◌, List, [], ◌∷◌, ◌++◌, length, map, Result, Ok, Err, cond, append_assoc, All, refl, sym, ap, ◌∙◌, inl, inr, arith}
+use Rattle.std.specs.List.{list_all, list_any, flat_map, join_with_byte}
+use Rattle.std.specs.Str.{bytes_eq}
+use Rattle.std.proofs.lemmas.List.Elements.{All-nil, All-cons, All-head, All-tail}
+use Rattle.std.proofs.lemmas.Slice.Eq.{bytes_eq-Decides}
+use Rattle.tydi_base.specs.Path.{path_text}
+use Rattle.tydi_base.specs.Pieces.{lines_of}
+use Rattle.tydi_base.specs.Reading.{◌>>=◌}
+use Rattle.tydi_base.proofs.ReadingLaws.{bind_ok, chosen, ok_is}
+use Rattle.physical_stream.specs.declared.head.Head.{Head}
+use Rattle.cycle_trace.specs.declared.fault.TraceFault.{TraceFault}
+use Rattle.cycle_trace.specs.declared.fault.TraceFault.TheVariants.{BadHeader}
+use Rattle.cycle_trace.specs.HeaderText.{is_head_line, in_header, head_after, heads_from}
+use Rattle.cycle_trace.specs.Spelling.{IsHead, head_words, head_text, words_text}
+use Rattle.cycle_trace.specs.Trace.{all_distinct}
+use Rattle.cycle_trace.proofs.PlainWords.{and_parts, both, lines_of-plain}
+use Rattle.cycle_trace.proofs.HeadSpelling.{head_words-plain, head_after-spelled, head_after-some}
+use Rattle.cycle_trace.proofs.RowsSpelling.{some_line}
+
+-- the texts of the paths
+abbrev pub paths_of : List Head → List (List ℕ)
+paths_of heads = map (λ head. path_text head.path) heads
+
+-- ---- texts that are not among others
+
+-- none of the texts is one of these
+abbrev pub are_new : List (List ℕ) → List (List ℕ) → Bool
+are_new known texts = list_all (λ text. not (list_any (bytes_eq text) known)) texts
+
+pub are_new-none : (texts : List (List ℕ)) → are_new [] texts ≡ true
+are_new-none [] = refl
+are_new-none (text ∷ texts) = are_new-none texts
+
+same_test : (a b : List ℕ) (one other : Bool) → bytes_eq a b ≡ one → bytes_eq b a ≡ other → one ≡ other
+same_test a b true true e f = refl
+same_test a b false false e f = refl
+same_test a b true false e f = sym ((bytes_eq-Decides b a).1 (sym ((bytes_eq-Decides a b).0 e))) ∙ f
+same_test a b false true e f = sym e ∙ (bytes_eq-Decides a b).1 (sym ((bytes_eq-Decides b a).0 f))
+
+bytes_eq-swap : (a b : List ℕ) → bytes_eq a b ≡ bytes_eq b a
+bytes_eq-swap a b = same_test a b (bytes_eq a b) (bytes_eq b a) refl refl
+
+four_tests : (x u y v : Bool) → (not (x || u) && (not y && v)) ≡ (not (x || y) && (not u && v))
+four_tests true u y v = refl
+four_tests false true true v = refl
+four_tests false true false v = refl
+four_tests false false true v = refl
+four_tests false false false v = refl
+
+-- one text more
+are_new-more : (known : List (List ℕ)) (path : List ℕ) (texts : List (List ℕ)) → are_new (path ∷ known) texts ≡ (not (list_any (bytes_eq path) texts) && are_new known texts)
+are_new-more known path [] = refl
+are_new-more known path (text ∷ texts) =
+    rw (bytes_eq-swap text path, are_new-more known path texts)
+    (four_tests (bytes_eq path text) (list_any (bytes_eq text) known) (list_any (bytes_eq path) texts) (are_new known texts))
+
+-- ---- a line and the lines after it
+
+heads_from-cons : (number : ℕ) (paths : List (List ℕ)) (line : List ℕ) (lines : List (List ℕ)) → 0 < length lines
+    → heads_from number paths (line ∷ lines)
+    ≡ cond (is_head_line line) (in_header number (head_after paths line) >>= λ head. heads_from (suc number) (path_text head.path ∷ paths) lines >>= λ rest. Ok (head ∷ rest.0, rest.1)) (Ok ([], line ∷ lines))
+heads_from-cons number paths line [] some = absurd (omega arith)
+heads_from-cons number paths line (next ∷ lines) some = refl
+
+-- a line that is no stream line ends the heads
+pub heads_from-end : (number : ℕ) (paths : List (List ℕ)) (line : List ℕ) (lines : List (List ℕ)) → 0 < length lines → is_head_line line ≡ false → heads_from number paths (line ∷ lines) ≡ Ok ([], line ∷ lines)
+heads_from-end number paths line lines some other = heads_from-cons number paths line lines some ∙ rw other refl
+
+pub in_header-some : {A : Type 0} (number : ℕ) (read : Result A (Unit {0})) (x : A) → in_header number read ≡ Ok x → read ≡ Ok x
+in_header-some number (Ok y) x e = ap Ok (ok_is y x e)
+in_header-some number (Err d) x e = absurd cc
+
+-- ---- all stream lines
+
+-- heads that stand after stream lines of these paths
+pub record MayFollow (paths : List (List ℕ)) (heads : List Head) : Type 0 where
+  pub each : All IsHead heads
+  pub room : length paths + length heads ≤ 65536
+  pub distinct : all_distinct (paths_of heads) ≡ true
+  pub new : are_new paths (paths_of heads) ≡ true
+
+MayFollow-rest : (paths : List (List ℕ)) (head : Head) (heads : List Head) → MayFollow paths (head ∷ heads) → MayFollow (path_text head.path ∷ paths) heads
+MayFollow-rest paths head heads h =
+    let path = path_text head.path in
+    let apart = and_parts (not (list_any (bytes_eq path) (paths_of heads))) (all_distinct (paths_of heads)) h.distinct in
+    let new = and_parts (not (list_any (bytes_eq path) paths)) (are_new paths (paths_of heads)) h.new in
+    let room = h.room in
+    record {
+      each = All-tail IsHead head heads h.each;
+      room = omega arith;
+      distinct = apart.1;
+      new = are_new-more paths path (paths_of heads) ∙ both (not (list_any (bytes_eq path) (paths_of heads))) (are_new paths (paths_of heads)) apart.0 new.1;
+    }
+
+MayFollow-more : (paths : List (List ℕ)) (head : Head) (heads : List Head) → IsHead head → not (list_any (bytes_eq (path_text head.path)) paths) ≡ true → MayFollow (path_text head.path ∷ paths) heads → MayFollow paths (head ∷ heads)
+MayFollow-more paths head heads first other h =
+    let path = path_text head.path in
+    let parts = and_parts (not (list_any (bytes_eq path) (paths_of heads))) (are_new paths (paths_of heads)) (sym (are_new-more paths path (paths_of heads)) ∙ h.new) in
+    let room = h.room in
+    record {
+      each = All-cons IsHead head heads first h.each;
+      room = omega arith;
+      distinct = both (not (list_any (bytes_eq path) (paths_of heads))) (all_distinct (paths_of heads)) parts.0 h.distinct;
+      new = both (not (list_any (bytes_eq path) paths)) (are_new paths (paths_of heads)) other parts.1;
+    }
+
+line_then : (a b c : List ℕ) → ((a ++ 10 ∷ []) ++ b) ++ c ≡ a ++ 10 ∷ (b ++ c)
+line_then a b c = append_assoc (a ++ 10 ∷ []) b c ∙ append_assoc a (10 ∷ []) (b ++ c)
+
+-- what follows holds no stream line
+abbrev pub EndsHeads : List ℕ → Type 0
+EndsHeads rest = (number : ℕ) (paths : List (List ℕ)) → heads_from number paths (lines_of rest) ≡ Ok ([], lines_of rest)
+
+pub heads_from-spelled : (number : ℕ) (paths : List (List ℕ)) (heads : List Head) (rest : List ℕ) → MayFollow paths heads → EndsHeads rest
+    → heads_from number paths (lines_of (flat_map head_text heads ++ rest)) ≡ Ok (heads, lines_of rest)
+heads_from-spelled number paths [] rest may end = end number paths
+heads_from-spelled number paths (head ∷ heads) rest may end =
+    let line = words_text (head_words head) in
+    let after = flat_map head_text heads ++ rest in
+    let first = All-head IsHead head heads may.each in
+    let new = and_parts (not (list_any (bytes_eq (path_text head.path)) paths)) (are_new paths (paths_of heads)) may.new in
+    let room = may.room in
+    let later = heads_from-spelled (suc number) (path_text head.path ∷ paths) heads rest (MayFollow-rest paths head heads may) end in
+    ap (λ (text : List ℕ). heads_from number paths (lines_of text)) (line_then line (flat_map head_text heads) rest)
+    ∙ ap (heads_from number paths) (lines_of-plain (head_words head) after (head_words-plain head first))
+    ∙ heads_from-cons number paths line (lines_of after) (some_line after)
+    ∙ rw (head_after-spelled paths head first (omega arith) new.0, later) refl
+
+-- what was read of the lines of heads
+pub record HeadsRead (paths lines : List (List ℕ)) (x : List Head × List (List ℕ)) : Type 0 where
+  pub spelled : join_with_byte 10 lines ≡ flat_map head_text x.0 ++ join_with_byte 10 x.1
+  pub some : 0 < length x.1
+  pub may : MayFollow paths x.0
+
+no_heads : (paths lines : List (List ℕ)) (x : List Head × List (List ℕ)) → length paths ≤ 65536 → 0 < length lines → ◌≡◌ {A = Result (List Head × List (List ℕ)) TraceFault} (Ok ([], lines)) (Ok x) → HeadsRead paths lines x
+no_heads paths lines x few some e =
+    let same = ok_is {A = List Head × List (List ℕ)} {F = TraceFault} ([], lines) x e in
+    rw (← same) (record { spelled = refl; some = some; may = record { each = All-nil IsHead; room = omega arith; distinct = refl; new = refl } })
+
+joined : (a b c d e : List ℕ) → a ≡ b → c ≡ d ++ e → a ++ 10 ∷ c ≡ ((b ++ 10 ∷ []) ++ d) ++ e
+joined a b c d e p q = rw (p, q) (sym (line_then b d e))
+
+pub heads_from-some : (number : ℕ) (paths lines : List (List ℕ)) (x : List Head × List (List ℕ)) → length paths ≤ 65536 → 0 < length lines → heads_from number paths lines ≡ Ok x → HeadsRead paths lines x
+heads_from-some number paths [] x few some e = absurd (omega arith)
+heads_from-some number paths (last ∷ []) x few some e = elim (chosen (is_head_line last) (Err (BadHeader number)) (Ok ([], last ∷ [])) (Ok x) e) [
+  | inl h ↦ absurd (cc (h.1))
+  | inr h ↦ no_heads paths (last ∷ []) x few some h.1
+]
+heads_from-some number paths (line ∷ next ∷ lines) x few some e = elim (chosen (is_head_line line)
+    (in_header number (head_after paths line) >>= λ head. heads_from (suc number) (path_text head.path ∷ paths) (next ∷ lines) >>= λ rest. Ok (head ∷ rest.0, rest.1)) (Ok ([], line ∷ next ∷ lines)) (Ok x) e) [
+      | inl h ↦ (
+          let head = bind_ok (in_header number (head_after paths line)) _ x h.1 in
+          let first = head_after-some paths line head.0 (in_header-some number (head_after paths line) head.0 head.1) in
+          let rest = bind_ok (heads_from (suc number) (path_text head.0.path ∷ paths) (next ∷ lines)) _ x head.2 in
+          let room = first.room in
+          let later = heads_from-some (suc number) (path_text head.0.path ∷ paths) (next ∷ lines) rest.0 (omega arith) (omega arith) rest.1 in
+          let same = ok_is {A = List Head × List (List ℕ)} {F = TraceFault} (head.0 ∷ rest.0.0, rest.0.1) x rest.2 in
+          rw (← same) (record {
+            spelled = joined line (words_text (head_words head.0)) (join_with_byte 10 (next ∷ lines)) (flat_map head_text rest.0.0) (join_with_byte 10 rest.0.1) first.read.spelled later.spelled;
+            some = later.some;
+            may = MayFollow-more paths head.0 rest.0.0 first.read.is_head first.new later.may;
+          }))
+      | inr h ↦ no_heads paths (line ∷ next ∷ lines) x few some h.1
+    ]

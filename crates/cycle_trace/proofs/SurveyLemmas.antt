@@ -1,0 +1,2 @@
+-- The rows of a trace, stream by stream.
+use Rattle.std.proofs.Common.{◌≡◌, ℕ}

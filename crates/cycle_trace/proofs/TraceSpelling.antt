@@ -1,0 +1,213 @@
+-- The text of a trace: what is spelled is read, and what is read is spelled so.
+use Rattle.std.proofs.Common.{◌≡◌, ℕ, ◌+◌, ◌*◌, ◌^◌, ◌<◌, ◌≤◌, Bool, true, false, ◌&&◌, nat_le, nat_eq, List, [], ◌∷◌, ◌++◌, length, drop, Result, Ok, Err, append_assoc, All, refl, sym, ap, ◌∙◌, inl, inr, arith}
+use Rattle.std.specs.Prelude.{codes}
+use Rattle.std.specs.Fmt.{decimal}
+use Rattle.std.specs.List.{flat_map, join_with_byte, starts_with}
+use Rattle.std.specs.Option.{is_some}
+use Rattle.std.specs.Str.{bytes_eq}
+use Rattle.std.proofs.lemmas.Bool.Decides.{nat_tests, Decides-eqb}
+use Rattle.std.proofs.lemmas.List.Elements.{All-head, All-tail}
+use Rattle.std.proofs.lemmas.Slice.Eq.{bytes_eq-Decides, starts_is}
+use Rattle.tydi_base.specs.Pieces.{lines_of}
+use Rattle.tydi_base.specs.Reading.{◌>>=◌}
+use Rattle.tydi_base.proofs.PieceLaws.{join-pieces_of}
+use Rattle.tydi_base.proofs.ReadingLaws.{bind_ok, chosen, ok_is}
+use Rattle.physical_stream.specs.Params.{Parameters}
+use Rattle.physical_stream.specs.Cycles.{Cycle}
+use Rattle.physical_stream.specs.declared.head.Head.{Head}
+use Rattle.cycle_trace.specs.declared.fault.TraceFault.{TraceFault}
+use Rattle.cycle_trace.specs.declared.fault.TraceFault.TheVariants.{TooManyCycles}
+use Rattle.cycle_trace.specs.HeaderText.{header_number, is_head_line, in_header, heads_from, count_of_cycles, Opening, title_of, opening_after, opening_of}
+use Rattle.cycle_trace.specs.Spelling.{IsHead, head_text, header_text, bit_text, row_line, rows_text, TracesAreReadAsSpelled, TracesAreSpelledAsRead}
+use Rattle.cycle_trace.specs.Trace.{TraceText, AreShown, all_distinct, are_heads, most_cycles, params_of_heads, owed}
+use Rattle.cycle_trace.specs.TraceText.{rows_after, trace_from, trace_of}
+use Rattle.cycle_trace.proofs.PlainWords.{and_parts, both, decimal-plain, lines_of-plain}
+use Rattle.cycle_trace.proofs.RowsSpelling.{have_lanes, have_lanes-first, have_lanes-owed, some_line, rows_text-lines, AreShown-first, rows_from-spelled, rows_from-some}
+use Rattle.cycle_trace.proofs.HeadSpelling.{header_number-spelled, header_number-some}
+use Rattle.cycle_trace.proofs.HeadsSpelling.{paths_of, are_new-none, in_header-some, heads_from-end, EndsHeads, MayFollow, heads_from-spelled, heads_from-some}
+
+-- ---- rows are no stream lines
+
+row_line-is_no_head : (valid : Bool) (rest : List ℕ) → is_head_line (bit_text valid ++ 32 ∷ rest) ≡ false
+row_line-is_no_head true rest = refl
+row_line-is_no_head false rest = refl
+
+rows_text-ends_heads : (streams : List Parameters) (cycles : List Cycle) → have_lanes streams ≡ true → AreShown streams cycles → EndsHeads (rows_text streams cycles)
+rows_text-ends_heads [] cycles lanes shown number paths = refl
+rows_text-ends_heads (p ∷ streams) [] lanes shown number paths = refl
+rows_text-ends_heads (p ∷ streams) (cycle ∷ cycles) lanes shown number paths =
+    let lines = lines_of (rows_text streams cycles) in
+    let few = have_lanes-first p streams lanes in
+    let split = rows_text-lines p streams cycle cycles few (AreShown-first p streams cycle cycles shown) in
+    rw split (heads_from-end number paths (row_line p cycle) lines (some_line (rows_text streams cycles)) (row_line-is_no_head (is_some cycle.shown) _))
+
+-- ---- the opening
+
+count_of_cycles-spelled : (cycles : ℕ) → cycles < 10 ^ 10 → count_of_cycles (codes "cycles " ++ decimal cycles) ≡ Ok cycles
+unfolding count_of_cycles
+count_of_cycles-spelled cycles below = header_number-spelled cycles below
+
+count_of_cycles-some : (line : List ℕ) (cycles : ℕ) → count_of_cycles line ≡ Ok cycles → line ≡ codes "cycles " ++ decimal cycles
+unfolding count_of_cycles
+count_of_cycles-some line cycles e = elim (chosen (starts_with nat_eq line (codes "cycles ")) (header_number (drop 7 line)) (Err tt) (Ok cycles) e) [
+  | inl h ↦ (starts_is Decides-eqb line (codes "cycles ") (starts_with nat_eq line (codes "cycles ")) refl).0 h.0 ∙ ap (λ (digits : List ℕ). codes "cycles " ++ digits) (header_number-some (drop 7 line) cycles h.1)
+  | inr h ↦ absurd (cc (h.1))
+]
+
+title_of-some : (line : List ℕ) (fine : Unit {0}) → title_of line ≡ Ok fine → line ≡ codes "tydi-trace 1"
+unfolding title_of
+title_of-some line fine e = elim (chosen (bytes_eq line (codes "tydi-trace 1")) (Ok tt) (Err tt) (Ok fine) e) [
+  | inl h ↦ (bytes_eq-Decides line (codes "tydi-trace 1")).0 h.0
+  | inr h ↦ absurd (cc (h.1))
+]
+
+opening_of-cons : (lines : List (List ℕ)) (cycles : ℕ) (found : List Head × List (List ℕ)) → cycles < 10 ^ 10 → 0 < length lines → heads_from 3 [] lines ≡ Ok found
+    → opening_of (codes "tydi-trace 1" ∷ (codes "cycles " ++ decimal cycles) ∷ lines) ≡ Ok (record { cycles = cycles; heads = found.0; lines = found.1 })
+unfolding opening_of opening_after title_of
+opening_of-cons [] cycles found below some e = absurd (omega arith)
+opening_of-cons (next ∷ lines) cycles found below some e = rw (count_of_cycles-spelled cycles below, e) refl
+
+-- what was read of the lines of an opening
+record OpeningRead (lines : List (List ℕ)) (opening : Opening) : Type 0 where
+  spelled : join_with_byte 10 lines ≡ header_text opening.cycles opening.heads ++ join_with_byte 10 opening.lines
+  some : 0 < length opening.lines
+  may : MayFollow [] opening.heads
+
+joined : (title line : List ℕ) (lines rest : List (List ℕ)) (cycles : ℕ) (heads : List Head) → title ≡ codes "tydi-trace 1" → line ≡ codes "cycles " ++ decimal cycles
+    → join_with_byte 10 lines ≡ flat_map head_text heads ++ join_with_byte 10 rest
+    → title ++ 10 ∷ (line ++ 10 ∷ join_with_byte 10 lines) ≡ header_text cycles heads ++ join_with_byte 10 rest
+joined title line lines rest cycles heads p q r = rw (p, q, r, append_assoc (decimal cycles) (10 ∷ flat_map head_text heads) (join_with_byte 10 rest)) refl
+
+opening_of-some : (lines : List (List ℕ)) (opening : Opening) → opening_of lines ≡ Ok opening → OpeningRead lines opening
+unfolding opening_of opening_after
+opening_of-some [] opening e = absurd cc
+opening_of-some (title ∷ []) opening e = absurd cc
+opening_of-some (title ∷ line ∷ []) opening e =
+    let fine = bind_ok (in_header 1 (title_of title)) _ opening e in
+    absurd (cc (fine.2))
+opening_of-some (title ∷ line ∷ next ∷ lines) opening e =
+    let fine = bind_ok (in_header 1 (title_of title)) _ opening e in
+    let cycles = bind_ok (in_header 2 (count_of_cycles line)) _ opening fine.2 in
+    let found = bind_ok (heads_from 3 [] (next ∷ lines)) _ opening cycles.2 in
+    let same = ok_is (record { cycles = cycles.0; heads = found.0.0; lines = found.0.1 }) opening found.2 in
+    let heads = heads_from-some 3 [] (next ∷ lines) found.0 (omega arith) (omega arith) found.1 in
+    rw (← same) (record {
+      spelled = joined title line (next ∷ lines) found.0.1 cycles.0 found.0.0 (title_of-some title fine.0 (in_header-some 1 (title_of title) fine.0 fine.1))
+          (count_of_cycles-some line cycles.0 (in_header-some 2 (count_of_cycles line) cycles.0 cycles.1)) heads.spelled;
+      some = heads.some;
+      may = heads.may;
+    })
+
+-- ---- the trace
+
+lanes_of_head : (head : Head) → IsHead head → (nat_le 1 head.params.lanes && nat_le head.params.lanes 128) ≡ true
+lanes_of_head head h =
+    let r = h.range in
+    let some : nat_le 1 head.params.lanes ≡ true = grind (arith, nat_tests) in
+    let few : nat_le head.params.lanes 128 ≡ true = grind (arith, nat_tests) in
+    rw (some, few) refl
+
+heads-lanes : (heads : List Head) → All IsHead heads → have_lanes (params_of_heads heads) ≡ true
+heads-lanes [] each = refl
+heads-lanes (head ∷ heads) each =
+    both (nat_le 1 head.params.lanes && nat_le head.params.lanes 128) (have_lanes (params_of_heads heads)) (lanes_of_head head (All-head IsHead head heads each)) (heads-lanes heads (All-tail IsHead head heads each))
+
+are_heads-to : (heads : List Head) → All IsHead heads → are_heads heads ≡ true → MayFollow [] heads
+are_heads-to heads each e =
+    let parts = and_parts (nat_le (length heads) 65536) (all_distinct (paths_of heads)) e in
+    let few = parts.0 in
+    let room : length heads ≤ 65536 = grind (arith, nat_tests) in
+    record { each = each; room = omega arith; distinct = parts.1; new = are_new-none (paths_of heads) }
+
+are_heads-from : (heads : List Head) → MayFollow [] heads → are_heads heads ≡ true
+are_heads-from heads h =
+    let room = h.room in
+    let few : length heads ≤ 65536 = omega arith in
+    both (nat_le (length heads) 65536) (all_distinct (paths_of heads)) (grind (arith, nat_tests)) h.distinct
+
+title_line : (rest : List ℕ) → lines_of (codes "tydi-trace 1" ++ 10 ∷ rest) ≡ codes "tydi-trace 1" ∷ lines_of rest
+title_line rest = lines_of-plain (codes "tydi-trace" ∷ codes "1" ∷ []) rest refl
+
+cycles_line : (cycles : ℕ) (rest : List ℕ) → cycles < 2 ^ 64 → lines_of ((codes "cycles " ++ decimal cycles) ++ 10 ∷ rest) ≡ (codes "cycles " ++ decimal cycles) ∷ lines_of rest
+cycles_line cycles rest below = lines_of-plain (codes "cycles" ∷ decimal cycles ∷ []) rest (rw (decimal-plain cycles below) refl)
+
+header_lines : (cycles : ℕ) (heads : List Head) (rest : List ℕ) → cycles < 2 ^ 64
+    → lines_of (header_text cycles heads ++ rest) ≡ codes "tydi-trace 1" ∷ (codes "cycles " ++ decimal cycles) ∷ lines_of (flat_map head_text heads ++ rest)
+header_lines cycles heads rest below =
+    let after = flat_map head_text heads ++ rest in
+    ap (λ (text : List ℕ). lines_of (codes "tydi-trace 1" ++ 10 ∷ (codes "cycles " ++ text))) (append_assoc (decimal cycles) (10 ∷ flat_map head_text heads) rest)
+    ∙ title_line ((codes "cycles " ++ decimal cycles) ++ 10 ∷ after)
+    ∙ ap (λ (lines : List (List ℕ)). codes "tydi-trace 1" ∷ lines) (cycles_line cycles after below)
+
+trace_from-spelled : (t : TraceText) (lines : List (List ℕ)) → t.cycles ≤ most_cycles → rows_after t.cycles t.heads lines ≡ Ok t.rows
+    → trace_from (record { cycles = t.cycles; heads = t.heads; lines = lines }) ≡ Ok t
+unfolding trace_from
+trace_from-spelled t lines few rows =
+    let test : nat_le t.cycles most_cycles ≡ true = grind (arith, nat_tests) in
+    rw (test, rows) refl
+
+pub trace_of-spelled : TracesAreReadAsSpelled
+unfolding trace_of
+trace_of-spelled t h each =
+    let few = h.few_cycles in
+    let streams = owed (params_of_heads t.heads) t.cycles in
+    let rows = rows_text streams t.rows in
+    let lanes = have_lanes-owed (params_of_heads t.heads) t.cycles (heads-lanes t.heads each) in
+    let heads = heads_from-spelled 3 [] t.heads rows (are_heads-to t.heads each h.streams) (rows_text-ends_heads streams t.rows lanes h.shown) in
+    let after = flat_map head_text t.heads ++ rows in
+    let opening = opening_of-cons (lines_of after) t.cycles (t.heads, lines_of rows) (omega arith) (some_line after) heads in
+    let read = rows_from-spelled (t.cycles * length t.heads) 0 (3 + length t.heads) streams t.rows lanes h.shown in
+    ap (λ (lines : List (List ℕ)). opening_of lines >>= trace_from) (header_lines t.cycles t.heads rows (omega arith))
+    ∙ ap (λ (read : Result Opening TraceFault). read >>= trace_from) opening
+    ∙ trace_from-spelled t (lines_of rows) few read
+
+-- what was read after an opening
+record FromRead (opening : Opening) (t : TraceText) : Type 0 where
+  few : opening.cycles ≤ most_cycles
+  rows : rows_after opening.cycles opening.heads opening.lines ≡ Ok t.rows
+  cycles_are : opening.cycles ≡ t.cycles
+  heads_are : opening.heads ≡ t.heads
+
+trace_from-some : (opening : Opening) (t : TraceText) → trace_from opening ≡ Ok t → FromRead opening t
+unfolding trace_from
+trace_from-some opening t e = elim (chosen (nat_le opening.cycles most_cycles)
+    (rows_after opening.cycles opening.heads opening.lines >>= λ rows. Ok (record { cycles = opening.cycles; heads = opening.heads; rows = rows })) (Err TooManyCycles) (Ok t) e) [
+      | inl h ↦ (
+          let test = h.0 in
+          let rows = bind_ok (rows_after opening.cycles opening.heads opening.lines) _ t h.1 in
+          let same = ok_is (record { cycles = opening.cycles; heads = opening.heads; rows = rows.0 }) t rows.2 in
+          rw (← same) (record { few = grind (arith, nat_tests); rows = rows.1; cycles_are = refl; heads_are = refl }))
+      | inr h ↦ absurd (cc (h.1))
+    ]
+
+-- what a text reads as
+record TraceRead (text : List ℕ) (cycles : ℕ) (heads : List Head) (rows : List Cycle) : Type 0 where
+  spelled : text ≡ header_text cycles heads ++ rows_text (owed (params_of_heads heads) cycles) rows
+  shown : AreShown (owed (params_of_heads heads) cycles) rows
+
+rows_after-some : (opening : Opening) (text : List ℕ) (rows : List Cycle) → OpeningRead (lines_of text) opening → rows_after opening.cycles opening.heads opening.lines ≡ Ok rows
+    → TraceRead text opening.cycles opening.heads rows
+rows_after-some opening text rows h e =
+    let streams = owed (params_of_heads opening.heads) opening.cycles in
+    let lanes = have_lanes-owed (params_of_heads opening.heads) opening.cycles (heads-lanes opening.heads h.may.each) in
+    let read = rows_from-some (opening.cycles * length opening.heads) 0 (3 + length opening.heads) streams opening.lines rows lanes h.some e in
+    record {
+      spelled = sym (join-pieces_of 10 text) ∙ h.spelled ∙ ap (λ (rest : List ℕ). header_text opening.cycles opening.heads ++ rest) read.spelled;
+      shown = read.shown;
+    }
+
+pub trace_of-some : TracesAreSpelledAsRead
+unfolding trace_of
+trace_of-some text t e =
+    let opening = bind_ok (opening_of (lines_of text)) trace_from t e in
+    let header = opening_of-some (lines_of text) opening.0 opening.1 in
+    let from = trace_from-some opening.0 t opening.2 in
+    let read = rows_after-some opening.0 text t.rows header from.rows in
+    let few = from.few in
+    let cycles_are = from.cycles_are in
+    let whole : TraceRead text t.cycles t.heads t.rows = rw (from.cycles_are, from.heads_are) at read in
+    let may : MayFollow [] t.heads = rw (from.heads_are) at (header.may) in (
+      record { few_cycles = omega arith; streams = are_heads-from t.heads may; shown = whole.shown },
+      whole.spelled,
+      may.each,
+    )
