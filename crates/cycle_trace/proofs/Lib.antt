@@ -13,6 +13,7 @@ pub mod ShownLemmas
 pub mod SignalSpelling
 pub mod StreamsLemmas
 pub mod SurveyLemmas
+pub mod SurveyRows
 pub mod TextSetLemmas
 pub mod TraceSpelling
 pub mod ViewLemmas
