@@ -1,4 +1,7 @@
-//! Traces of physical streams, cycle by cycle, and their text.
+//! Traces of physical streams, cycle by cycle, and their text. Its one contract of reading: `read` gives the trace that a text
+//! spells, or the text's first fault with its line, as the definitions in `specs/` say it, `TraceText` first; and `Trace::row`
+//! gives what a stream shows in a cycle. It stands on `physical_stream`, whose definitions say what a stream can show, and on
+//! `signal_layout`, which says how wide each signal is.
 #![tactic(auto)]
 
 mod fault;
@@ -10,6 +13,8 @@ mod row_layout;
 mod row_text;
 mod rows;
 mod rows_text;
+#[cfg(test)]
+mod tests;
 mod trace;
 mod words_left;
 

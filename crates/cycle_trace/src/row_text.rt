@@ -53,10 +53,13 @@ fn index_of(limit: u32, digits: &[u8]) -> Result<u16, Misspelling>
     if digits.len() > 5 {
         return Err(Misspelling::Unspelled);
     }
-    match read_decimal(digits) {
-        Some(n) if n < u64::from(limit) => Ok(n as u16),
-        _ => Err(Misspelling::Unspelled),
+    let Some(n) = read_decimal(digits) else {
+        return Err(Misspelling::Unspelled);
+    };
+    if n >= u64::from(limit) {
+        return Err(Misspelling::Unspelled);
     }
+    Ok(n as u16)
 }
 
 /// The number of a lane: its default where the signal is absent.
