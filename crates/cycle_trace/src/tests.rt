@@ -4,7 +4,8 @@ use std::alloc::Global;
 use std::test::Fail;
 
 // Two cycles of two streams, the second of which has no payload.
-const TWO_STREAMS: &str = "tydi-trace 1\ncycles 2\nstream a lanes 2 dims 1 level 8 element 4 user 0 forward\nstream b.c lanes 1 dims 0 level 1 element 0 user 0 reverse\n1 0 d=a5 l=2 s=0 e=1 b=3\n0 1 -\n0 1 -\n1 1 -\n";
+const TWO_STREAMS: &str =
+    "tydi-trace 1\ncycles 2\nstream a lanes 2 dims 1 level 8 element 4 user 0 forward\nstream b.c lanes 1 dims 0 level 1 element 0 user 0 reverse\n1 0 d=a5 l=2 s=0 e=1 b=3\n0 1 -\n0 1 -\n1 1 -\n";
 
 struct Case {
     text: &'static str,
