@@ -7,3 +7,4 @@ pub mod RowsLemmas
 pub mod FormLemmas
 pub mod ShownLemmas
 pub mod ViewLemmas
+pub mod IsTraceLemmas
