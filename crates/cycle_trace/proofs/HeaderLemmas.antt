@@ -23,7 +23,7 @@ use Rattle.cycle_trace.specs.declared.fault.TraceFault.TheVariants.{BadHeader}
 use Rattle.cycle_trace.specs.declared.fault.Misspelling.{Misspelling}
 use Rattle.cycle_trace.specs.declared.fault.Misspelling.TheVariants as misspellings
 use Rattle.cycle_trace.specs.Faults.{misspelling_in, header_fault}
-use Rattle.cycle_trace.specs.HeaderText.{Opening, header_number, head_of, head_after, is_head_line, in_header, heads_from, title_of, count_of_cycles, opening_after, opening_of}
+use Rattle.cycle_trace.specs.HeaderText.{header_number, head_of, head_after, is_head_line, in_header, heads_from, title_of, count_of_cycles, opening_after, opening_of}
 use Rattle.cycle_trace.specs.OpeningView.{opening_with}
 use Rattle.cycle_trace.specs.TextSet.{has_text, AddsText, HasTexts}
 use Rattle.cycle_trace.proofs.TextSetLemmas.{HasTexts-none, HasTexts-more}

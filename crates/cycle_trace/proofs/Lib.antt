@@ -2,6 +2,7 @@ pub mod FormLemmas
 pub mod HeadSpelling
 pub mod HeaderLemmas
 pub mod HeadsSpelling
+pub mod IsTraceLemmas
 pub mod LayoutLemmas
 pub mod PartsLemmas
 pub mod PlainWords

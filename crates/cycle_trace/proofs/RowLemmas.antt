@@ -1,9 +1,9 @@
 -- The rows of a trace text: the values of their signals.
-use Rattle.std.proofs.Common.{◌≡◌, ℕ, zero, suc, ◌+◌, ◌-◌, ◌*◌, ◌^◌, ◌<◌, ◌≤◌, Bool, true, false, nat_le, nat_lt, List, [], ◌∷◌, length, drop, if◌then◌else◌, Option, Some, None, Result, Ok, Err, refl, sym, ap, ◌∙◌, arith}
+use Rattle.std.proofs.Common.{◌≡◌, ℕ, ◌^◌, ◌<◌, ◌≤◌, Bool, true, false, nat_le, nat_lt, List, length, Option, Some, None, Ok, Err, refl, sym, ◌∙◌, arith}
 use Rattle.std.proofs.lemmas.Bool.Decides.{nat_tests}
 use Rattle.std.proofs.lemmas.List.{length-replicate}
 use Rattle.std.proofs.Math.ListN.{drop_of_length-le}
-use Rattle.tydi_base.specs.Reading.{◌>>=◌, or_fault, Gives}
+use Rattle.tydi_base.specs.Reading.{or_fault}
 use Rattle.tydi_base.specs.Bits.{zero_bits, number_of_bits}
 use Rattle.tydi_base.specs.Decimal.{decimal_of, below}
 use Rattle.tydi_base.specs.Hex.{word_at, no_ones}

@@ -1,9 +1,9 @@
 -- All rows of a trace text, read in their order.
-use Rattle.std.proofs.Common.{◌≡◌, ℕ, zero, suc, ◌+◌, ◌-◌, ◌*◌, ◌/◌, ◌%◌, ◌<◌, ◌≤◌, Bool, true, false, List, [], ◌∷◌, ◌++◌, length, map, get_or, drop, eqb, Option, Some, None, Result, Ok, Err, MatchOption, append_assoc, length-append, add-one, subst, refl, sym, ap, ◌∙◌, arith}
-use Rattle.std.proofs.Math.Nat.{suc-mul, zero-mul, zero-add, add-mul, mul-le-mul_right, lt_of_not-le, div-add-mod', mod-lt, add_assoc}
+use Rattle.std.proofs.Common.{◌≡◌, ℕ, zero, suc, ◌+◌, ◌*◌, ◌/◌, ◌%◌, ◌<◌, ◌≤◌, true, false, List, [], ◌∷◌, ◌++◌, length, map, get_or, drop, eqb, Option, Some, None, Result, Ok, Err, MatchOption, append_assoc, length-append, add-one, subst, refl, sym, ap, ◌∙◌, arith}
+use Rattle.std.proofs.Math.Nat.{suc-mul, zero-mul, add-mul, mul-le-mul_right, lt_of_not-le, div-add-mod', mod-lt}
 use Rattle.std.proofs.Math.Seq.{drop-cons}
 use Rattle.std.proofs.Math.ListN.{drop_of_length-le}
-use Rattle.std.specs.List.{join_with_byte, slice_get}
+use Rattle.std.specs.List.{join_with_byte}
 use Rattle.std.proofs.lemmas.Bool.Decides.{nat_tests}
 use Rattle.std.proofs.lemmas.List.{map-append, append-nil, get_or_append_left, get_or-append-add}
 use Rattle.std.proofs.Math.ListN.{get_or-map}
@@ -12,11 +12,10 @@ use Rattle.std.proofs.lemmas.List.Splits.{length-slice_split}
 use Rattle.tydi_base.specs.Reading.{◌>>=◌}
 use Rattle.tydi_base.specs.Pieces.{lines_of}
 use Rattle.tydi_base.proofs.PieceLaws.{join-pieces_of}
-use Rattle.tydi_base.proofs.ReadingLaws.{fails_then}
 use Rattle.physical_stream.specs.Params.{Parameters}
 use Rattle.physical_stream.specs.Cycles.{Cycle}
 use Rattle.cycle_trace.specs.declared.fault.TraceFault.{TraceFault}
-use Rattle.cycle_trace.specs.declared.fault.TraceFault.TheVariants.{BadRow, RowsMissing, RowsLeft}
+use Rattle.cycle_trace.specs.declared.fault.TraceFault.TheVariants.{RowsLeft}
 use Rattle.cycle_trace.specs.declared.own_row.OwnRow.{OwnRow}
 use Rattle.cycle_trace.specs.declared.row_layout.RowLayout.{RowLayout}
 use Rattle.cycle_trace.specs.Faults.{fault_in}
@@ -161,13 +160,13 @@ module _ (streams : List Parameters) (count cycles : ℕ) (text : List ℕ) (got
             let one_got : suc got ≡ got + 1 = omega arith in
             let one_number : suc (3 + count + got) ≡ 3 + count + (got + 1) = omega arith in
             let here : rows_from (cycles * count) got (3 + count + got) (drop got (owed streams cycles)) (lines_of rest)
-                ≡ with_front (cycle_of row ∷ []) (rows_from (cycles * count) (suc got) (suc (3 + count + got)) (drop (got + 1) (owed streams cycles)) (lines_of after)) = here_read ∙ rw read refl in
+            ≡ with_front (cycle_of row ∷ []) (rows_from (cycles * count) (suc got) (suc (3 + count + got)) (drop (got + 1) (owed streams cycles)) (lines_of after)) = here_read ∙ rw read refl in
             let joined : with_front (cycles_of rows ++ cycle_of row ∷ []) (rows_from (cycles * count) (suc got) (suc (3 + count + got)) (drop (got + 1) (owed streams cycles)) (lines_of after))
-                ≡ rows_from (cycles * count) 0 (3 + count) (owed streams cycles) (lines_of text) =
+            ≡ rows_from (cycles * count) 0 (3 + count) (owed streams cycles) (lines_of text) =
             sym (with_front-append (cycles_of rows) (cycle_of row ∷ []) (rows_from (cycles * count) (suc got) (suc (3 + count + got)) (drop (got + 1) (owed streams cycles)) (lines_of after)))
             ∙ ap (with_front (cycles_of rows)) (sym here) ∙ h.whole in
             let moved : with_front (cycles_of rows ++ cycle_of row ∷ []) (rows_from (cycles * count) (got + 1) (3 + count + (got + 1)) (drop (got + 1) (owed streams cycles)) (lines_of after))
-                ≡ rows_from (cycles * count) 0 (3 + count) (owed streams cycles) (lines_of text) =
+            ≡ rows_from (cycles * count) 0 (3 + count) (owed streams cycles) (lines_of text) =
             subst (λ (n : ℕ). with_front (cycles_of rows ++ cycle_of row ∷ []) (rows_from (cycles * count) (got + 1) n (drop (got + 1) (owed streams cycles)) (lines_of after)) ≡ rows_from (cycles * count) 0 (3 + count) (owed streams cycles) (lines_of text)) one_number
             (subst (λ (n : ℕ). with_front (cycles_of rows ++ cycle_of row ∷ []) (rows_from (cycles * count) n (suc (3 + count + got)) (drop (got + 1) (owed streams cycles)) (lines_of after)) ≡ rows_from (cycles * count) 0 (3 + count) (owed streams cycles) (lines_of text)) one_got joined) in
             record {

@@ -1,5 +1,5 @@
 -- What is read of the rows of a trace can be shown by their streams.
-use Rattle.std.proofs.Common.{◌≡◌, ℕ, zero, suc, ◌+◌, ◌-◌, ◌*◌, ◌^◌, ◌<◌, ◌≤◌, Bool, true, false, ◌&&◌, nat_le, nat_lt, List, [], ◌∷◌, length, map, Option, Some, None, IfSome, Result, Ok, Err, if◌then◌else◌, refl, sym, ap, ◌∙◌, inl, inr, arith}
+use Rattle.std.proofs.Common.{◌≡◌, ℕ, zero, suc, ◌+◌, ◌-◌, ◌*◌, ◌^◌, ◌<◌, Bool, true, false, nat_le, nat_lt, List, [], ◌∷◌, length, Option, Some, None, IfSome, Result, Ok, Err, if◌then◌else◌, refl, ap, ◌∙◌, inl, inr, arith}
 use Rattle.std.specs.List.{slice_get}
 use Rattle.std.proofs.lemmas.Bool.Decides.{nat_tests}
 use Rattle.std.proofs.lemmas.Nat.{pow_pos}
@@ -37,8 +37,8 @@ below_of width n m e =
 index_of-below : (width : ℕ) (digits : List ℕ) (n : ℕ) → index_of width digits ≡ Ok n → n < 2 ^ width
 unfolding index_of
 index_of-below width digits n e = elim (chosen (nat_le (length digits) 5) (or_fault tt (decimal_of digits) >>= λ m. if nat_lt m (2 ^ width) then Ok m else Err tt) (Err tt) (Ok n) e) [
-  inl h ↦ let found = bind_ok (or_fault tt (decimal_of digits)) (λ m. if nat_lt m (2 ^ width) then Ok m else Err tt) n h.1 in below_of width found.0 n found.2 |
-  inr h ↦ absurd (cc (h.1))
+  | inl h ↦ let found = bind_ok (or_fault tt (decimal_of digits)) (λ m. if nat_lt m (2 ^ width) then Ok m else Err tt) n h.1 in below_of width found.0 n found.2
+  | inr h ↦ absurd (cc (h.1))
 ]
 
 index_field-below : (present : Bool) (key width default : ℕ) (words : List (List ℕ)) (x : ℕ × List (List ℕ)) → default < 2 ^ width → index_field present key width default words ≡ Ok x → x.0 < 2 ^ width
@@ -83,8 +83,9 @@ transfer_of-shows p words t e =
     let stai = bind_ok (index_field (has_stai p) 115 (index_width p.lanes) 0 last.0.1) _ t last.2 in
     let endi = bind_ok (index_field (has_endi p) 101 (index_width p.lanes) (p.lanes - 1) stai.0.1) _ t stai.2 in
     let strb = bind_ok (strobe_field (has_strb p) p.lanes endi.0.1) _ t endi.2 in
-    let user = bind_ok (word_field (has_user p) 117 p.user strb.0.1) _ t strb.2 in
-    let found : Transfer = record { content = content.0.0; last = last.0.0; stai = stai.0.0; endi = endi.0.0; strb = strb.0.0; user = user.0.0 } in
+    let made : List Bool → Transfer = λ user. record { content = content.0.0; last = last.0.0; stai = stai.0.0; endi = endi.0.0; strb = strb.0.0; user = user } in
+    let user = bind_ok (word_field (has_user p) 117 p.user strb.0.1) (λ (user : List Bool × List (List ℕ)). no_more user.1 >>= λ nothing. Ok (made user.0)) t strb.2 in
+    let found : Transfer = made user.0.0 in
     let nothing = bind_ok (no_more user.0.1) (λ nothing. Ok found) t user.2 in
     let same = ok_is found t nothing.2 in
     rw (← same) (record {

@@ -1,5 +1,5 @@
 -- Streams whose heads are read may stand together.
-use Rattle.std.proofs.Common.{◌≡◌, ℕ, suc, ◌+◌, ◌<◌, ◌≤◌, Bool, true, false, not, ◌&&◌, ◌||◌, if◌then◌else◌, List, [], ◌∷◌, length, map, Result, Ok, Err, nat_le, nat_lt, refl, sym, ap, ◌∙◌, inl, inr, arith}
+use Rattle.std.proofs.Common.{◌≡◌, ℕ, suc, ◌+◌, ◌<◌, ◌≤◌, Bool, true, false, not, ◌&&◌, ◌||◌, if◌then◌else◌, List, [], ◌∷◌, length, map, Result, Ok, Err, nat_le, nat_lt, refl, sym, ◌∙◌, inl, inr, arith}
 use Rattle.std.specs.List.{list_all, list_any}
 use Rattle.std.specs.Str.{bytes_eq}
 use Rattle.std.specs.Cmp.Lexicographic.{nat_list_eq_equiv}
@@ -8,10 +8,8 @@ use Rattle.tydi_base.specs.Reading.{◌>>=◌}
 use Rattle.tydi_base.specs.Path.{path_text}
 use Rattle.tydi_base.proofs.ReadingLaws.{bind_ok, chosen, ok_is}
 use Rattle.physical_stream.specs.declared.head.Head.{Head}
-use Rattle.cycle_trace.specs.declared.fault.TraceFault.{TraceFault}
 use Rattle.cycle_trace.specs.declared.fault.TraceFault.TheVariants.{BadHeader}
 use Rattle.cycle_trace.specs.HeaderText.{Opening, head_of, head_after, is_head_line, in_header, heads_from, title_of, count_of_cycles, opening_after, opening_of}
-use Rattle.cycle_trace.specs.OpeningView.{opening_with}
 use Rattle.cycle_trace.specs.Trace.{all_distinct, are_heads}
 use Rattle.cycle_trace.proofs.HeaderLemmas.{in_header-ok}
 
@@ -72,18 +70,18 @@ head_after-ok paths line head e =
 heads_from-follow : (number : ℕ) (paths lines : List (List ℕ)) (found : List Head × List (List ℕ)) → length paths ≤ 65536 → heads_from number paths lines ≡ Ok found → Follow paths found.0
 heads_from-follow number paths [] found few e = let same = ok_is ([], []) found e in rw (← same) (Follow-none paths few)
 heads_from-follow number paths (last ∷ []) found few e = elim (chosen (is_head_line last) (Err (BadHeader number)) (Ok ([], last ∷ [])) (Ok found) e) [
-  inl h ↦ absurd (cc (h.1)) |
-  inr h ↦ let same = ok_is ([], last ∷ []) found h.1 in rw (← same) (Follow-none paths few)
+  | inl h ↦ absurd (cc (h.1))
+  | inr h ↦ let same = ok_is ([], last ∷ []) found h.1 in rw (← same) (Follow-none paths few)
 ]
 heads_from-follow number paths (line ∷ next ∷ lines) found few e =
     elim (chosen (is_head_line line) (in_header number (head_after paths line) >>= λ head. heads_from (suc number) (path_text head.path ∷ paths) (next ∷ lines) >>= λ rest. Ok (head ∷ rest.0, rest.1)) (Ok ([], line ∷ next ∷ lines)) (Ok found) e) [
-      inl h ↦
-        let first = bind_ok (in_header number (head_after paths line)) _ found h.1 in
-        let rest = bind_ok (heads_from (suc number) (path_text first.0.path ∷ paths) (next ∷ lines)) _ found first.2 in
-        let same = ok_is (first.0 ∷ rest.0.0, rest.0.1) found rest.2 in
-        let stood = head_after-ok paths line first.0 (in_header-ok number (head_after paths line) first.0 first.1) in
-        rw (← same) (Follow-more paths first.0 rest.0.0 stood.1 (heads_from-follow (suc number) (path_text first.0.path ∷ paths) (next ∷ lines) rest.0 stood.0 rest.1)) |
-      inr h ↦ let same = ok_is ([], line ∷ next ∷ lines) found h.1 in rw (← same) (Follow-none paths few)
+      | inl h ↦
+          let first = bind_ok (in_header number (head_after paths line)) _ found h.1 in
+          let rest = bind_ok (heads_from (suc number) (path_text first.0.path ∷ paths) (next ∷ lines)) _ found first.2 in
+          let same = ok_is (first.0 ∷ rest.0.0, rest.0.1) found rest.2 in
+          let stood = head_after-ok paths line first.0 (in_header-ok number (head_after paths line) first.0 first.1) in
+          rw (← same) (Follow-more paths first.0 rest.0.0 stood.1 (heads_from-follow (suc number) (path_text first.0.path ∷ paths) (next ∷ lines) rest.0 stood.0 rest.1))
+      | inr h ↦ let same = ok_is ([], line ∷ next ∷ lines) found h.1 in rw (← same) (Follow-none paths few)
     ]
 
 pub heads_from-are_heads : (number : ℕ) (lines : List (List ℕ)) (found : List Head × List (List ℕ)) → heads_from number [] lines ≡ Ok found → are_heads found.0 ≡ true

@@ -1,20 +1,16 @@
 -- The rows of a trace, by their cycle and stream.
-use Rattle.std.proofs.Common.{◌≡◌, ℕ, ◌+◌, ◌*◌, ◌^◌, ◌<◌, ◌≤◌, Bool, true, false, ◌&&◌, nat_le, List, [], ◌∷◌, length, map, get_or, Option, Some, None, IfSome, refl, sym, ap, ◌∙◌, arith}
+use Rattle.std.proofs.Common.{◌≡◌, ℕ, ◌+◌, ◌*◌, ◌<◌, List, [], ◌∷◌, length, get_or, Option, Some, None, IfSome, refl, sym, ap, ◌∙◌, arith}
 use Rattle.std.specs.List.{slice_get}
 use Rattle.std.specs.Option.{option_map, option_to_list}
-use Rattle.std.proofs.Math.Nat.{mul-le-mul_right, suc-mul}
-use Rattle.std.proofs.lemmas.Bool.Decides.{nat_tests}
 use Rattle.std.proofs.lemmas.List.{length-map}
 use Rattle.std.proofs.lemmas.Nat.{mul-add-lt}
 use Rattle.std.proofs.lemmas.Option.{slice_get-get_or, slice_get-map, get_or_from_slice_get}
-use Rattle.physical_stream.specs.Params.{Parameters}
-use Rattle.physical_stream.specs.Cycles.{Cycle}
 use Rattle.physical_stream.specs.Signals.{Shows}
 use Rattle.physical_stream.specs.declared.head.Head.{Head}
 use Rattle.physical_stream.specs.declared.head.Header.{Header}
 use Rattle.physical_stream.specs.declared.transfer.Transfer.{Transfer}
 use Rattle.cycle_trace.specs.declared.own_row.OwnRow.{OwnRow}
-use Rattle.cycle_trace.specs.Trace.{TraceText, IsTrace, are_heads, all_distinct, cycle_of, cycles_of, owed, params_of_heads, row_in, text_of}
+use Rattle.cycle_trace.specs.Trace.{IsTrace, cycle_of, cycles_of, owed, params_of_heads, row_in, text_of}
 use Rattle.cycle_trace.specs.TraceView.{IsShownIn}
 use Rattle.cycle_trace.proofs.RowsLemmas.{length-owed, get_or-owed}
 

@@ -1,5 +1,8 @@
-//! Traces of physical streams, cycle by cycle: read from their text, written as their text, and surveyed by the complexity
-//! rules. Stands on the definitions of `physical_stream` and on the checker of `complexity_rules`.
+//! Traces of physical streams, cycle by cycle, and their text. `read` gives the trace that a text spells, or the text's first
+//! fault with its line; `write_header` and `write_row` write the one text of a trace; `survey` says of a trace which rule it
+//! breaks first, which stream does not end whole, or what each stream has done. It stands on `physical_stream`, whose
+//! definitions say what a stream can show, on `signal_layout`, which says how wide each signal is, and on the checker of
+//! `complexity_rules`.
 #![tactic(auto)]
 
 mod counts;
@@ -14,6 +17,8 @@ mod row_text;
 mod rows;
 mod rows_text;
 mod surveying;
+#[cfg(test)]
+mod tests;
 mod trace;
 mod words_left;
 mod writing;

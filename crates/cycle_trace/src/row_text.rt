@@ -40,8 +40,7 @@ fn word_field<'a>(
         return Ok((Bits::zeros(alloc, signal.width)?, words));
     }
     let (digits, rest) = value_of(key, words)?;
-    let bits =
-        Bits::from_hexadecimal(alloc, signal.width, digits)?.ok_or(Misspelling::Unspelled)?;
+    let bits = Bits::from_hexadecimal(alloc, signal.width, digits)?.ok_or(Misspelling::Unspelled)?;
     Ok((bits, rest))
 }
 
@@ -53,10 +52,13 @@ fn index_of(limit: u32, digits: &[u8]) -> Result<u16, Misspelling>
     if digits.len() > 5 {
         return Err(Misspelling::Unspelled);
     }
-    match read_decimal(digits) {
-        Some(n) if n < u64::from(limit) => Ok(n as u16),
-        _ => Err(Misspelling::Unspelled),
+    let Some(n) = read_decimal(digits) else {
+        return Err(Misspelling::Unspelled);
+    };
+    if n >= u64::from(limit) {
+        return Err(Misspelling::Unspelled);
     }
+    Ok(n as u16)
 }
 
 /// The number of a lane: its default where the signal is absent.
@@ -110,11 +112,7 @@ fn no_more(words: WordsLeft) -> Result<(), Misspelling>
 
 /// The transfer that the words of a payload spell.
 #[tactic(auto, unfolding(crate::specs::RowText::transfer_of))]
-fn transfer_of(
-    alloc: Global,
-    layout: &RowLayout,
-    words: WordsLeft,
-) -> Result<Transfer, Misspelling>
+fn transfer_of(alloc: Global, layout: &RowLayout, words: WordsLeft) -> Result<Transfer, Misspelling>
     ensures { Gives misspelling_in (λ t. t) result (spec.transfer_of layout.now.params (words_left words.entry)) }
 {
     let limit = layout.index_limit;
@@ -203,7 +201,9 @@ pub(crate) fn read_row(
 ) -> Result<OwnRow, Misspelling>
     ensures { Gives misspelling_in cycle_of result (spec.row_of layout.now.params line.now) }
 {
-    let (valid, words) = WordsLeft::of(line).next_word().ok_or(Misspelling::Unspelled)?;
+    let (valid, words) = WordsLeft::of(line)
+        .next_word()
+        .ok_or(Misspelling::Unspelled)?;
     let (ready, payload) = words.next_word().ok_or(Misspelling::Unspelled)?;
     let valid = bit_of(valid)?;
     let ready = bit_of(ready)?;

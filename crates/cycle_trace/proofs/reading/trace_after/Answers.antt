@@ -1,4 +1,3 @@
-use Rattle.std.proofs.Common.{arith}
 use Rattle.tydi_base.specs.Pieces.{lines_of}
 use Rattle.cycle_trace.specs.Trace.{cycles_of}
 use Rattle.cycle_trace.proofs.ShownLemmas.{rows_after-shown}

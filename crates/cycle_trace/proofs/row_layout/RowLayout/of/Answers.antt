@@ -1,4 +1,4 @@
-use Rattle.std.proofs.Common.{ℕ, ◌∙◌, ◌≡◌, ◌-◌, ◌*◌, ◌^◌, ◌%◌, ap, sym, subst, refl, arith}
+use Rattle.std.proofs.Common.{ℕ, ◌∙◌, ◌≡◌, ◌^◌, ap, sym, subst, refl}
 use Rattle.physical_stream.specs.Params.{Parameters}
 use Rattle.signal_layout.specs.declared.signal.Signal.{Signal}
 use Rattle.signal_layout.specs.declared.signal.Signal.TheVariants as signals

@@ -1,4 +1,3 @@
-use Rattle.std.proofs.Common.{◌≡◌, ◌+◌, ◌*◌, ◌<◌, length, get_or}
 use Rattle.cycle_trace.proofs.ViewLemmas.{row_within, row_in-row, row-shown}
 use Rattle.cycle_trace.proofs.trace.Trace.row.Goals as goal
 
