@@ -2,8 +2,16 @@
 //! run over the store and the sinks in memory.
 #![tactic(auto)]
 
+#[cfg(test)]
+mod expecting;
+#[cfg(test)]
+mod fault_tests;
+#[cfg(test)]
+mod refusal_tests;
 mod row;
 #[cfg(test)]
-mod tests;
+mod stream_tests;
+#[cfg(test)]
+mod trace_tests;
 
 pub use row::{Faults, Row, Seen, see};

@@ -1,12 +1,7 @@
 pub mod AnswerLemmas
-pub mod BreakingLemmas
 pub mod DeliveryLemmas
+pub mod JudgingLemmas
 pub mod LoadingLemmas
 pub mod ReplyLemmas
 pub mod RunLemmas
-pub mod SurveyItems
-pub mod SurveyLemmas
-pub mod RowLemmas
-pub mod ShownLemmas
-pub mod HeaderLemmas
-pub mod TextSetLemmas
+pub mod TellingLemmas

@@ -1,8 +1,16 @@
 -- From what a load says to what is replied.
 use Rattle.std.proofs.Common.{◌≡◌, ℕ, ◌+◌, ◌<◌, ◌≤◌, ◌⊎◌, inl, inr, List, [], length, Option, None, Some, IfSome, MatchOption, refl, sym, ap, ◌∙◌, subst, arith, Result, Ok, Err, Bool, true, false, cond, nat_lt, ⊎_elim, option_map, min, is_none, ◌∷◌}
 use Rattle.std.proofs.lemmas.Bool.Decides.{nat_tests}
-use Rattle.tydi_base.specs.Reading.{◌>>=◌}
 use Rattle.tydi_io.specs.Store.{Files}
+use Rattle.physical_stream.specs.declared.end.End.{End}
+use Rattle.physical_stream.specs.declared.end.End.TheVariants as ends
+use Rattle.physical_stream.specs.declared.head.Head.{Head}
+use Rattle.cycle_trace.specs.Trace.{TraceText}
+use Rattle.cycle_trace.specs.TraceText.{trace_of}
+use Rattle.cycle_trace.specs.declared.counts.Counts.{Counts}
+use Rattle.cycle_trace.specs.declared.counts.SurveyFault.{SurveyFault}
+use Rattle.cycle_trace.specs.declared.counts.SurveyFault.TheVariants as faults
+use Rattle.cycle_trace.specs.declared.fault.TraceFault.{TraceFault}
 use Rattle.tydi_tool.specs.declared.answer.Answer.{Answer}
 use Rattle.tydi_tool.specs.declared.answer.Answer.TheVariants as answers
 use Rattle.tydi_tool.specs.declared.answer.Reply.{Reply}
@@ -11,28 +19,34 @@ use Rattle.tydi_tool.specs.declared.loading.LoadError.{LoadError}
 use Rattle.tydi_tool.specs.declared.loading.LoadError.TheVariants as errors
 use Rattle.tydi_tool.specs.declared.refusal.Refusal.{Refusal}
 use Rattle.tydi_tool.specs.declared.refusal.Refusal.TheVariants as refusals
-use Rattle.tydi_tool.specs.declared.surveying.Survey.{Survey}
-use Rattle.tydi_tool.specs.declared.surveying.Survey.TheVariants as surveys
 use Rattle.tydi_tool.specs.Words.{Check, FileWord, trace_limit}
 use Rattle.tydi_tool.specs.Lines.{refusal_line}
 use Rattle.tydi_tool.specs.Loading.{pulled_out, IsGiven, GivenWithin, IsFile, IsTooLong, Loads}
-use Rattle.tydi_tool.specs.Trace.{TraceText}
-use Rattle.tydi_tool.specs.RowText.{trace_of}
-use Rattle.tydi_tool.specs.Survey.{answer_of}
-use Rattle.tydi_tool.specs.Answers.{bytes_within, file_of, TellsReading}
+use Rattle.tydi_tool.specs.Refusals.{refusal_of}
+use Rattle.tydi_tool.specs.Telling.{TellsEnd, TellsFound, path_of_stream}
+use Rattle.tydi_tool.specs.Answers.{bytes_within, file_of, TellsRefusal, TellsReading, TellsFile}
 use Rattle.tydi_tool.specs.Judging.{Judges}
 use Rattle.tydi_tool.specs.Replies.{IsGivenOne, NamesStarted, IsNoUsage, RepliesTo, RepliesToError}
 
--- the answer on a survey is not Usage
-IsNoUsage-answer_of : (path : List (List ℕ)) (found : Survey) → IsNoUsage (answer_of path found)
-IsNoUsage-answer_of path (surveys.Offence cycle rule) = tt
-IsNoUsage-answer_of path surveys.Pending = tt
-IsNoUsage-answer_of path (surveys.Unclosed k) = tt
-IsNoUsage-answer_of path (surveys.Legal transfers packets) = tt
+-- no answer on a trace text is Usage
+IsNoUsage-end : (path : List (List ℕ)) (end : End) (a : Answer) → TellsEnd path end a → IsNoUsage a
+IsNoUsage-end path ends.Whole a told = absurd told
+IsNoUsage-end path ends.Pending a told = subst IsNoUsage (sym told) tt
+IsNoUsage-end path (ends.Unclosed k) a told = subst IsNoUsage (sym told) tt
 
-IsNoUsage-told : (word : List ℕ) (read : Result TraceText Refusal) (a : Answer) → TellsReading word read a → IsNoUsage a
-IsNoUsage-told word (Ok trace) a told = subst IsNoUsage (sym told.says) (IsNoUsage-answer_of trace.head.path told.found)
-IsNoUsage-told word (Err refusal) a told = subst IsNoUsage (sym told) tt
+IsNoUsage-found : (heads : List Head) (found : Result Counts SurveyFault) (a : Answer) → TellsFound heads found a → IsNoUsage a
+IsNoUsage-found heads (Ok counts) a told = subst IsNoUsage (sym told) tt
+IsNoUsage-found heads (Err (faults.Offence cycle stream rule)) a told = subst IsNoUsage (sym told) tt
+IsNoUsage-found heads (Err (faults.Unfinished stream end)) a told = IsNoUsage-end (path_of_stream heads stream) end a told
+IsNoUsage-found heads (Err faults.Memory) a told = absurd told
+
+IsNoUsage-refusal : (word : List ℕ) (refusal : Option Refusal) (a : Answer) → TellsRefusal word refusal a → IsNoUsage a
+IsNoUsage-refusal word None a told = absurd told
+IsNoUsage-refusal word (Some refusal) a told = subst IsNoUsage (sym told) tt
+
+IsNoUsage-told : (word : List ℕ) (read : Result TraceText TraceFault) (a : Answer) → TellsReading word read a → IsNoUsage a
+IsNoUsage-told word (Ok trace) a told = IsNoUsage-found trace.heads told.found a told.says
+IsNoUsage-told word (Err fault) a told = IsNoUsage-refusal word (refusal_of fault) a told
 
 -- the file that `check` names
 abbrev pub trace_file : List ℕ → FileWord
@@ -77,7 +91,7 @@ RepliesTo-loaded None word bytes old new rose (replies.Says a) loads judges = (I
 RepliesTo-loaded (Some told) word bytes old new rose (replies.Says a) loads judges = (
   IsNoUsage-told word (trace_of bytes) a judges,
   (
-    subst (λ (read : Result (List ℕ) Refusal). TellsReading word (read >>= trace_of) a) (sym (file_of-there told (trace_file word) bytes loads.0)) judges,
+    subst (λ (file : Result (List ℕ) Refusal). TellsFile word file a) (sym (file_of-there told (trace_file word) bytes loads.0)) judges,
     record { file = trace_file word; named = inl refl; place = loads.1 },
   ),
 )
@@ -112,7 +126,7 @@ RepliesTo-refused told word old new rose refusal reply read says =
     refused (Some known) read = (
       tt,
       (
-        subst (λ (r : Result (List ℕ) Refusal). TellsReading word (r >>= trace_of) (answers.Refused (refusal_line refusal word))) (sym read.0) refl,
+        subst (λ (file : Result (List ℕ) Refusal). TellsFile word file (answers.Refused (refusal_line refusal word))) (sym read.0) refl,
         record { file = trace_file word; named = inl refl; place = read.1 },
       ),
     )

@@ -1,18 +1,21 @@
 -- What the tool says of given words and files (this project's own): a definition by cases on the command, over the words
 -- and the bytes of the files alone.
 use Rattle.std.specs.Prelude.{◌≡◌, ℕ, nat_lt, if◌then◌else◌, List, length, Option, Some, None, Result, Ok, Err}
-use Rattle.tydi_base.specs.Reading.{◌>>=◌}
 use Rattle.tydi_io.specs.Store.{Files}
+use Rattle.cycle_trace.specs.Trace.{TraceText, streams_of}
+use Rattle.cycle_trace.specs.TraceText.{trace_of}
+use Rattle.cycle_trace.specs.Survey.{Surveys}
+use Rattle.cycle_trace.specs.declared.counts.Counts.{Counts}
+use Rattle.cycle_trace.specs.declared.counts.SurveyFault.{SurveyFault}
+use Rattle.cycle_trace.specs.declared.fault.TraceFault.{TraceFault}
 use Rattle.tydi_tool.specs.declared.answer.Answer.{Answer}
 use Rattle.tydi_tool.specs.declared.answer.Answer.TheVariants as answers
 use Rattle.tydi_tool.specs.declared.refusal.Refusal.{Refusal}
 use Rattle.tydi_tool.specs.declared.refusal.Refusal.TheVariants as refusals
-use Rattle.tydi_tool.specs.declared.surveying.Survey.{Survey}
 use Rattle.tydi_tool.specs.Words.{Request, Check, FileWord, trace_limit}
+use Rattle.tydi_tool.specs.Refusals.{refusal_of}
 use Rattle.tydi_tool.specs.Lines.{refusal_line}
-use Rattle.tydi_tool.specs.Trace.{TraceText}
-use Rattle.tydi_tool.specs.RowText.{trace_of}
-use Rattle.tydi_tool.specs.Survey.{Surveys, answer_of}
+use Rattle.tydi_tool.specs.Telling.{TellsFound}
 
 -- the bytes of a file, where it is there and not too long
 abbrev pub bytes_within : ℕ → Option (List ℕ) → Result (List ℕ) Refusal
@@ -22,20 +25,30 @@ bytes_within limit (Some bytes) = if nat_lt limit (length bytes) then Err refusa
 abbrev pub file_of : Files → FileWord → Result (List ℕ) Refusal
 file_of told file = bytes_within file.limit (told file.word)
 
--- the answer on a trace is that on what a survey of it finds
+-- the answer on a trace is that on what a survey of its streams finds
 pub record TellsTrace (trace : TraceText) (a : Answer) : Type 0 where
-  pub found : Survey
-  pub surveys : Surveys trace.head.params trace.cycles found
-  pub says : a ≡ answer_of trace.head.path found
+  pub found : Result Counts SurveyFault
+  pub surveys : Surveys (streams_of trace) found
+  pub says : TellsFound trace.heads found a
 
--- the answer on what was read: a refusal, or what is said of the trace
-abbrev pub TellsReading : List ℕ → Result TraceText Refusal → Answer → Type 0
+-- the answer on a text that is refused. Reading a text is never refused for want of memory.
+abbrev pub TellsRefusal : List ℕ → Option Refusal → Answer → Type 0
+TellsRefusal word (Some refusal) a = a ≡ answers.Refused (refusal_line refusal word)
+TellsRefusal word None a = ⊥
+
+-- the answer on what was read of a text: its first fault, or what is said of the trace
+abbrev pub TellsReading : List ℕ → Result TraceText TraceFault → Answer → Type 0
 TellsReading word (Ok trace) a = TellsTrace trace a
-TellsReading word (Err refusal) a = a ≡ answers.Refused (refusal_line refusal word)
+TellsReading word (Err fault) a = TellsRefusal word (refusal_of fault) a
+
+-- the answer on a file: that it is refused, or what is said of its text
+abbrev pub TellsFile : List ℕ → Result (List ℕ) Refusal → Answer → Type 0
+TellsFile word (Ok bytes) a = TellsReading word (trace_of bytes) a
+TellsFile word (Err refusal) a = a ≡ answers.Refused (refusal_line refusal word)
 
 -- `check TRACE`: the file, its text, and then the survey
 abbrev pub CheckSays : Files → List ℕ → Answer → Type 0
-CheckSays told trace a = TellsReading trace (file_of told (record { word = trace; limit = trace_limit }) >>= trace_of) a
+CheckSays told trace a = TellsFile trace (file_of told (record { word = trace; limit = trace_limit })) a
 
 -- what a command says of the files
 abbrev pub RequestSays : Files → Request → Answer → Type 0

@@ -1,26 +1,26 @@
 -- The lines that a run writes (this project's own).
-use Rattle.std.specs.Prelude.{ℕ, List, ◌++◌, codes, decimal}
+use Rattle.std.specs.Prelude.{ℕ, List, [], ◌∷◌, ◌++◌, codes, decimal}
+use Rattle.std.specs.List.{flat_map}
 use Rattle.tydi_base.specs.Path.{path_text}
 use Rattle.physical_stream.specs.Rules.{number_of_rule, name_of_rule}
+use Rattle.physical_stream.specs.declared.head.Head.{Head}
 use Rattle.physical_stream.specs.declared.rule.Rule.{Rule}
+use Rattle.tydi_tool.specs.Refusals.{name_of_refusal, numbers_of_refusal}
 use Rattle.tydi_tool.specs.declared.refusal.Refusal.{Refusal}
-use Rattle.tydi_tool.specs.declared.refusal.Refusal.TheVariants as refusals
 
-abbrev pub name_of_refusal : Refusal → List ℕ
-name_of_refusal refusals.NoFile = codes "NoFile"
-name_of_refusal refusals.TooLong = codes "TooLong"
-name_of_refusal refusals.BadTrace = codes "BadTrace"
-name_of_refusal refusals.Unsupported = codes "Unsupported"
+-- a number, with a space before it
+abbrev pub number_text : ℕ → List ℕ
+number_text number = codes " " ++ decimal number
 
--- a fault that names a file
-abbrev pub file_line : List ℕ → List ℕ → List ℕ
-file_line name word = codes "tydi: " ++ name ++ codes " " ++ word ++ codes "\n"
+-- a fault that names a file, and the numbers that say where in it
+abbrev pub file_line : List ℕ → List ℕ → List ℕ → List ℕ
+file_line name word numbers = codes "tydi: " ++ name ++ codes " " ++ word ++ flat_map number_text numbers ++ codes "\n"
 
 abbrev pub refusal_line : Refusal → List ℕ → List ℕ
-refusal_line refusal word = file_line (name_of_refusal refusal) word
+refusal_line refusal word = file_line (name_of_refusal refusal) word (numbers_of_refusal refusal)
 
 abbrev pub read_fault_line : List ℕ → List ℕ
-read_fault_line word = file_line (codes "ReadFault") word
+read_fault_line word = file_line (codes "ReadFault") word []
 
 abbrev pub offence_line : ℕ → List (List ℕ) → Rule → List ℕ
 offence_line cycle path rule =
@@ -34,3 +34,12 @@ unclosed_line path open_at = codes "unfinished stream " ++ path_text path ++ cod
 
 abbrev pub counts_line : List (List ℕ) → ℕ → ℕ → List ℕ
 counts_line path transfers packets = codes "stream " ++ path_text path ++ codes " transfers " ++ decimal transfers ++ codes " packets " ++ decimal packets ++ codes "\n"
+
+-- the streams of these heads, each with its transfers and its packets
+abbrev pub counts_text : List Head → List (ℕ × ℕ) → List ℕ
+counts_text [] counts = []
+counts_text (head ∷ heads) [] = []
+counts_text (head ∷ heads) (count ∷ counts) = counts_line head.path count.0 count.1 ++ counts_text heads counts
+
+abbrev pub legal_text : List Head → List (ℕ × ℕ) → List ℕ
+legal_text heads counts = codes "legal\n" ++ counts_text heads counts

@@ -1,41 +1,46 @@
-ghost use Rattle.std.specs.Prelude.{◌≡◌, ◌⊎◌, IsTrue};
-ghost use Rattle.physical_stream.specs.Cycles.{IsShownBy};
-ghost use Rattle.tydi_tool.specs.Trace.{trace_view, cycles_of, is_plain};
-ghost use Rattle.tydi_tool.specs.Judging.{Judges, JudgesTrace};
+ghost use Rattle.std.specs.Prelude.{◌≡◌, ◌<◌, ◌-◌, ◌^◌, ◌⊎◌, length};
+ghost use Rattle.cycle_trace.specs.TraceView.{trace_view};
+ghost use Rattle.tydi_tool.specs.Judging.{Judges, JudgesRefusal, JudgesTrace};
 ghost use Rattle.tydi_tool.specs.Lines.{refusal_line};
+ghost use Rattle.tydi_tool.specs.Refusals.{refusal_of};
 ghost use Rattle.tydi_tool.specs.declared.answer.Answer.TheVariants as answers;
 ghost use Rattle.tydi_tool.specs.declared.answer.Reply.TheVariants as replies;
 
 use crate::answer::{Answer, Reply};
-use crate::reading::read_trace;
 use crate::refusal::Refusal;
-use crate::surveying::survey_trace;
 use crate::telling::{refuse, tell};
-use crate::trace::{PlainTrace, TraceError};
+use cycle_trace::{Trace, TraceFault, read, survey};
 use std::alloc::Global;
 use tydi_base::{Memory, Text};
 
 /// What is said of the text of a trace.
 pub(crate) fn judge_trace(alloc: Global, word: &Text, text: &[u8]) -> Reply
+    requires { length text.now < 2 ^ 32 - 1 }
     ensures { Judges word.now text.now result }
 {
-    match read_trace(alloc, text) {
+    match read(alloc, text) {
         Ok(trace) => surveyed(alloc, &trace),
-        Err(TraceError::BadTrace) => refused(alloc, Refusal::BadTrace, word),
-        Err(TraceError::Unsupported) => refused(alloc, Refusal::Unsupported, word),
-        Err(TraceError::Memory) => Reply::Memory,
+        Err(fault) => faulted(alloc, fault, word),
     }
 }
 
 /// What is said of a trace that was read.
-fn surveyed(alloc: Global, trace: &PlainTrace) -> Reply
-    requires plain { IsTrue (is_plain trace.now.head.params) }
-    requires shown { IsShownBy trace.now.head.params (cycles_of trace.now.rows) }
+fn surveyed(alloc: Global, trace: &Trace) -> Reply
     ensures { JudgesTrace (trace_view trace.now) result }
 {
-    match tell(alloc, &trace.head.path, survey_trace(trace)) {
+    match tell(alloc, trace.header(), survey(alloc, trace)) {
         Ok(answer) => Reply::Says(answer),
         Err(Memory) => Reply::Memory,
+    }
+}
+
+/// What is said of a text with this fault.
+fn faulted(alloc: Global, fault: TraceFault, word: &Text) -> Reply
+    ensures { JudgesRefusal word.now (refusal_of fault) result }
+{
+    match Refusal::of_fault(fault) {
+        Some(refusal) => refused(alloc, refusal, word),
+        None => Reply::Memory,
     }
 }
 

@@ -30,6 +30,7 @@ pub(crate) fn load<S: Store>(
     ensures files { S.files store.new ≡ S.files store.old }
     ensures loads { IfSome (S.files store.old) (λ told.
         Loads told (record { word = word.now; limit = limit }) (S.started store.new) result) }
+    ensures within { IfOk result (λ bytes. length bytes ≤ limit) }
     ensures cause { ReadsFaults (S.faults store.old) (S.faults store.new) result }
 {
     match store.start(word.as_str()) {
@@ -46,6 +47,7 @@ fn pull_all<S: Store>(alloc: Global, store: &mut S, limit: usize) -> Result<List
     ensures files { S.files store.new ≡ S.files store.old }
     ensures loads { IfSome (S.files store.old) (λ told. (word : List ℕ) → IsAtStart told word (S.started store.old) →
         Loads told (record { word = word; limit = limit }) (S.started store.new) result) }
+    ensures within { IfOk result (λ bytes. length bytes ≤ limit) }
     ensures cause { ReadsFaults (S.faults store.old) (S.faults store.new) result }
 {
     let Ok(mut buffer) = buffer_of(alloc) else {

@@ -1,35 +1,93 @@
 //! How a survey, a refusal and a failed read are told.
 
-ghost use Rattle.std.specs.Prelude.{◌≡◌, ◌++◌, codes, IfOk, OnOk};
-ghost use Rattle.tydi_tool.specs.Lines.{file_line, refusal_line, read_fault_line, offence_line, pending_line, unclosed_line, counts_line};
-ghost use Rattle.tydi_tool.specs.Survey.{answer_of};
+ghost use Rattle.std.specs.Prelude.{◌≡◌, ◌<◌, ◌++◌, length, IfOk, OnOk};
+ghost use Rattle.std.specs.List.{flat_map};
+ghost use Rattle.tydi_tool.specs.Lines.{
+  number_text,
+  file_line,
+  refusal_line,
+  read_fault_line,
+  offence_line,
+  pending_line,
+  unclosed_line,
+  counts_line,
+  legal_text,
+};
+ghost use Rattle.tydi_tool.specs.Telling.{TellsFound, TellsEnd, IsFoundAmong, IsUnfinished, path_of_stream};
 
 use crate::answer::Answer;
 use crate::refusal::Refusal;
-use crate::surveying::Survey;
-use physical_stream::Rule;
+use cycle_trace::{Counts, SurveyFault};
+use physical_stream::{End, Head, Header, Rule};
 use std::alloc::Global;
 use tydi_base::{List, Memory, Path, Text, write_decimal};
 
-/// The answer that a survey of the stream of this path gives.
-pub(crate) fn tell(alloc: Global, path: &Path, found: Survey) -> Result<Answer, Memory>
-    ensures { IfOk result (λ answer. answer ≡ answer_of path.now found) }
+/// The answer on what a survey found of a trace with this header.
+pub(crate) fn tell(
+    alloc: Global,
+    header: &Header,
+    found: Result<Counts, SurveyFault>,
+) -> Result<Answer, Memory>
+    requires { IsFoundAmong (length header.now.heads) found }
+    ensures { IfOk result (λ answer. TellsFound header.now.heads found answer) }
 {
+    let heads = header.heads.as_slice();
     match found {
-        Survey::Offence(cycle, rule) => Ok(Answer::Verdict(offence(alloc, cycle, path, rule)?)),
-        Survey::Pending => Ok(Answer::Verdict(pending(alloc, path)?)),
-        Survey::Unclosed(dimension) => Ok(Answer::Verdict(unclosed(alloc, path, dimension)?)),
-        Survey::Legal(transfers, packets) => {
-            Ok(Answer::Done(legal(alloc, path, transfers, packets)?))
+        Ok(counts) => Ok(Answer::Done(legal(alloc, heads, counts.streams.as_slice())?)),
+        Err(
+            SurveyFault::Offence {
+                cycle,
+                stream,
+                rule,
+            },
+        ) => {
+            let line = offence(alloc, cycle, path_of(heads, stream), rule)?;
+            Ok(Answer::Verdict(line))
         }
+        Err(SurveyFault::Unfinished { stream, end }) => {
+            unfinished(alloc, path_of(heads, stream), end)
+        }
+        Err(SurveyFault::Memory) => Err(Memory),
     }
 }
 
-fn offence(alloc: Global, cycle: usize, path: &Path, rule: Rule) -> Result<List<u8>, Memory>
+/// The path of the stream of this number.
+fn path_of(heads: &[Head], stream: usize) -> &Path
+    requires { stream < length heads.now }
+    ensures { result.now ≡ path_of_stream heads.now stream }
+{
+    &heads[stream].path
+}
+
+/// The text of a trace without offence whose streams end whole.
+fn legal(alloc: Global, heads: &[Head], counts: &[(u64, u64)]) -> Result<List<u8>, Memory>
+    ensures { IfOk result (λ text. text ≡ legal_text heads.now counts.now) }
+{
+    let mut text = List::from_slice(alloc, b"legal\n")?;
+    'streams: for (head, count) in heads.iter().zip(counts) {
+        push_counts(&head.path, count.0, count.1, &mut text)?;
+    }
+    Ok(text)
+}
+
+/// Adds the line of a stream with its transfers and its packets.
+fn push_counts(path: &Path, transfers: u64, packets: u64, text: &mut List<u8>) -> Result<(), Memory>
+    ensures { OnOk result (text.new ≡ text.old ++ counts_line path.now transfers packets) }
+{
+    text.extend_from_slice(b"stream ")?;
+    path.write_dotted(text)?;
+    text.extend_from_slice(b" transfers ")?;
+    write_decimal(transfers, text)?;
+    text.extend_from_slice(b" packets ")?;
+    write_decimal(packets, text)?;
+    text.extend_from_slice(b"\n")
+}
+
+fn offence(alloc: Global, cycle: u32, path: &Path, rule: Rule) -> Result<List<u8>, Memory>
     ensures { IfOk result (λ line. line ≡ offence_line cycle path.now rule) }
 {
     let mut line = List::from_slice(alloc, b"offence cycle ")?;
-    write_decimal(cycle as u64, &mut line)?;
+    write_decimal(u64::from(cycle), &mut line)?;
     line.extend_from_slice(b" stream ")?;
     path.write_dotted(&mut line)?;
     line.extend_from_slice(b" rule ")?;
@@ -38,6 +96,18 @@ fn offence(alloc: Global, cycle: usize, path: &Path, rule: Rule) -> Result<List<
     line.extend_from_slice(rule.name().as_bytes())?;
     line.extend_from_slice(b"\n")?;
     Ok(line)
+}
+
+/// The answer on a stream that ends so, not whole.
+fn unfinished(alloc: Global, path: &Path, end: End) -> Result<Answer, Memory>
+    requires { IsUnfinished end }
+    ensures { IfOk result (λ answer. TellsEnd path.now end answer) }
+{
+    match end {
+        End::Whole => unreachable!(),
+        End::Pending => Ok(Answer::Verdict(pending(alloc, path)?)),
+        End::Unclosed(dimension) => Ok(Answer::Verdict(unclosed(alloc, path, dimension)?)),
+    }
 }
 
 fn pending(alloc: Global, path: &Path) -> Result<List<u8>, Memory>
@@ -60,40 +130,49 @@ fn unclosed(alloc: Global, path: &Path, dimension: u8) -> Result<List<u8>, Memor
     Ok(line)
 }
 
-fn legal(alloc: Global, path: &Path, transfers: usize, packets: usize) -> Result<List<u8>, Memory>
-    ensures { IfOk result (λ text. text ≡ codes "legal\n" ++ counts_line path.now transfers packets) }
-{
-    let mut text = List::from_slice(alloc, b"legal\nstream ")?;
-    path.write_dotted(&mut text)?;
-    text.extend_from_slice(b" transfers ")?;
-    write_decimal(transfers as u64, &mut text)?;
-    text.extend_from_slice(b" packets ")?;
-    write_decimal(packets as u64, &mut text)?;
-    text.extend_from_slice(b"\n")?;
-    Ok(text)
-}
-
 /// The line of a refusal of the file of this word.
 pub(crate) fn refuse(alloc: Global, refusal: Refusal, word: &Text) -> Result<List<u8>, Memory>
     ensures { IfOk result (λ line. line ≡ refusal_line refusal word.now) }
 {
-    file_line(alloc, refusal.name(), word)
+    let name = refusal.name();
+    match refusal {
+        Refusal::NoFile | Refusal::TooLong | Refusal::TooManyCycles => {
+            file_line(alloc, name, word, &[])
+        }
+        Refusal::BadHeader(line)
+        | Refusal::BadRow(line)
+        | Refusal::WrongSignals(line)
+        | Refusal::RowsLeft(line) => file_line(alloc, name, word, &[line]),
+        Refusal::RowsMissing { want, got } => file_line(alloc, name, word, &[want, got]),
+    }
 }
 
 /// The line of a failed read of the file of this word.
 pub(crate) fn read_fault(alloc: Global, word: &Text) -> Result<List<u8>, Memory>
     ensures { IfOk result (λ line. line ≡ read_fault_line word.now) }
 {
-    file_line(alloc, "ReadFault", word)
+    file_line(alloc, "ReadFault", word, &[])
 }
 
-fn file_line(alloc: Global, name: &str, word: &Text) -> Result<List<u8>, Memory>
-    ensures { IfOk result (λ line. line ≡ file_line name.now word.now) }
+fn file_line(alloc: Global, name: &str, word: &Text, numbers: &[u64]) -> Result<List<u8>, Memory>
+    ensures { IfOk result (λ line. line ≡ file_line name.now word.now numbers.now) }
 {
     let mut line = List::from_slice(alloc, b"tydi: ")?;
     line.extend_from_slice(name.as_bytes())?;
     line.extend_from_slice(b" ")?;
     line.extend_from_slice(word.as_bytes())?;
+    push_numbers(numbers, &mut line)?;
     line.extend_from_slice(b"\n")?;
     Ok(line)
+}
+
+/// Adds these numbers, each after a space.
+fn push_numbers(numbers: &[u64], line: &mut List<u8>) -> Result<(), Memory>
+    ensures { OnOk result (line.new ≡ line.old ++ flat_map number_text numbers.now) }
+{
+    'numbers: for number in numbers {
+        line.extend_from_slice(b" ")?;
+        write_decimal(*number, line)?;
+    }
+    Ok(())
 }
