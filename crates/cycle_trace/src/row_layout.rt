@@ -1,10 +1,10 @@
 //! What reading a row needs to know of its stream, found once for all its rows.
 
-ghost use Rattle.std.specs.Prelude.{◌≡◌, ◌-◌, ◌^◌, ◌≤◌};
+ghost use Rattle.std.specs.Prelude.{◌≡◌};
 ghost use Rattle.physical_stream.specs.Signals.{index_width};
 ghost use Rattle.cycle_trace.specs.RowLayout.{LaysOut, has_payload_in};
 
-use physical_stream::{Params, index_width};
+use physical_stream::{Params, all_lanes, index_width};
 use signal_layout::Signals;
 
 /// A signal that is a word of bits.
@@ -67,7 +67,7 @@ impl RowLayout {
             has_payload: has_payload(&signals),
             index_limit: 1u32 << index_width(p.lanes),
             last_lane: p.lanes - 1,
-            all_lanes: ones(p.lanes),
+            all_lanes: all_lanes(p.lanes),
         }
     }
 }
@@ -82,14 +82,4 @@ fn has_payload(signals: &Signals) -> bool
         || signals.endi.is_some()
         || signals.strb.is_some()
         || signals.user.is_some()
-}
-
-/// So many ones, from the lowest bit.
-fn ones(count: u16) -> u128
-    requires some { 1 ≤ count }
-    requires most { count ≤ 128 }
-    ensures { result ≡ 2 ^ count - 1 }
-{
-    let highest = 1u128 << (count - 1);
-    highest - 1 + highest
 }

@@ -1,4 +1,3 @@
-ghost use Rattle.std.specs.Prelude.{◌≡◌};
 ghost use Rattle.cycle_trace.specs.Trace.{IsTrace, text_of};
 
 use crate::own_row::OwnRow;
@@ -12,13 +11,4 @@ pub struct Trace {
     pub(crate) header: Header,
     pub(crate) rows: List<OwnRow>,
     ghost whole: { IsTrace (text_of header rows) },
-}
-
-impl Trace {
-    /// What it says before its first row.
-    pub fn header(&self) -> &Header
-        ensures { result.now ≡ self.now.header }
-    {
-        &self.header
-    }
 }

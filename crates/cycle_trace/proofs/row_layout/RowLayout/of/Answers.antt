@@ -25,7 +25,7 @@ invariant_of-result-2 c =
         limit = limit.0 ∙ ap (λ (n : ℕ). 2 ^ n) c.index_width.ensures.value;
         small = rw limit.0 limit.1;
         lane = refl;
-        ones = c.ones.ensures;
+        ones = c.all_lanes.ensures;
         narrow = c.p.invariant.lanes_most;
       };
     }
