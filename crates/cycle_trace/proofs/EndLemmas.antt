@@ -1,5 +1,5 @@
 -- What the checkers of a trace say before its first row and after its last one.
-use Rattle.std.proofs.Common.{◌≡◌, ◌≢◌, ◌∙◌, ℕ, suc, ◌+◌, ◌<◌, ◌≤◌, inl, inr, ◌⊎◌, Bool, false, nat_lt, List, [], ◌∷◌, ◌++◌, length, map, take, drop, get_or, slice_get, Option, None, Some, Result, Ok, Err, add-one, refl, sym, ap, subst, arith}
+use Rattle.std.proofs.Common.{◌≡◌, ◌≢◌, ◌∙◌, ℕ, suc, ◌+◌, ◌<◌, ◌≤◌, inl, inr, false, nat_lt, List, [], ◌∷◌, ◌++◌, length, map, take, drop, get_or, slice_get, None, Some, Result, Ok, Err, refl, sym, ap, subst, arith}
 use Rattle.std.proofs.lemmas.Bool.{cases_lt}
 use Rattle.std.proofs.lemmas.Bool.Decides.{nat_tests}
 use Rattle.std.proofs.lemmas.List.{length_push, drop_more, drop_all, map_more, take_all}
@@ -7,7 +7,7 @@ use Rattle.std.proofs.lemmas.Option.{slice_get_cases, slice_get_read, slice_get_
 use Rattle.physical_stream.specs.Cycles.{Cycle, StreamTrace}
 use Rattle.physical_stream.specs.Counts.{transfers_of, packets_of}
 use Rattle.physical_stream.specs.Ending.{ending_of}
-use Rattle.physical_stream.specs.First.{Offence, Offends, IsFirst}
+use Rattle.physical_stream.specs.First.{Offends, IsFirst}
 use Rattle.physical_stream.specs.declared.end.End.{End}
 use Rattle.physical_stream.specs.declared.end.End.TheVariants as ends
 use Rattle.physical_stream.specs.declared.head.Head.{Head}
@@ -16,9 +16,9 @@ use Rattle.complexity_rules.specs.declared.checker.Checker.{Checker}
 use Rattle.cycle_trace.specs.declared.counts.Counts.{Counts}
 use Rattle.cycle_trace.specs.declared.counts.SurveyFault.{SurveyFault}
 use Rattle.cycle_trace.specs.declared.counts.SurveyFault.TheVariants as faults
-use Rattle.cycle_trace.specs.Trace.{TraceText, IsTrace, row_in, streams_of}
+use Rattle.cycle_trace.specs.Trace.{TraceText, IsTrace, streams_of}
 use Rattle.cycle_trace.specs.Survey.{Answers, Surveys, counts_of, first_unfinished, or_unfinished}
-use Rattle.cycle_trace.specs.Surveying.{AreAt, NoneBefore, StandsAt, cycles_before, cycles_seen}
+use Rattle.cycle_trace.specs.Surveying.{AreAt, NoneBefore, cycles_before, cycles_seen}
 use Rattle.cycle_trace.proofs.PartsLemmas.{slice_get-front, slice_get-next}
 use Rattle.cycle_trace.proofs.SurveyLemmas.{stream_at, stream_with, length-streams, cycle_within}
 

@@ -1,4 +1,4 @@
-use Rattle.std.proofs.Common.{◌≡◌, ◌∙◌, length, ap, arith, subst, List, sym}
+use Rattle.std.proofs.Common.{◌≡◌, ◌∙◌, length, ap, arith, subst, List}
 use Rattle.physical_stream.specs.declared.head.Head.{Head}
 use Rattle.cycle_trace.proofs.EndLemmas.{HaveCheckers, HaveCheckers-none, HaveCheckers-more, HaveCheckers-all}
 use Rattle.cycle_trace.specs.TraceView.{trace_view}

@@ -1,4 +1,4 @@
-use Rattle.std.proofs.Common.{◌≡◌, ◌∙◌, ℕ, List, ◌++◌, ◌∷◌, [], ap}
+use Rattle.std.proofs.Common.{◌∙◌, ℕ, List, ◌++◌, ◌∷◌, [], ap}
 use Rattle.cycle_trace.specs.declared.counts.Counts.{Counts}
 use Rattle.cycle_trace.proofs.EndLemmas.{counts_in-more, counts_in-all}
 use Rattle.cycle_trace.specs.TraceView.{trace_view}
