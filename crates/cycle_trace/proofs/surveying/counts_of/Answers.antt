@@ -15,4 +15,4 @@ checkers-preserved c =
 pub returns : goal.returns
 returns c =
     ap (λ (streams : List (ℕ × ℕ)). let counts : Counts = record { streams = streams } in counts)
-      (c.checkers.invariant ∙ counts_in-all (trace_view c.args._trace.now) c.args.checkers.now c.checkers.checker-index c.requires c.checkers-test.false)
+    (c.checkers.invariant ∙ counts_in-all (trace_view c.args._trace.now) c.args.checkers.now c.checkers.checker-index c.requires c.checkers-test.false)
