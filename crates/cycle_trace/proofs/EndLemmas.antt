@@ -1,5 +1,5 @@
 -- What the checkers of a trace say before its first row and after its last one.
-use Rattle.std.proofs.Common.{◌≡◌, ◌≢◌, ◌∙◌, ℕ, suc, ◌+◌, ◌<◌, ◌≤◌, inl, inr, ◌⊎◌, Bool, false, nat_lt, List, [], ◌∷◌, ◌++◌, length, map, take, drop, get_or, slice_get, Option, None, Some, Result, Ok, Err, add-one, refl, sym, ap, subst, arith}
+use Rattle.std.proofs.Common.{◌≡◌, ◌≢◌, ◌∙◌, ℕ, suc, ◌+◌, ◌<◌, ◌≤◌, inl, inr, false, nat_lt, List, [], ◌∷◌, ◌++◌, length, map, take, drop, get_or, slice_get, None, Some, Result, Ok, Err, refl, sym, ap, subst, arith}
 use Rattle.std.proofs.lemmas.Bool.{cases_lt}
 use Rattle.std.proofs.lemmas.Bool.Decides.{nat_tests}
 use Rattle.std.proofs.lemmas.List.{length_push, drop_more, drop_all, map_more, take_all}
@@ -7,7 +7,7 @@ use Rattle.std.proofs.lemmas.Option.{slice_get_cases, slice_get_read, slice_get_
 use Rattle.physical_stream.specs.Cycles.{Cycle, StreamTrace}
 use Rattle.physical_stream.specs.Counts.{transfers_of, packets_of}
 use Rattle.physical_stream.specs.Ending.{ending_of}
-use Rattle.physical_stream.specs.First.{Offence, Offends, IsFirst}
+use Rattle.physical_stream.specs.First.{Offends, IsFirst}
 use Rattle.physical_stream.specs.declared.end.End.{End}
 use Rattle.physical_stream.specs.declared.end.End.TheVariants as ends
 use Rattle.physical_stream.specs.declared.head.Head.{Head}
@@ -16,9 +16,9 @@ use Rattle.complexity_rules.specs.declared.checker.Checker.{Checker}
 use Rattle.cycle_trace.specs.declared.counts.Counts.{Counts}
 use Rattle.cycle_trace.specs.declared.counts.SurveyFault.{SurveyFault}
 use Rattle.cycle_trace.specs.declared.counts.SurveyFault.TheVariants as faults
-use Rattle.cycle_trace.specs.Trace.{TraceText, IsTrace, row_in, streams_of}
+use Rattle.cycle_trace.specs.Trace.{TraceText, IsTrace, streams_of}
 use Rattle.cycle_trace.specs.Survey.{Answers, Surveys, counts_of, first_unfinished, or_unfinished}
-use Rattle.cycle_trace.specs.Surveying.{AreAt, NoneBefore, StandsAt, cycles_before, cycles_seen}
+use Rattle.cycle_trace.specs.Surveying.{AreAt, NoneBefore, cycles_before, cycles_seen}
 use Rattle.cycle_trace.proofs.PartsLemmas.{slice_get-front, slice_get-next}
 use Rattle.cycle_trace.proofs.SurveyLemmas.{stream_at, stream_with, length-streams, cycle_within}
 
@@ -55,16 +55,16 @@ HaveCheckers-more heads n checkers checker head have within is params stands = r
 
     each : (stream : ℕ) (c : Checker) (h : Head) → slice_get (checkers ++ checker ∷ []) stream ≡ Some c → slice_get heads stream ≡ Some h → (params_in c ≡ h.params) × StandsFor c []
     each stream c h here there = elim (cases_lt stream n) [
-      inl less ↦ have.each stream c h (sym (slice_get-front checkers (checker ∷ []) stream (omega (arith, have.many))) ∙ here) there |
-      inr more ↦ at_end stream c h (omega (arith, slice_get_within (checkers ++ checker ∷ []) stream c here, length_push checkers checker, have.many)) here there
+      | inl less ↦ have.each stream c h (sym (slice_get-front checkers (checker ∷ []) stream (omega (arith, have.many))) ∙ here) there
+      | inr more ↦ at_end stream c h (omega (arith, slice_get_within (checkers ++ checker ∷ []) stream c here, length_push checkers checker, have.many)) here there
     ]
 
 pub HaveCheckers-all : (t : TraceText) (n : ℕ) (checkers : List Checker) → HaveCheckers t.heads n checkers → n ≡ length t.heads → AreAt t 0 0 checkers
 HaveCheckers-all t n checkers have all = record {
   many = have.many ∙ all;
   each = λ stream checker head here there.
-    let found = have.each stream checker head here there in
-    record { params = found.0; stands = stands_seen t 0 stream checker found.1 };
+      let found = have.each stream checker head here there in
+      record { params = found.0; stands = stands_seen t 0 stream checker found.1 };
 }
 
 -- ---- after the last row
@@ -78,17 +78,17 @@ pub record Checks (t : TraceText) (stream : ℕ) (checker : Checker) : Type 0 wh
 
 pub checks_stream : (t : TraceText) (checkers : List Checker) (stream : ℕ) (checker : Checker) → AreAt t t.cycles 0 checkers → stream < length checkers → checker ≡ get_or checkers stream checker → Checks t stream checker
 checks_stream t checkers stream checker at within is = elim (slice_get_cases t.heads stream).1 [
-  inl found ↦
-    let here = slice_get_read checkers (length checkers) stream checker refl within is in
-    let stood = at.each stream checker found.0 here found.2 in
-    let from_first : 0 + stream ≡ stream = omega arith in
-    record {
-      trace = stream_with t stream found.0;
-      stands = stream_at t 0 t.heads stream found.0 found.2 ∙ ap (λ (s : ℕ). Some (stream_with t s found.0)) from_first;
-      params = stood.params;
-      seen = stands_for t t.cycles stream checker stood.stands;
-    } |
-  inr past ↦ absurd (omega (arith, past.0, at.many))
+  | inl found ↦
+      let here = slice_get_read checkers (length checkers) stream checker refl within is in
+      let stood = at.each stream checker found.0 here found.2 in
+      let from_first : 0 + stream ≡ stream = omega arith in
+      record {
+        trace = stream_with t stream found.0;
+        stands = stream_at t 0 t.heads stream found.0 found.2 ∙ ap (λ (s : ℕ). Some (stream_with t s found.0)) from_first;
+        params = stood.params;
+        seen = stands_for t t.cycles stream checker stood.stands;
+      }
+  | inr past ↦ absurd (omega (arith, past.0, at.many))
 ]
 
 -- how many streams there are

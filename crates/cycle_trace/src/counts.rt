@@ -21,7 +21,10 @@ pub enum SurveyFault {
         rule: Rule,
     },
     /// There is no offence, and this is the first stream that does not end whole.
-    Unfinished { stream: usize, end: End },
+    Unfinished {
+        stream: usize,
+        end: End,
+    },
     /// There was no memory.
     Memory,
 }

@@ -85,12 +85,7 @@ fn offence_in(checkers: &mut [Checker], trace: &Trace, cycle: u32) -> Option<Fou
 }
 
 /// The lowest rule that the row of a stream in a cycle breaks.
-fn broken_by(
-    checkers: &mut [Checker],
-    trace: &Trace,
-    cycle: u32,
-    stream: usize,
-) -> Option<Rule>
+fn broken_by(checkers: &mut [Checker], trace: &Trace, cycle: u32, stream: usize) -> Option<Rule>
     requires cycle_in { cycle < (trace_view trace.now).cycles }
     requires stream_in { stream < length checkers.old }
     requires at { AreAt (trace_view trace.now) cycle stream checkers.old }

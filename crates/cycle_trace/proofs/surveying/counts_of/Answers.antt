@@ -1,4 +1,4 @@
-use Rattle.std.proofs.Common.{◌≡◌, ◌∙◌, ℕ, List, ◌++◌, ◌∷◌, [], ap}
+use Rattle.std.proofs.Common.{◌∙◌, ℕ, List, ◌++◌, ◌∷◌, [], ap}
 use Rattle.cycle_trace.specs.declared.counts.Counts.{Counts}
 use Rattle.cycle_trace.proofs.EndLemmas.{counts_in-more, counts_in-all}
 use Rattle.cycle_trace.specs.TraceView.{trace_view}
@@ -15,4 +15,4 @@ checkers-preserved c =
 pub returns : goal.returns
 returns c =
     ap (λ (streams : List (ℕ × ℕ)). let counts : Counts = record { streams = streams } in counts)
-      (c.checkers.invariant ∙ counts_in-all (trace_view c.args._trace.now) c.args.checkers.now c.checkers.checker-index c.requires c.checkers-test.false)
+    (c.checkers.invariant ∙ counts_in-all (trace_view c.args._trace.now) c.args.checkers.now c.checkers.checker-index c.requires c.checkers-test.false)
