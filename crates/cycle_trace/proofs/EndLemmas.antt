@@ -18,7 +18,7 @@ use Rattle.cycle_trace.specs.declared.counts.SurveyFault.{SurveyFault}
 use Rattle.cycle_trace.specs.declared.counts.SurveyFault.TheVariants as faults
 use Rattle.cycle_trace.specs.Trace.{TraceText, IsTrace, streams_of}
 use Rattle.cycle_trace.specs.Survey.{Answers, Surveys, counts_of, first_unfinished, or_unfinished}
-use Rattle.cycle_trace.specs.Surveying.{AreAt, NoneBefore, cycles_before, cycles_seen}
+use Rattle.cycle_trace.specs.Surveying.{AreAt, HaveCheckers, NoneBefore, cycles_before, cycles_seen}
 use Rattle.cycle_trace.proofs.PartsLemmas.{slice_get-front, slice_get-next}
 use Rattle.cycle_trace.proofs.SurveyLemmas.{stream_at, stream_with, length-streams, cycle_within}
 
@@ -34,11 +34,6 @@ stands_seen : (t : TraceText) (cycle stream : ℕ) (checker : Checker) → Stand
 stands_seen t cycle stream checker stands = rw (none_before stream) stands
 
 -- ---- before the first row
-
--- the first heads, this many, have a checker each, which has seen nothing
-pub record HaveCheckers (heads : List Head) (n : ℕ) (checkers : List Checker) : Type 0 where
-  pub many : length checkers ≡ n
-  pub each : (stream : ℕ) (checker : Checker) (head : Head) → slice_get checkers stream ≡ Some checker → slice_get heads stream ≡ Some head → (params_in checker ≡ head.params) × StandsFor checker []
 
 pub HaveCheckers-none : (heads : List Head) (checkers : List Checker) → checkers ≡ [] → HaveCheckers heads 0 checkers
 HaveCheckers-none heads checkers none = record { many = ap length none; each = λ stream checker head here there. cc }

@@ -17,6 +17,7 @@ pub mod StreamsLemmas
 pub mod SurveyLemmas
 pub mod SurveyRows
 pub mod TextSetLemmas
+pub mod TextSurveyLemmas
 pub mod TraceSpelling
 pub mod ViewLemmas
 pub mod WritingLemmas

@@ -63,12 +63,12 @@ module _ (t : TraceText) (whole : IsTrace t) (cycle stream : ℕ) (cycle_in : cy
 
 -- ---- the checkers after a row
 
-slice_get-set_same : {A : Type 0} (xs : List A) (i : ℕ) (x : A) → i < length xs → slice_get (set xs i x) i ≡ Some x
+pub slice_get-set_same : {A : Type 0} (xs : List A) (i : ℕ) (x : A) → i < length xs → slice_get (set xs i x) i ≡ Some x
 slice_get-set_same [] i x within = absurd (omega arith)
 slice_get-set_same (y ∷ xs) zero x within = refl
 slice_get-set_same (y ∷ xs) (suc i) x within = slice_get-set_same xs i x (omega arith)
 
-slice_get-set_other : {A : Type 0} (xs : List A) (i j : ℕ) (x : A) → (i ≡ j → ⊥) → slice_get (set xs i x) j ≡ slice_get xs j
+pub slice_get-set_other : {A : Type 0} (xs : List A) (i j : ℕ) (x : A) → (i ≡ j → ⊥) → slice_get (set xs i x) j ≡ slice_get xs j
 slice_get-set_other [] i j x other = refl
 slice_get-set_other (y ∷ xs) zero zero x other = absurd (other refl)
 slice_get-set_other (y ∷ xs) zero (suc j) x other = refl
@@ -84,7 +84,7 @@ seen_here cycle at stream above = ap (λ (b : Bool). if b then cycle + 1 else cy
 pub seen_before : (cycle at stream : ℕ) → stream < at → cycles_seen cycle at stream ≡ cycle + 1
 seen_before cycle at stream below = ap (λ (b : Bool). if b then cycle + 1 else cycle) (lt-ltb stream at below)
 
-seen_next : (cycle at stream : ℕ) → (at ≡ stream → ⊥) → cycles_seen cycle at stream ≡ cycles_seen cycle (suc at) stream
+pub seen_next : (cycle at stream : ℕ) → (at ≡ stream → ⊥) → cycles_seen cycle at stream ≡ cycles_seen cycle (suc at) stream
 seen_next cycle at stream other = by_cases (cases_lt stream at)
   where
     by_cases : (stream < at) ⊎ (at ≤ stream) → cycles_seen cycle at stream ≡ cycles_seen cycle (suc at) stream
@@ -94,7 +94,7 @@ seen_next cycle at stream other = by_cases (cases_lt stream at)
 cycles_before-next : (t : TraceText) (stream cycle : ℕ) (row : Cycle) → row_in t stream cycle ≡ row ∷ [] → cycles_before t stream cycle ++ row ∷ [] ≡ cycles_before t stream (cycle + 1)
 cycles_before-next t stream cycle row is = ap (λ (more : List Cycle). cycles_before t stream cycle ++ more) (sym is) ∙ ap (parts_below (row_in t stream)) (sym (add-one cycle))
 
-same_or_other : (i j : ℕ) → (i ≡ j) ⊎ (i ≡ j → ⊥)
+pub same_or_other : (i j : ℕ) → (i ≡ j) ⊎ (i ≡ j → ⊥)
 same_or_other i j = by_cases (cases_lt i j) (cases_lt j i)
   where
     by_cases : (i < j) ⊎ (j ≤ i) → (j < i) ⊎ (i ≤ j) → (i ≡ j) ⊎ (i ≡ j → ⊥)

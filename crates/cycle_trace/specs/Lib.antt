@@ -8,6 +8,7 @@ pub mod Spelling
 pub mod Survey
 pub mod Surveying
 pub mod TextSet
+pub mod TextSurvey
 pub mod Trace
 pub mod TraceText
 pub mod TraceView

@@ -1,9 +1,12 @@
 -- The survey of a trace, row by row (this project's own).
-use Rattle.std.specs.Prelude.{◌≡◌, ℕ, suc, ◌+◌, ◌<◌, ◌≤◌, nat_lt, if◌then◌else◌, List, length, ◌⊎◌, Option, Some, None, slice_get}
+use Rattle.std.specs.Prelude.{◌≡◌, ℕ, suc, ◌+◌, ◌<◌, ◌≤◌, nat_lt, if◌then◌else◌, List, [], length, map, ◌⊎◌, Option, Some, None, IfSome, slice_get}
 use Rattle.physical_stream.specs.Cycles.{Cycle}
 use Rattle.physical_stream.specs.First.{Offence, Offends, IsFirst}
 use Rattle.physical_stream.specs.Items.{parts_below}
+use Rattle.physical_stream.specs.Params.{Parameters}
 use Rattle.physical_stream.specs.Rules.{number_of_rule}
+use Rattle.physical_stream.specs.Signals.{Shows}
+use Rattle.physical_stream.specs.declared.transfer.Transfer.{Transfer}
 use Rattle.physical_stream.specs.declared.head.Head.{Head}
 use Rattle.physical_stream.specs.declared.rule.Rule.{Rule}
 use Rattle.complexity_rules.specs.Checking.{StandsFor, params_in}
@@ -28,6 +31,25 @@ pub record StandsAt (t : TraceText) (cycle at stream : ℕ) (checker : Checker) 
 pub record AreAt (t : TraceText) (cycle at : ℕ) (checkers : List Checker) : Type 0 where
   pub many : length checkers ≡ length t.heads
   pub each : (stream : ℕ) (checker : Checker) (head : Head) → slice_get checkers stream ≡ Some checker → slice_get t.heads stream ≡ Some head → StandsAt t cycle at stream checker head
+
+-- the first heads, this many, have a checker each, which has seen nothing
+pub record HaveCheckers (heads : List Head) (n : ℕ) (checkers : List Checker) : Type 0 where
+  pub many : length checkers ≡ n
+  pub each : (stream : ℕ) (checker : Checker) (head : Head) → slice_get checkers stream ≡ Some checker → slice_get heads stream ≡ Some head → (params_in checker ≡ head.params) × StandsFor checker []
+
+-- a checker of a stream stands for as many rows of it as come before this row
+pub record IsReady (cycle at stream : ℕ) (checker : Checker) : Type 0 where
+  pub before : List Cycle
+  pub stands : StandsFor checker before
+  pub many : length before ≡ cycles_seen cycle at stream
+
+-- each checker does
+pub record AreReady (cycle at : ℕ) (checkers : List Checker) : Type 0 where
+  pub each : (stream : ℕ) (checker : Checker) → slice_get checkers stream ≡ Some checker → IsReady cycle at stream checker
+
+-- the stream of this number can show what a cycle shows
+abbrev pub CanShow : List Checker → (stream : ℕ) → Option Transfer → Type 0
+CanShow checkers stream shown = (p : Parameters) → slice_get (map params_in checkers) stream ≡ Some p → IfSome shown (Shows p)
 
 -- no offence stands before the row of the stream `at` in this cycle
 abbrev pub NoneBefore : TraceText → (cycle at : ℕ) → Type 0

@@ -20,7 +20,7 @@ use std::alloc::Global;
 use tydi_base::{List, Memory};
 
 /// The most cycles of a trace.
-const MOST_CYCLES: u64 = 1_000_000;
+pub(crate) const MOST_CYCLES: u64 = 1_000_000;
 
 /// The trace that a text spells, version 1. A text has fewer than 2 ^ 32 - 1 bytes. Each error says the first fault, with its
 /// line where it has one: see `TraceFault`.
@@ -73,7 +73,7 @@ fn rows_after(
 }
 
 /// The layout of the rows of each stream.
-fn layouts_of(alloc: Global, heads: &List<Head>) -> Result<Vec<RowLayout>, Memory>
+pub(crate) fn layouts_of(alloc: Global, heads: &List<Head>) -> Result<Vec<RowLayout>, Memory>
     ensures { IfOk result (λ layouts. map (λ layout. layout.params) layouts.items ≡ params_of_heads heads.now) }
 {
     let mut layouts = Vec::with_capacity(alloc, heads.len())?;

@@ -63,7 +63,7 @@ fn room_for(alloc: Global, want: u64, bytes: usize) -> Result<List<OwnRow>, Memo
 
 /// The row that the line of this number spells.
 #[tactic(auto, unfolding(crate::specs::RowText::row_at))]
-fn row_at(alloc: Global, layout: &RowLayout, number: u64, line: &[u8]) -> Result<OwnRow, TraceFault>
+pub(crate) fn row_at(alloc: Global, layout: &RowLayout, number: u64, line: &[u8]) -> Result<OwnRow, TraceFault>
     ensures { Gives fault_in cycle_of result (rows.row_at number layout.now.params line.now) }
 {
     match read_row(alloc, layout, line) {
@@ -74,7 +74,7 @@ fn row_at(alloc: Global, layout: &RowLayout, number: u64, line: &[u8]) -> Result
 }
 
 /// The fault where no LF is left: the text ends before the row of this number of line, or in it.
-fn cut_row(rest: &[u8], want: u64, got: u64, number: u64) -> TraceFault
+pub(crate) fn cut_row(rest: &[u8], want: u64, got: u64, number: u64) -> TraceFault
     ensures { result ≡ cut_row rest.now want got number }
 {
     if rest.is_empty() {
@@ -85,7 +85,7 @@ fn cut_row(rest: &[u8], want: u64, got: u64, number: u64) -> TraceFault
 }
 
 /// The stream after this one of so many, which is the first after the last.
-fn next_stream(stream: usize, count: usize) -> usize
+pub(crate) fn next_stream(stream: usize, count: usize) -> usize
     requires { stream < count }
     ensures { result ≡ (stream + 1) % count }
 {

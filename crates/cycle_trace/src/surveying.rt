@@ -5,14 +5,15 @@ ghost use Rattle.physical_stream.specs.First.{Offends, IsFirst};
 ghost use Rattle.cycle_trace.specs.Survey.{Answers, counts_of, first_unfinished};
 ghost use Rattle.cycle_trace.specs.declared.counts.Counts.{Counts};
 ghost use Rattle.cycle_trace.specs.declared.counts.SurveyFault.{SurveyFault};
-ghost use Rattle.cycle_trace.specs.Surveying.{AreAt, NoneBefore, RowSays, RowsSay};
-ghost use Rattle.cycle_trace.specs.Trace.{streams_of};
+ghost use Rattle.cycle_trace.specs.declared.counts.SurveyFault.TheVariants as faults;
+ghost use Rattle.cycle_trace.specs.Surveying.{AreAt, HaveCheckers, NoneBefore, RowSays, RowsSay};
+ghost use Rattle.cycle_trace.specs.Trace.{IsTrace, TraceText, streams_of};
 ghost use Rattle.cycle_trace.specs.TraceView.{trace_view};
 
 use crate::counts::{Counts, SurveyFault};
 use crate::trace::Trace;
 use complexity_rules::Checker;
-use physical_stream::{End, Rule};
+use physical_stream::{End, Head, Rule};
 use std::alloc::Global;
 use tydi_base::{List, Memory};
 
@@ -24,27 +25,43 @@ pub(crate) struct Found {
     pub rule: Rule,
 }
 
+impl Found {
+    /// What a survey answers that found it.
+    pub(crate) fn fault(self) -> SurveyFault
+        ensures { result ≡ faults.Offence self.cycle self.stream self.rule }
+    {
+        SurveyFault::Offence {
+            cycle: self.cycle,
+            stream: self.stream,
+            rule: self.rule,
+        }
+    }
+}
+
 /// What each stream of a trace has done by rules 1 to 10, where the trace has no offence and each stream ends whole; else the
 /// first offence, or the first stream that does not end whole.
 pub fn survey(alloc: Global, trace: &Trace) -> Result<Counts, SurveyFault>
     ensures { Answers (streams_of (trace_view trace.now)) result }
 {
-    let mut checkers = checkers_of(alloc, trace)?;
-    if let Some(found) = first_offence(checkers.as_mut_slice(), trace) {
-        return Err(SurveyFault::Offence {
-            cycle: found.cycle,
-            stream: found.stream,
-            rule: found.rule,
-        });
+    let mut checkers = checkers_of(alloc, trace.header().heads.as_slice())?;
+    survey_by(alloc, checkers.as_mut_slice(), trace)
+}
+
+/// The survey of a trace by checkers that have seen no row of it.
+fn survey_by(alloc: Global, checkers: &mut [Checker], trace: &Trace) -> Result<Counts, SurveyFault>
+    requires { AreAt (trace_view trace.now) 0 0 checkers.old }
+    ensures { Answers (streams_of (trace_view trace.now)) result }
+{
+    match first_offence(checkers, trace) {
+        Some(found) => Err(found.fault()),
+        None => count(alloc, checkers),
     }
-    count(alloc, checkers.as_slice(), trace)
 }
 
 /// A checker for each stream, which has seen no row.
-fn checkers_of(alloc: Global, trace: &Trace) -> Result<Vec<Checker>, Memory>
-    ensures { IfOk result (λ checkers. AreAt (trace_view trace.now) 0 0 checkers.items) }
+pub(crate) fn checkers_of(alloc: Global, heads: &[Head]) -> Result<Vec<Checker>, Memory>
+    ensures { IfOk result (λ checkers. HaveCheckers heads.now (length heads.now) checkers.items) }
 {
-    let heads = trace.header().heads.as_slice();
     let mut checkers = Vec::with_capacity(alloc, heads.len())?;
     'heads: for head in heads {
         checkers.push(Checker::new(alloc, head.params)?)?;
@@ -94,24 +111,22 @@ fn broken_by(checkers: &mut [Checker], trace: &Trace, cycle: u32, stream: usize)
     checkers[stream].step(trace.row(cycle, stream))
 }
 
-/// The counts of all streams, or the first one that does not end whole, where the checkers have seen all rows.
-fn count(alloc: Global, checkers: &[Checker], trace: &Trace) -> Result<Counts, SurveyFault>
-    requires at { AreAt (trace_view trace.now) (trace_view trace.now).cycles 0 checkers.now }
-    requires legal { NoneBefore (trace_view trace.now) (trace_view trace.now).cycles 0 }
-    ensures { Answers (streams_of (trace_view trace.now)) result }
+/// The counts of all streams, or the first one that does not end whole, where the checkers have seen all rows of a trace
+/// without offence.
+pub(crate) fn count(alloc: Global, checkers: &[Checker]) -> Result<Counts, SurveyFault>
+    ensures { (t : TraceText) → IsTrace t → AreAt t t.cycles 0 checkers.now → NoneBefore t t.cycles 0 → Answers (streams_of t) result }
 {
-    if let Some(fault) = unfinished(checkers, trace) {
+    if let Some(fault) = unfinished(checkers) {
         return Err(fault);
     }
-    Ok(counts_of(alloc, checkers, trace)?)
+    Ok(counts_of(alloc, checkers)?)
 }
 
 /// That a stream does not end whole, and which the first one is, where the checkers have seen all rows.
-fn unfinished(checkers: &[Checker], _trace: &Trace) -> Option<SurveyFault>
-    requires { AreAt (trace_view _trace.now) (trace_view _trace.now).cycles 0 checkers.now }
-    ensures { (found : Result Counts SurveyFault) → MatchOption result
-        (first_unfinished 0 (streams_of (trace_view _trace.now)) found ≡ found)
-        (λ fault. first_unfinished 0 (streams_of (trace_view _trace.now)) found ≡ Err fault) }
+fn unfinished(checkers: &[Checker]) -> Option<SurveyFault>
+    ensures { (t : TraceText) → AreAt t t.cycles 0 checkers.now → (found : Result Counts SurveyFault) → MatchOption result
+        (first_unfinished 0 (streams_of t) found ≡ found)
+        (λ fault. first_unfinished 0 (streams_of t) found ≡ Err fault) }
 {
     'checkers: for (stream, checker) in checkers.iter().enumerate() {
         match checker.end() {
@@ -123,9 +138,8 @@ fn unfinished(checkers: &[Checker], _trace: &Trace) -> Option<SurveyFault>
 }
 
 /// The transfers and the packets that each stream has done, where the checkers have seen all rows.
-fn counts_of(alloc: Global, checkers: &[Checker], _trace: &Trace) -> Result<Counts, Memory>
-    requires { AreAt (trace_view _trace.now) (trace_view _trace.now).cycles 0 checkers.now }
-    ensures { IfOk result (λ counts. counts ≡ counts_of (streams_of (trace_view _trace.now))) }
+fn counts_of(alloc: Global, checkers: &[Checker]) -> Result<Counts, Memory>
+    ensures { IfOk result (λ counts. (t : TraceText) → AreAt t t.cycles 0 checkers.now → counts ≡ counts_of (streams_of t)) }
 {
     let mut streams = List::new(alloc);
     'checkers: for checker in checkers {

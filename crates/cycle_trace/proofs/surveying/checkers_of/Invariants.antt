@@ -1,4 +1,4 @@
-use Rattle.cycle_trace.proofs.EndLemmas.{HaveCheckers}
+use Rattle.cycle_trace.specs.Surveying.{HaveCheckers}
 use Rattle.cycle_trace.proofs.surveying.checkers_of.Given as goal
 
 abbrev pub invariant-heads : goal.invariant-heads
