@@ -29,6 +29,7 @@ impl Moment {
     }
 }
 
+/// The word of this width that spells this number. The tests give such as fit; another is an error of the test.
 fn word_of(alloc: Global, width: usize, number: u128) -> Result<Bits, Memory> {
     match Bits::from_number(alloc, width, number)? {
         Some(word) => Ok(word),
@@ -61,6 +62,7 @@ pub(crate) struct Told {
     pub packets: usize,
 }
 
+/// A stream without user word. The tests give such as are in the ranges.
 pub(crate) fn params_of(lanes: u16, dims: u8, level: u8, element: u32) -> Result<Params, Memory> {
     let level = Level::new(level).ok_or(Memory)?;
     Params::new(lanes, dims, level, element, 0).ok_or(Memory)
