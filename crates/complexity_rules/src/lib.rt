@@ -7,7 +7,11 @@ mod breaking;
 mod checker;
 mod checking;
 mod levels;
+#[cfg(test)]
+mod moments;
 mod pauses;
+#[cfg(test)]
+mod sweep_tests;
 mod table;
 #[cfg(test)]
 mod table_tests;

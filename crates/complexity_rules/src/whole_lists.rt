@@ -1,56 +1,10 @@
 //! The rules over whole lists of cycles, slowly, in the words in which they are told: what a checker is tried against. It is
-//! for streams of two lanes and at most two dimensions, whose words are given as numbers.
+//! for streams of two lanes and at most two dimensions.
 
-use physical_stream::{End, Item, Params, Rule, Tail, Transfer, items_of};
+use crate::moments::{Moment, Payload, Told, transfer_of};
+use physical_stream::{End, Item, Params, Rule, Tail, items_of};
 use std::alloc::Global;
-use tydi_base::{Bits, List, Memory};
-
-/// What a cycle shows, by numbers.
-#[derive(Clone, Copy, Debug, PartialEq, Eq)]
-pub(crate) struct Payload {
-    pub content: u128,
-    pub last: u128,
-    pub stai: u16,
-    pub endi: u16,
-    pub strb: u128,
-}
-
-/// A cycle, by numbers.
-#[derive(Clone, Copy, Debug, PartialEq, Eq)]
-pub(crate) struct Moment {
-    pub ready: bool,
-    pub shown: Option<Payload>,
-}
-
-impl Moment {
-    /// Whether a transfer is done.
-    fn is_done(&self) -> bool {
-        self.ready && self.shown.is_some()
-    }
-}
-
-fn word_of(alloc: Global, width: usize, number: u128) -> Result<Bits, Memory> {
-    match Bits::from_number(alloc, width, number)? {
-        Some(word) => Ok(word),
-        None => Err(Memory),
-    }
-}
-
-pub(crate) fn transfer_of(
-    alloc: Global,
-    p: &Params,
-    payload: &Payload,
-) -> Result<Transfer, Memory> {
-    let lanes = usize::from(p.lanes);
-    Ok(Transfer {
-        content: word_of(alloc, lanes * p.element as usize, payload.content)?,
-        last: word_of(alloc, lanes * usize::from(p.dims), payload.last)?,
-        stai: payload.stai,
-        endi: payload.endi,
-        strb: payload.strb,
-        user: word_of(alloc, p.user as usize, 0)?,
-    })
-}
+use tydi_base::{List, Memory};
 
 fn kind_of(item: &Item) -> Tail {
     match item {
@@ -272,15 +226,6 @@ pub(crate) fn broken_by(
         None => broken_by_pause(alloc, p, before, now),
         Some(payload) => broken_by_shown(alloc, p, before, now, payload),
     }
-}
-
-/// What is told of cycles as a whole.
-#[derive(Clone, Copy, Debug, PartialEq, Eq)]
-pub(crate) struct Told {
-    pub end: End,
-    pub tail: Option<Tail>,
-    pub transfers: usize,
-    pub packets: usize,
 }
 
 /// How cycles end.
