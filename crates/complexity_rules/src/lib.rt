@@ -11,7 +11,11 @@ mod pauses;
 mod table;
 #[cfg(test)]
 mod table_tests;
+#[cfg(test)]
+mod tests;
 mod walk;
+#[cfg(test)]
+mod whole_lists;
 
 pub use checker::Checker;
 pub use levels::levels_are_kept;

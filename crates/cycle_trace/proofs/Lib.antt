@@ -1,3 +1,4 @@
+pub mod EndLemmas
 pub mod FormLemmas
 pub mod HeadSpelling
 pub mod HeaderLemmas

@@ -118,10 +118,10 @@ fn unfinished(checkers: &[Checker], _trace: &Trace) -> Option<SurveyFault>
         (first_unfinished 0 (streams_of (trace_view _trace.now)) found ≡ found)
         (λ fault. first_unfinished 0 (streams_of (trace_view _trace.now)) found ≡ Err fault) }
 {
-    for (stream, checker) in checkers.iter().enumerate() {
-        let end = checker.end();
-        if end != End::Whole {
-            return Some(SurveyFault::Unfinished { stream, end });
+    'checkers: for (stream, checker) in checkers.iter().enumerate() {
+        match checker.end() {
+            End::Whole => {}
+            end => return Some(SurveyFault::Unfinished { stream, end }),
         }
     }
     None
@@ -133,7 +133,7 @@ fn counts_of(alloc: Global, checkers: &[Checker], _trace: &Trace) -> Result<Coun
     ensures { IfOk result (λ counts. counts ≡ counts_of (streams_of (trace_view _trace.now))) }
 {
     let mut streams = List::new(alloc);
-    for checker in checkers {
+    'checkers: for checker in checkers {
         streams.push((checker.transfers(), checker.packets()))?;
     }
     Ok(Counts { streams })

@@ -1,0 +1,187 @@
+-- What the checkers of a trace say before its first row and after its last one.
+use Rattle.std.proofs.Common.{◌≡◌, ◌≢◌, ◌∙◌, ℕ, suc, ◌+◌, ◌<◌, ◌≤◌, inl, inr, ◌⊎◌, Bool, false, nat_lt, List, [], ◌∷◌, ◌++◌, length, map, take, drop, get_or, slice_get, Option, None, Some, Result, Ok, Err, add-one, refl, sym, ap, subst, arith}
+use Rattle.std.proofs.lemmas.Bool.{cases_lt}
+use Rattle.std.proofs.lemmas.Bool.Decides.{nat_tests}
+use Rattle.std.proofs.lemmas.List.{length_push, drop_more, drop_all, map_more, take_all}
+use Rattle.std.proofs.lemmas.Option.{slice_get_cases, slice_get_read, slice_get_within, get_or_from_slice_get}
+use Rattle.physical_stream.specs.Cycles.{Cycle, StreamTrace}
+use Rattle.physical_stream.specs.Counts.{transfers_of, packets_of}
+use Rattle.physical_stream.specs.Ending.{ending_of}
+use Rattle.physical_stream.specs.First.{Offence, Offends, IsFirst}
+use Rattle.physical_stream.specs.declared.end.End.{End}
+use Rattle.physical_stream.specs.declared.end.End.TheVariants as ends
+use Rattle.physical_stream.specs.declared.head.Head.{Head}
+use Rattle.complexity_rules.specs.Checking.{StandsFor, params_in}
+use Rattle.complexity_rules.specs.declared.checker.Checker.{Checker}
+use Rattle.cycle_trace.specs.declared.counts.Counts.{Counts}
+use Rattle.cycle_trace.specs.declared.counts.SurveyFault.{SurveyFault}
+use Rattle.cycle_trace.specs.declared.counts.SurveyFault.TheVariants as faults
+use Rattle.cycle_trace.specs.Trace.{TraceText, IsTrace, row_in, streams_of}
+use Rattle.cycle_trace.specs.Survey.{Answers, Surveys, counts_of, first_unfinished, or_unfinished}
+use Rattle.cycle_trace.specs.Surveying.{AreAt, NoneBefore, StandsAt, cycles_before, cycles_seen}
+use Rattle.cycle_trace.proofs.PartsLemmas.{slice_get-front, slice_get-next}
+use Rattle.cycle_trace.proofs.SurveyLemmas.{stream_at, stream_with, length-streams, cycle_within}
+
+-- no stream comes before the first one
+none_before : (stream : ℕ) → nat_lt stream 0 ≡ false
+none_before stream = grind (arith, nat_tests)
+
+-- before the row of the first stream in a cycle, the rows of the cycles before are seen
+stands_for : (t : TraceText) (cycle stream : ℕ) (checker : Checker) → StandsFor checker (cycles_before t stream (cycles_seen cycle 0 stream)) → StandsFor checker (cycles_before t stream cycle)
+stands_for t cycle stream checker stands = rw (none_before stream) at stands
+
+stands_seen : (t : TraceText) (cycle stream : ℕ) (checker : Checker) → StandsFor checker (cycles_before t stream cycle) → StandsFor checker (cycles_before t stream (cycles_seen cycle 0 stream))
+stands_seen t cycle stream checker stands = rw (none_before stream) stands
+
+-- ---- before the first row
+
+-- the first heads, this many, have a checker each, which has seen nothing
+pub record HaveCheckers (heads : List Head) (n : ℕ) (checkers : List Checker) : Type 0 where
+  pub many : length checkers ≡ n
+  pub each : (stream : ℕ) (checker : Checker) (head : Head) → slice_get checkers stream ≡ Some checker → slice_get heads stream ≡ Some head → (params_in checker ≡ head.params) × StandsFor checker []
+
+pub HaveCheckers-none : (heads : List Head) (checkers : List Checker) → checkers ≡ [] → HaveCheckers heads 0 checkers
+HaveCheckers-none heads checkers none = record { many = ap length none; each = λ stream checker head here there. cc }
+
+pub HaveCheckers-more : (heads : List Head) (n : ℕ) (checkers : List Checker) (checker : Checker) (head : Head) → HaveCheckers heads n checkers → n < length heads → head ≡ get_or heads n head →
+    params_in checker ≡ head.params → StandsFor checker [] → HaveCheckers heads (n + 1) (checkers ++ checker ∷ [])
+HaveCheckers-more heads n checkers checker head have within is params stands = record { many = length_push checkers checker ∙ ap (λ (k : ℕ). k + 1) have.many; each = each }
+  where
+    at_end : (stream : ℕ) (c : Checker) (h : Head) → stream ≡ n → slice_get (checkers ++ checker ∷ []) stream ≡ Some c → slice_get heads stream ≡ Some h → (params_in c ≡ h.params) × StandsFor c []
+    at_end stream c h last here there =
+        let same_checker : checker ≡ c = let e = slice_get-next checkers checker stream (last ∙ sym have.many) in cc in
+        let same_head : head ≡ h = let e = slice_get_read heads (length heads) n head refl within is in let f = ap (slice_get heads) last in cc in
+        (ap params_in (sym same_checker) ∙ params ∙ ap (λ (x : Head). x.params) same_head, subst (λ (x : Checker). StandsFor x []) same_checker stands)
+
+    each : (stream : ℕ) (c : Checker) (h : Head) → slice_get (checkers ++ checker ∷ []) stream ≡ Some c → slice_get heads stream ≡ Some h → (params_in c ≡ h.params) × StandsFor c []
+    each stream c h here there = elim (cases_lt stream n) [
+      inl less ↦ have.each stream c h (sym (slice_get-front checkers (checker ∷ []) stream (omega (arith, have.many))) ∙ here) there |
+      inr more ↦ at_end stream c h (omega (arith, slice_get_within (checkers ++ checker ∷ []) stream c here, length_push checkers checker, have.many)) here there
+    ]
+
+pub HaveCheckers-all : (t : TraceText) (n : ℕ) (checkers : List Checker) → HaveCheckers t.heads n checkers → n ≡ length t.heads → AreAt t 0 0 checkers
+HaveCheckers-all t n checkers have all = record {
+  many = have.many ∙ all;
+  each = λ stream checker head here there.
+    let found = have.each stream checker head here there in
+    record { params = found.0; stands = stands_seen t 0 stream checker found.1 };
+}
+
+-- ---- after the last row
+
+-- a stream, and the checker that stands for it
+pub record Checks (t : TraceText) (stream : ℕ) (checker : Checker) : Type 0 where
+  pub trace : StreamTrace
+  pub stands : slice_get (streams_of t) stream ≡ Some trace
+  pub params : params_in checker ≡ trace.params
+  pub seen : StandsFor checker trace.cycles
+
+pub checks_stream : (t : TraceText) (checkers : List Checker) (stream : ℕ) (checker : Checker) → AreAt t t.cycles 0 checkers → stream < length checkers → checker ≡ get_or checkers stream checker → Checks t stream checker
+checks_stream t checkers stream checker at within is = elim (slice_get_cases t.heads stream).1 [
+  inl found ↦
+    let here = slice_get_read checkers (length checkers) stream checker refl within is in
+    let stood = at.each stream checker found.0 here found.2 in
+    let from_first : 0 + stream ≡ stream = omega arith in
+    record {
+      trace = stream_with t stream found.0;
+      stands = stream_at t 0 t.heads stream found.0 found.2 ∙ ap (λ (s : ℕ). Some (stream_with t s found.0)) from_first;
+      params = stood.params;
+      seen = stands_for t t.cycles stream checker stood.stands;
+    } |
+  inr past ↦ absurd (omega (arith, past.0, at.many))
+]
+
+-- how many streams there are
+many_streams : (t : TraceText) (checkers : List Checker) → AreAt t t.cycles 0 checkers → length (streams_of t) ≡ length checkers
+many_streams t checkers at = length-streams t 0 t.heads ∙ sym at.many
+
+-- the streams from one on that ends so
+first-here : (streams : List StreamTrace) (i : ℕ) (trace : StreamTrace) (found : Result Counts SurveyFault) → slice_get streams i ≡ Some trace →
+    first_unfinished i (drop i streams) found ≡ or_unfinished i (ending_of trace.params trace.cycles) (first_unfinished (i + 1) (drop (i + 1) streams) found)
+first-here streams i trace found is =
+    let within = slice_get_within streams i trace is in
+    let parts = drop_more streams i trace within in
+    let same = get_or_from_slice_get streams i trace trace is in
+    let next : suc i ≡ i + 1 = omega arith in
+    ap (λ (rest : List StreamTrace). first_unfinished i rest found) (parts ∙ ap (λ (s : StreamTrace). s ∷ drop (i + 1) streams) same)
+    ∙ ap (λ (k : ℕ). or_unfinished i (ending_of trace.params trace.cycles) (first_unfinished k (drop (i + 1) streams) found)) next
+
+-- what is found from the first stream on is what is found from this one on
+abbrev pub GoesOn : TraceText → ℕ → Type 0
+GoesOn t i = (found : Result Counts SurveyFault) → first_unfinished 0 (streams_of t) found ≡ first_unfinished i (drop i (streams_of t)) found
+
+-- a checker tells how its stream ends
+abbrev pub TellsEnd : Checker → End → Type 0
+TellsEnd checker end = (cycles : List Cycle) → StandsFor checker cycles → end ≡ ending_of (params_in checker) cycles
+
+ends_here : (t : TraceText) (checkers : List Checker) (i : ℕ) (checker : Checker) (end : End) → AreAt t t.cycles 0 checkers → i < length checkers → checker ≡ get_or checkers i checker → TellsEnd checker end → GoesOn t i →
+    (found : Result Counts SurveyFault) → first_unfinished 0 (streams_of t) found ≡ or_unfinished i end (first_unfinished (i + 1) (drop (i + 1) (streams_of t)) found)
+ends_here t checkers i checker end at within is tells goes found =
+    let h = checks_stream t checkers i checker at within is in
+    let end_is : ending_of h.trace.params h.trace.cycles ≡ end = sym (tells h.trace.cycles h.seen ∙ ap (λ p. ending_of p h.trace.cycles) h.params) in
+    goes found ∙ first-here (streams_of t) i h.trace found h.stands
+    ∙ ap (λ (e : End). or_unfinished i e (first_unfinished (i + 1) (drop (i + 1) (streams_of t)) found)) end_is
+
+pub GoesOn-more : (t : TraceText) (checkers : List Checker) (i : ℕ) (checker : Checker) (end : End) → AreAt t t.cycles 0 checkers → i < length checkers → checker ≡ get_or checkers i checker → TellsEnd checker end → GoesOn t i →
+    end ≡ ends.Whole → GoesOn t (i + 1)
+GoesOn-more t checkers i checker end at within is tells goes whole found =
+    ends_here t checkers i checker end at within is tells goes found ∙ ap (λ (e : End). or_unfinished i e (first_unfinished (i + 1) (drop (i + 1) (streams_of t)) found)) whole
+
+not_whole : (i : ℕ) (end : End) (found : Result Counts SurveyFault) → end ≢ ends.Whole → or_unfinished i end found ≡ Err (faults.Unfinished i end)
+not_whole i ends.Whole found unlike = absurd (unlike refl)
+not_whole i ends.Pending found unlike = refl
+not_whole i (ends.Unclosed k) found unlike = refl
+
+pub GoesOn-ends : (t : TraceText) (checkers : List Checker) (i : ℕ) (checker : Checker) (end : End) → AreAt t t.cycles 0 checkers → i < length checkers → checker ≡ get_or checkers i checker → TellsEnd checker end → GoesOn t i →
+    end ≢ ends.Whole → (found : Result Counts SurveyFault) → first_unfinished 0 (streams_of t) found ≡ Err (faults.Unfinished i end)
+GoesOn-ends t checkers i checker end at within is tells goes unlike found =
+    ends_here t checkers i checker end at within is tells goes found ∙ not_whole i end (first_unfinished (i + 1) (drop (i + 1) (streams_of t)) found) unlike
+
+pub GoesOn-all : (t : TraceText) (checkers : List Checker) (i : ℕ) → AreAt t t.cycles 0 checkers → length checkers ≤ i → GoesOn t i → (found : Result Counts SurveyFault) → first_unfinished 0 (streams_of t) found ≡ found
+GoesOn-all t checkers i at past goes found =
+    goes found ∙ ap (λ (rest : List StreamTrace). first_unfinished i rest found) (drop_all i (streams_of t) (omega (arith, many_streams t checkers at)))
+
+-- ---- counts
+
+-- the transfers and the packets of a stream
+abbrev pub count_in : StreamTrace → ℕ × ℕ
+count_in s = (transfers_of s.cycles, packets_of s.params s.cycles)
+
+-- those of the first streams, this many
+abbrev pub counts_in : TraceText → ℕ → List (ℕ × ℕ)
+counts_in t i = map count_in (take i (streams_of t))
+
+pub counts_in-more : (t : TraceText) (checkers : List Checker) (i : ℕ) (checker : Checker) (transfers packets : ℕ) → AreAt t t.cycles 0 checkers → i < length checkers → checker ≡ get_or checkers i checker →
+    ((cycles : List Cycle) → StandsFor checker cycles → transfers ≡ transfers_of cycles) → ((cycles : List Cycle) → StandsFor checker cycles → packets ≡ packets_of (params_in checker) cycles) →
+    counts_in t i ++ (transfers, packets) ∷ [] ≡ counts_in t (i + 1)
+counts_in-more t checkers i checker transfers packets at within is tells_transfers tells_packets =
+    let h = checks_stream t checkers i checker at within is in
+    let here = get_or_from_slice_get (streams_of t) i h.trace h.trace h.stands in
+    let done : transfers ≡ transfers_of h.trace.cycles = tells_transfers h.trace.cycles h.seen in
+    let packed : packets ≡ packets_of h.trace.params h.trace.cycles = tells_packets h.trace.cycles h.seen ∙ ap (λ p. packets_of p h.trace.cycles) h.params in
+    let same : ◌≡◌ {A = ℕ × ℕ} (transfers, packets) (count_in h.trace) = ap (λ (n : ℕ). (n, packets)) done ∙ ap (λ (n : ℕ). (transfers_of h.trace.cycles, n)) packed in
+    ap (λ (x : ℕ × ℕ). counts_in t i ++ x ∷ []) (same ∙ sym (ap count_in here)) ∙ sym (map_more count_in (streams_of t) i h.trace (slice_get_within (streams_of t) i h.trace h.stands))
+
+pub counts_in-all : (t : TraceText) (checkers : List Checker) (i : ℕ) → AreAt t t.cycles 0 checkers → length checkers ≤ i → counts_in t i ≡ (counts_of (streams_of t)).streams
+counts_in-all t checkers i at past = ap (λ (streams : List StreamTrace). map count_in streams) (take_all i (streams_of t) (omega (arith, many_streams t checkers at)))
+
+-- ---- the whole survey
+
+-- no row breaks a rule
+pub none_offends : (t : TraceText) → IsTrace t → NoneBefore t t.cycles 0 → IsFirst (Offends (streams_of t)) None
+none_offends t whole none o offends = none o offends (inl (cycle_within t whole o offends).0)
+
+pub answers_fault : (t : TraceText) (fault : SurveyFault) → IsTrace t → NoneBefore t t.cycles 0 → ((found : Result Counts SurveyFault) → first_unfinished 0 (streams_of t) found ≡ Err fault) → Answers (streams_of t) (Err fault)
+answers_fault t fault whole none is = by_fault fault (record { first = None; is_first = none_offends t whole none; says = sym (is (Ok (counts_of (streams_of t)))) })
+  where
+    by_fault : (f : SurveyFault) → Surveys (streams_of t) (Err f) → Answers (streams_of t) (Err f)
+    by_fault (faults.Offence cycle stream rule) h = h
+    by_fault (faults.Unfinished stream end) h = h
+    by_fault faults.Memory h = tt
+
+pub surveys_counts : (t : TraceText) (counts : Counts) → IsTrace t → NoneBefore t t.cycles 0 → ((found : Result Counts SurveyFault) → first_unfinished 0 (streams_of t) found ≡ found) → counts ≡ counts_of (streams_of t) → Surveys (streams_of t) (Ok counts)
+surveys_counts t counts whole none is same = record {
+  first = None;
+  is_first = none_offends t whole none;
+  says = ap (λ (c : Counts). Ok c) same ∙ sym (is (Ok (counts_of (streams_of t))));
+}
