@@ -7,11 +7,12 @@ use Rattle.physical_stream.specs.First.{Offence, Offends, IsFirst}
 use Rattle.physical_stream.specs.declared.end.End.{End}
 use Rattle.physical_stream.specs.declared.end.End.TheVariants as ends
 use Rattle.physical_stream.specs.declared.head.Head.{Head}
-use Rattle.cycle_trace.specs.Trace.{TraceText, streams_from, streams_of}
+use Rattle.cycle_trace.specs.Trace.{TraceText, streams_of}
 use Rattle.cycle_trace.specs.Survey.{Surveys, Answers, survey_of, counts_of, or_unfinished, first_unfinished}
 use Rattle.cycle_trace.specs.declared.counts.Counts.{Counts}
 use Rattle.cycle_trace.specs.declared.counts.SurveyFault.{SurveyFault}
 use Rattle.cycle_trace.specs.declared.counts.SurveyFault.TheVariants as faults
+use Rattle.cycle_trace.proofs.SurveyLemmas.{length-streams}
 use Rattle.tydi_tool.specs.Lines.{counts_text}
 use Rattle.tydi_tool.specs.Telling.{IsFoundAmong}
 
@@ -43,13 +44,9 @@ Answers-among streams (Err (faults.Offence cycle stream rule)) answers = Surveys
 Answers-among streams (Err (faults.Unfinished stream end)) answers = Surveys-among streams (Err (faults.Unfinished stream end)) answers
 Answers-among streams (Err faults.Memory) answers = tt
 
-length-streams_from : (t : TraceText) (stream : ℕ) (heads : List Head) → length (streams_from t stream heads) ≡ length heads
-length-streams_from t stream [] = refl
-length-streams_from t stream (head ∷ heads) = ap suc (length-streams_from t (suc stream) heads)
-
 -- what a survey answers names one of the streams of the header
 pub IsFoundAmong-heads : (t : TraceText) (found : Result Counts SurveyFault) → Answers (streams_of t) found → IsFoundAmong (length t.heads) found
-IsFoundAmong-heads t found answers = subst (λ (n : ℕ). IsFoundAmong n found) (length-streams_from t 0 t.heads) (Answers-among (streams_of t) found answers)
+IsFoundAmong-heads t found answers = subst (λ (n : ℕ). IsFoundAmong n found) (length-streams t 0 t.heads) (Answers-among (streams_of t) found answers)
 
 -- ---- the lines of the streams
 
