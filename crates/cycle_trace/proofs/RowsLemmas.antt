@@ -85,7 +85,7 @@ some_stream : (cycles count got : ℕ) → got < cycles * count → 0 < count
 some_stream cycles zero got lt = let none : cycles * 0 ≡ 0 = omega arith in absurd (omega arith)
 some_stream cycles (suc count) got lt = omega arith
 
-turn_below : (cycles count turn stream got : ℕ) → got ≡ turn * count + stream → got < cycles * count → turn < cycles
+pub turn_below : (cycles count turn stream got : ℕ) → got ≡ turn * count + stream → got < cycles * count → turn < cycles
 turn_below cycles count turn stream got place lt = lt_of_not-le (λ (large : cycles ≤ turn). let more : cycles * count ≤ turn * count = mul-le-mul_right count large in omega arith)
 
 abbrev left_after : ℕ → ℕ → Cycles

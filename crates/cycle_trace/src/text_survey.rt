@@ -86,9 +86,10 @@ fn survey_by(
     requires fresh { AreReady 0 0 checkers.old }
     ensures { AnswersRows (rows_from (cycles * length layouts.now) 0 (3 + length layouts.now) (owed (map (λ layout. layout.params) layouts.now) cycles) (lines_of text.now)) cycles (length layouts.now) checkers.old result }
 {
-    match first_offence(alloc, layouts, checkers, cycles, text)? {
-        Some(found) => Ok(Err(found.fault())),
-        None => Ok(count(alloc, checkers)),
+    match first_offence(alloc, layouts, checkers, cycles, text) {
+        Ok(Some(found)) => Ok(Err(found.fault())),
+        Ok(None) => Ok(count(alloc, checkers)),
+        Err(e) => Err(e),
     }
 }
 
