@@ -1,17 +1,20 @@
 -- What is said of the text of a trace (this project's own).
-use Rattle.std.specs.Prelude.{ℕ, List, Option}
-use Rattle.cycle_trace.specs.Trace.{TraceText}
+use Rattle.std.specs.Prelude.{ℕ, List, Option, Result}
+use Rattle.physical_stream.specs.declared.head.Head.{Head}
+use Rattle.cycle_trace.specs.declared.counts.Counts.{Counts}
+use Rattle.cycle_trace.specs.declared.counts.SurveyFault.{SurveyFault}
 use Rattle.cycle_trace.specs.TraceText.{trace_of}
 use Rattle.tydi_tool.specs.declared.answer.Reply.{Reply}
 use Rattle.tydi_tool.specs.declared.answer.Reply.TheVariants as replies
 use Rattle.tydi_tool.specs.declared.refusal.Refusal.{Refusal}
-use Rattle.tydi_tool.specs.Answers.{TellsTrace, TellsRefusal, TellsReading}
+use Rattle.tydi_tool.specs.Answers.{TellsRefusal, TellsReading}
+use Rattle.tydi_tool.specs.Telling.{TellsFound}
 
--- the answer on a trace, or want of memory
-abbrev pub JudgesTrace : TraceText → Reply → Type 0
-JudgesTrace trace (replies.Says a) = TellsTrace trace a
-JudgesTrace trace (replies.ReadFault line) = ⊥
-JudgesTrace trace replies.Memory = Unit {0}
+-- the answer on what was found of the streams of these heads, or want of memory
+abbrev pub JudgesFound : List Head → Result Counts SurveyFault → Reply → Type 0
+JudgesFound heads found (replies.Says a) = TellsFound heads found a
+JudgesFound heads found (replies.ReadFault line) = ⊥
+JudgesFound heads found replies.Memory = Unit {0}
 
 -- the answer on a text that is refused, or want of memory
 abbrev pub JudgesRefusal : List ℕ → Option Refusal → Reply → Type 0

@@ -1,15 +1,15 @@
 ghost use Rattle.std.specs.Prelude.{◌≡◌, ◌<◌, ◌-◌, ◌^◌, ◌⊎◌, length};
-ghost use Rattle.cycle_trace.specs.TraceView.{trace_view};
-ghost use Rattle.tydi_tool.specs.Judging.{Judges, JudgesRefusal, JudgesTrace};
+ghost use Rattle.tydi_tool.specs.Judging.{Judges, JudgesFound, JudgesRefusal};
 ghost use Rattle.tydi_tool.specs.Lines.{refusal_line};
 ghost use Rattle.tydi_tool.specs.Refusals.{refusal_of};
+ghost use Rattle.tydi_tool.specs.Telling.{IsFoundAmong};
 ghost use Rattle.tydi_tool.specs.declared.answer.Answer.TheVariants as answers;
 ghost use Rattle.tydi_tool.specs.declared.answer.Reply.TheVariants as replies;
 
 use crate::answer::{Answer, Reply};
 use crate::refusal::Refusal;
 use crate::telling::{refuse, tell};
-use cycle_trace::{Trace, TraceFault, read, survey};
+use cycle_trace::{Surveyed, TraceFault, survey_text};
 use std::alloc::Global;
 use tydi_base::{Memory, Text};
 
@@ -18,17 +18,19 @@ pub(crate) fn judge_trace(alloc: Global, word: &Text, text: &[u8]) -> Reply
     requires { length text.now < 2 ^ 32 - 1 }
     ensures { Judges word.now text.now result }
 {
-    match read(alloc, text) {
-        Ok(trace) => surveyed(alloc, &trace),
+    match survey_text(alloc, text) {
+        Ok(surveyed) => told(alloc, surveyed),
         Err(fault) => faulted(alloc, fault, word),
     }
 }
 
-/// What is said of a trace that was read.
-fn surveyed(alloc: Global, trace: &Trace) -> Reply
-    ensures { JudgesTrace (trace_view trace.now) result }
+/// What is said of a trace that was surveyed.
+fn told(alloc: Global, surveyed: Surveyed) -> Reply
+    requires { IsFoundAmong (length surveyed.header.heads) surveyed.found }
+    ensures { JudgesFound surveyed.header.heads surveyed.found result }
 {
-    match tell(alloc, trace.header(), survey(alloc, trace)) {
+    let Surveyed { header, found } = surveyed;
+    match tell(alloc, &header, found) {
         Ok(answer) => Reply::Says(answer),
         Err(Memory) => Reply::Memory,
     }
