@@ -16,6 +16,8 @@ mod row_layout;
 mod row_text;
 mod rows;
 mod rows_text;
+#[cfg(test)]
+mod survey_tests;
 mod surveyed;
 mod surveying;
 #[cfg(test)]
