@@ -13,11 +13,14 @@ pub mod RowsLemmas
 pub mod RowsSpelling
 pub mod ShownLemmas
 pub mod SignalSpelling
+pub mod SizedLemmas
 pub mod StreamsLemmas
+pub mod StrobeLemmas
 pub mod SurveyLemmas
 pub mod SurveyRows
 pub mod TextSetLemmas
 pub mod TextSurveyLemmas
 pub mod TraceSpelling
 pub mod ViewLemmas
+pub mod WordFieldLemmas
 pub mod WritingLemmas

@@ -99,7 +99,7 @@ path_text-plain (name ∷ names) each = join-plain 46 (name ∷ names) refl (nam
 
 -- ---- lines of plain words
 
-plain-lacks : (separator : ℕ) (word : List ℕ) → separator ≤ 32 → is_plain word ≡ true → Lacks separator word
+pub plain-lacks : (separator : ℕ) (word : List ℕ) → separator ≤ 32 → is_plain word ≡ true → Lacks separator word
 plain-lacks separator word low e = All-from_get_or (λ byte. byte ≢ separator) word 0 (λ k lt same.
     let test = All-get_or (λ byte. nat_lt 32 byte ≡ true) word k 0 lt (AllPass-from_list_all (λ byte. nat_lt 32 byte) word e) in
     absurd (grind (arith, nat_tests)))

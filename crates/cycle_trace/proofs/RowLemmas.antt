@@ -2,15 +2,13 @@
 use Rattle.std.proofs.Common.{◌≡◌, ℕ, ◌^◌, ◌<◌, ◌≤◌, Bool, true, false, nat_le, nat_lt, List, length, Option, Some, None, Ok, Err, refl, sym, ◌∙◌, arith}
 use Rattle.std.proofs.lemmas.Bool.Decides.{nat_tests}
 use Rattle.std.proofs.lemmas.List.{length-replicate}
-use Rattle.std.proofs.Math.ListN.{drop_of_length-le}
 use Rattle.tydi_base.specs.Reading.{or_fault}
-use Rattle.tydi_base.specs.Bits.{zero_bits, number_of_bits}
+use Rattle.tydi_base.specs.Bits.{zero_bits}
 use Rattle.tydi_base.specs.Decimal.{decimal_of, below}
-use Rattle.tydi_base.specs.Hex.{word_at, no_ones}
-use Rattle.tydi_base.specs.Numbers.{number_below}
+use Rattle.tydi_base.specs.Hex.{word_at}
 use Rattle.tydi_base.proofs.ReadingLaws.{bind_ok, or_fault_ok, ok_is}
 use Rattle.tydi_base.proofs.HexLemmas.{hex_of-word_at}
-use Rattle.cycle_trace.specs.RowText.{value_of, word_field, index_of, strobe_field}
+use Rattle.cycle_trace.specs.RowText.{value_of, word_field, index_of}
 use Rattle.cycle_trace.proofs.HeaderLemmas.{below-short}
 
 -- a word of bits has its width
@@ -22,27 +20,6 @@ word_field-length true key width words x e =
     let b = bind_ok (or_fault tt (word_at width a.0.0)) _ x a.2 in
     let same = ok_is (b.0, a.0.1) x b.2 in
     rw (← same) (hex_of-word_at width a.0.0 b.0 (or_fault_ok tt (word_at width a.0.0) b.0 b.1)).1
-
--- ---- the strobe
-
-pub number_below-narrow : (place : ℕ) (bits : List Bool) → length bits ≤ place → number_below place bits ≡ Some (number_of_bits bits)
-unfolding number_below no_ones
-number_below-narrow place bits le = rw (drop_of_length-le bits le) refl
-
--- the strobe bits, as they are read
-pub strobe_field-read : (lanes : ℕ) (words rest : List (List ℕ)) (bits : List Bool) (n : ℕ) → lanes ≤ 128 → word_field true 98 lanes words ≡ Ok (bits, rest) → number_below 128 bits ≡ Some n → strobe_field true lanes words ≡ Ok (n, rest)
-unfolding strobe_field
-strobe_field-read lanes words rest bits n narrow read number =
-    let wide = word_field-length true 98 lanes words (bits, rest) read in
-    let whole : Some (number_of_bits bits) ≡ Some n = sym (number_below-narrow 128 bits (omega (arith, wide))) ∙ number in
-    let same : number_of_bits bits ≡ n = cc in
-    rw (read, same) refl
-
-pub strobe_field-none : (lanes : ℕ) (words rest : List (List ℕ)) (bits : List Bool) → lanes ≤ 128 → word_field true 98 lanes words ≡ Ok (bits, rest) → number_below 128 bits ≡ None → ⊥
-strobe_field-none lanes words rest bits narrow read number =
-    let wide = word_field-length true 98 lanes words (bits, rest) read in
-    let whole : ◌≡◌ {A = Option ℕ} (Some (number_of_bits bits)) None = sym (number_below-narrow 128 bits (omega (arith, wide))) ∙ number in
-    cc
 
 -- ---- numbers of lanes
 

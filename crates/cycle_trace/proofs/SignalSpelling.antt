@@ -52,11 +52,11 @@ index_width-most lanes few = least_power-most lanes 0 lanes 7 (omega arith) (ome
 
 -- ---- the value of a key
 
-value_of-spelled : (key : ℕ) (value : List ℕ) (rest : List (List ℕ)) → value_of key ((key ∷ 61 ∷ value) ∷ rest) ≡ Ok (value, rest)
+pub value_of-spelled : (key : ℕ) (value : List ℕ) (rest : List (List ℕ)) → value_of key ((key ∷ 61 ∷ value) ∷ rest) ≡ Ok (value, rest)
 unfolding value_of
 value_of-spelled key value rest = rw (eq-eqb key key refl) refl
 
-value_of-some : (key : ℕ) (words : List (List ℕ)) (x : List ℕ × List (List ℕ)) → value_of key words ≡ Ok x → words ≡ (key ∷ 61 ∷ x.0) ∷ x.1
+pub value_of-some : (key : ℕ) (words : List (List ℕ)) (x : List ℕ × List (List ℕ)) → value_of key words ≡ Ok x → words ≡ (key ∷ 61 ∷ x.0) ∷ x.1
 unfolding value_of
 value_of-some key [] x e = absurd cc
 value_of-some key ([] ∷ words) x e = absurd cc

@@ -4,6 +4,7 @@ pub mod OpeningView
 pub mod RowLayout
 pub mod RowText
 pub mod RowsText
+pub mod SizedValues
 pub mod Spelling
 pub mod Survey
 pub mod Surveying

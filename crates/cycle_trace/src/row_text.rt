@@ -1,6 +1,8 @@
 //! The rows of a trace text.
 
-ghost use Rattle.std.specs.Prelude.{◌≡◌, ◌≤◌, ◌^◌, ℕ};
+ghost use Rattle.std.specs.Prelude.{◌≡◌, ◌≤◌, ◌<◌, ◌^◌, ℕ, length, option_map, IfSome};
+ghost use Rattle.tydi_base.specs.Bits.{number_of_bits};
+ghost use Rattle.tydi_base.specs.Hex.{bits_of_digits, digit_of};
 ghost use Rattle.tydi_base.specs.Reading.{Gives};
 ghost use Rattle.cycle_trace.specs.Faults.{misspelling_in};
 ghost use Rattle.cycle_trace.specs.RowText as spec;
@@ -39,9 +41,14 @@ fn word_field<'a>(
     if !signal.present {
         return Ok((Bits::zeros(alloc, signal.width)?, words));
     }
-    let (digits, rest) = value_of(key, words)?;
-    let bits = Bits::from_hexadecimal(alloc, signal.width, digits)?.ok_or(Misspelling::Unspelled)?;
-    Ok((bits, rest))
+    let size = signal.width.div_ceil(4);
+    let Some((digits, rest)) = words.sized_value(key, size) else {
+        return Err(Misspelling::Unspelled);
+    };
+    match Bits::from_hexadecimal(alloc, signal.width, digits)? {
+        Some(bits) => Ok((bits, rest)),
+        None => Err(Misspelling::Unspelled),
+    }
 }
 
 /// The number of a lane that at most five digits spell, below a limit.
@@ -80,10 +87,38 @@ fn index_field<'a>(
     Ok((index_of(limit, digits)?, rest))
 }
 
+/// The value of a hexadecimal digit.
+#[inline(always)]
+#[tactic(auto, unfolding(tydi_base::specs::Hex::digit_of))]
+fn digit_value(byte: u8) -> Option<u8>
+    ensures value { result ≡ digit_of byte }
+    ensures below { IfSome result (λ value. value < 16) }
+{
+    let letter = (byte >= b'a') as u8;
+    let value = byte.wrapping_sub(b'0' + 39 * letter);
+    if value < 10 + 6 * letter {
+        Some(value)
+    } else {
+        None
+    }
+}
+
+/// The number that hexadecimal digits spell, the highest first.
+fn number_of_digits(digits: &[u8]) -> Option<u128>
+    requires { length digits.now ≤ 32 }
+    ensures { result ≡ option_map number_of_bits (bits_of_digits digits.now) }
+{
+    let mut number: u128 = 0;
+    'digits: for digit in digits {
+        number = 16 * number + u128::from(digit_value(*digit)?);
+    }
+    Some(number)
+}
+
 /// The strobe bits: all ones where the signal is absent.
+#[inline(always)]
 #[tactic(auto, unfolding(crate::specs::RowText::strobe_field))]
 fn strobe_field<'a>(
-    alloc: Global,
     layout: &RowLayout,
     words: WordsLeft<'a>,
 ) -> Result<(u128, WordsLeft<'a>), Misspelling>
@@ -92,11 +127,17 @@ fn strobe_field<'a>(
     if !layout.strb.present {
         return Ok((layout.all_lanes, words));
     }
-    let (bits, rest) = word_field(alloc, layout.strb, b'b', words)?;
-    match bits.number() {
-        Some(number) => Ok((number, rest)),
-        None => Err(Misspelling::Unspelled),
+    let size = layout.strb.width.div_ceil(4);
+    let Some((digits, rest)) = words.sized_value(b'b', size) else {
+        return Err(Misspelling::Unspelled);
+    };
+    let Some(number) = number_of_digits(digits) else {
+        return Err(Misspelling::Unspelled);
+    };
+    if number > layout.all_lanes {
+        return Err(Misspelling::Unspelled);
     }
+    Ok((number, rest))
 }
 
 /// That no word is left.
@@ -120,7 +161,7 @@ fn transfer_of(alloc: Global, layout: &RowLayout, words: WordsLeft) -> Result<Tr
     let (last, words) = word_field(alloc, layout.last, b'l', words)?;
     let (stai, words) = index_field(layout.has_stai, b's', limit, 0, words)?;
     let (endi, words) = index_field(layout.has_endi, b'e', limit, layout.last_lane, words)?;
-    let (strb, words) = strobe_field(alloc, layout, words)?;
+    let (strb, words) = strobe_field(layout, words)?;
     let (user, words) = word_field(alloc, layout.user, b'u', words)?;
     no_more(words)?;
     Ok(Transfer {

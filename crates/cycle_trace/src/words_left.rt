@@ -1,5 +1,6 @@
-ghost use Rattle.std.specs.Prelude.{◌≡◌, ◌↔◌, [], ◌∷◌, IsTrue, MatchOption};
+ghost use Rattle.std.specs.Prelude.{◌≡◌, ◌↔◌, [], ◌∷◌, IsTrue, List, MatchOption, ℕ};
 ghost use Rattle.tydi_base.specs.Pieces.{words_of};
+ghost use Rattle.cycle_trace.specs.SizedValues.{HasNoSized, IsCut, IsSized, NoCut};
 ghost use Rattle.cycle_trace.specs.WordsLeft.{words_left};
 
 use tydi_base::first_piece;
@@ -26,14 +27,40 @@ impl<'a> WordsLeft<'a> {
         WordsLeft { rest: None }
     }
 
-    /// The first word, and the words after it. None exactly where no word is left.
+    /// The first word, and the words after it. None exactly where no word is left. A word of one byte, as each bit of a row
+    /// is, is found without a search.
+    #[inline(always)]
     pub(crate) fn next_word(self) -> Option<(&'a [u8], WordsLeft<'a>)>
         ensures { MatchOption result (words_left self.entry ≡ []) (λ x. words_left self.entry ≡ x.0.now ∷ words_left x.1) }
     {
         let text = self.rest?;
+        if text.len() > 1 && text[0] != b' ' && text[1] == b' ' {
+            return Some((
+                &text[..1],
+                WordsLeft {
+                    rest: Some(&text[2..]),
+                },
+            ));
+        }
         match first_piece(text, b' ') {
             Some((word, rest)) => Some((word, WordsLeft { rest: Some(rest) })),
             None => Some((text, WordsLeft { rest: None })),
+        }
+    }
+
+    /// The value of the first word, where that can be this key, `=` and so many bytes; and the words after it. The value is
+    /// not searched for spaces, so it is the word's value only where it has none.
+    #[inline(always)]
+    pub(crate) fn sized_value(self, key: u8, size: usize) -> Option<(&'a [u8], WordsLeft<'a>)>
+        ensures { MatchOption result (HasNoSized key size (words_left self.entry)) (λ x. IsSized key size (words_left self.entry) x.0.now (words_left x.1)) }
+    {
+        let text = self.rest?;
+        if key == b' ' {
+            return None;
+        }
+        match after_key(key, text) {
+            Some(after) => cut(after, size),
+            None => None,
         }
     }
 
@@ -43,4 +70,29 @@ impl<'a> WordsLeft<'a> {
     {
         self.next_word().is_none()
     }
+}
+
+/// What follows this key and `=` at the front of a text.
+#[inline(always)]
+fn after_key(key: u8, text: &[u8]) -> Option<&[u8]>
+    ensures { MatchOption result ((after : List ℕ) → text.now ≡ key ∷ 61 ∷ after → ⊥) (λ after. text.now ≡ key ∷ 61 ∷ after.now) }
+{
+    if text.len() < 2 || text[0] != key || text[1] != b'=' {
+        return None;
+    }
+    Some(&text[2..])
+}
+
+/// So many bytes at the front of a text, where a space or the end follows them; and the words after that.
+#[inline(always)]
+fn cut(text: &[u8], size: usize) -> Option<(&[u8], WordsLeft<'_>)>
+    ensures { MatchOption result (NoCut text.now size) (λ x. IsCut text.now size x.0.now (words_left x.1)) }
+{
+    if text.len() == size {
+        return Some((text, WordsLeft::none()));
+    }
+    if text.len() > size && text[size] == b' ' {
+        return Some((&text[..size], WordsLeft::of(&text[size + 1..])));
+    }
+    None
 }

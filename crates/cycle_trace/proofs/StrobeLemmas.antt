@@ -1,0 +1,136 @@
+-- The number of hexadecimal digits, and the strobe bits of a row.
+use Rattle.std.proofs.Common.{◌≡◌, ℕ, ◌+◌, ◌*◌, ◌/◌, ◌^◌, ◌<◌, ◌≤◌, Bool, true, false, eqb, ltb, List, [], ◌∷◌, ◌++◌, length, take, drop, Option, Some, None, Ok, Err, option_map, refl, sym, ap, ◌∙◌, arith, add-one, get_or, option_and_then}
+use Rattle.std.proofs.lemmas.Bool.{eq-eqb}
+use Rattle.std.proofs.lemmas.Bool.Decides.{nat_tests}
+use Rattle.std.proofs.lemmas.List.{take-append-drop, length-take, take_all}
+use Rattle.std.proofs.Math.Seq.{drop-cons, take-suc}
+use Rattle.std.proofs.Math.Pow.{pow_mono}
+use Rattle.tydi_base.specs.Bits.{bits_of, number_of_bits, zero_bits}
+use Rattle.tydi_base.specs.Hex.{bits_of_digits, digit_of, digits_for, fitted, no_ones, word_at}
+use Rattle.tydi_base.proofs.BitsLemmas.{length-bits_of, number_of_bits-below, number_of_bits-bits_of}
+use Rattle.tydi_base.proofs.HexBytes.{fitted-none, fitted-some}
+use Rattle.tydi_base.proofs.HexLemmas.{bits_of_digits-nil, bits_of_digits-push, hex_of-digits, zeros_from_no_ones}
+use Rattle.tydi_base.proofs.NumberLemmas.{no_ones-drop, number_of_bits-append, number_of_bits-zeros}
+use Rattle.cycle_trace.specs.RowText.{strobe_field, word_field}
+use Rattle.cycle_trace.specs.SizedValues.{HasNoSized, IsSized}
+use Rattle.cycle_trace.proofs.WordFieldLemmas.{word_field-none, word_field-read, word_field-unread}
+
+-- the number of digits
+abbrev pub number_in : List ℕ → Option ℕ
+number_in digits = option_map number_of_bits (bits_of_digits digits)
+
+pub number_in-nil : number_in [] ≡ Some 0
+unfolding number_of_bits
+number_in-nil = rw bits_of_digits-nil refl
+
+bits_in : (digits : List ℕ) (n : ℕ) (read : Option (List Bool)) → bits_of_digits digits ≡ read → number_in digits ≡ Some n → (bits : List Bool) × (bits_of_digits digits ≡ Some bits) × (number_of_bits bits ≡ n)
+bits_in digits n None is number = absurd (let none : ◌≡◌ {A = Option ℕ} None (Some n) = sym (ap (option_map number_of_bits) is) ∙ number in cc)
+bits_in digits n (Some bits) is number = (bits, is, let some : ◌≡◌ {A = Option ℕ} (Some (number_of_bits bits)) (Some n) = sym (ap (option_map number_of_bits) is) ∙ number in cc)
+
+pub number_in-push : (digits : List ℕ) (digit value n : ℕ) → value < 16 → digit_of digit ≡ Some value → number_in digits ≡ Some n → number_in (digits ++ digit ∷ []) ≡ Some (16 * n + value)
+number_in-push digits digit value n small is number =
+    let read = bits_in digits n (bits_of_digits digits) refl number in
+    let more = bits_of_digits-push digits digit value read.0 is read.1 in
+    let low : number_of_bits (bits_of 4 value) ≡ value = number_of_bits-bits_of 4 value (omega arith) in
+    let sum : number_of_bits (bits_of 4 value ++ read.0) ≡ 16 * n + value = number_of_bits-append (bits_of 4 value) read.0 ∙ rw (low, length-bits_of, read.2) (omega arith) in
+    rw more (ap (λ (m : ℕ). Some m) sum)
+
+none_at : (digit : ℕ) (rest : List ℕ) (read : Option (List Bool)) → bits_of_digits rest ≡ read → digit_of digit ≡ None → bits_of_digits (digit ∷ rest) ≡ None
+unfolding bits_of_digits
+none_at digit rest None low is = rw low refl
+none_at digit rest (Some bits) low is = rw (low, is) refl
+
+none_within : (front : List ℕ) (digit : ℕ) (rest : List ℕ) → digit_of digit ≡ None → bits_of_digits (front ++ digit ∷ rest) ≡ None
+unfolding bits_of_digits
+none_within [] digit rest is = none_at digit rest (bits_of_digits rest) refl is
+none_within (first ∷ front) digit rest is = rw (none_within front digit rest is) refl
+
+-- a byte that is no digit leaves no number
+pub number_in-none : (front : List ℕ) (digit : ℕ) (rest : List ℕ) → digit_of digit ≡ None → number_in (front ++ digit ∷ rest) ≡ None
+number_in-none front digit rest is = rw (none_within front digit rest is) refl
+
+-- a number of fewer than 32 digits leaves room for one digit more
+pub number_in-small : (digits : List ℕ) (n : ℕ) → length digits < 32 → number_in digits ≡ Some n → n < 2 ^ 124
+number_in-small digits n few number =
+    let read = bits_in digits n (bits_of_digits digits) refl number in
+    let long = hex_of-digits digits read.0 read.1 in
+    let below = number_of_bits-below read.0 in
+    let most : 2 ^ length read.0 ≤ 2 ^ 124 = pow_mono {j = 124} (omega (arith, long.0)) in
+    omega (arith, below, most, read.2)
+
+-- ---- the digits one by one
+
+pub number_in-more : (digits : List ℕ) (at n value : ℕ) → at < length digits → value < 16 → digit_of (get_or digits at 0) ≡ Some value → number_in (take at digits) ≡ Some n
+    → number_in (take (at + 1) digits) ≡ Some (16 * n + value)
+number_in-more digits at n value lt small is number = rw (add-one, take-suc digits at 0) (number_in-push (take at digits) (get_or digits at 0) value n small is number)
+
+pub number_in-stops : (digits : List ℕ) (at : ℕ) → at < length digits → digit_of (get_or digits at 0) ≡ None → number_in digits ≡ None
+number_in-stops digits at lt is =
+    let next : drop at digits ≡ get_or digits at 0 ∷ drop (at + 1) digits = rw add-one (drop-cons digits at 0 lt) in
+    let whole : take at digits ++ (get_or digits at 0 ∷ drop (at + 1) digits) ≡ digits = rw (← next) (take-append-drop at digits) in
+    ap number_in (sym whole) ∙ number_in-none (take at digits) (get_or digits at 0) (drop (at + 1) digits) is
+
+pub number_in-room : (digits : List ℕ) (at n : ℕ) → at < length digits → length digits ≤ 32 → number_in (take at digits) ≡ Some n → n < 2 ^ 124
+number_in-room digits at n lt few number = number_in-small (take at digits) n (omega (arith, length-take at digits)) number
+
+pub number_in-all : (digits : List ℕ) (at n : ℕ) → length digits ≤ at → number_in (take at digits) ≡ Some n → Some n ≡ number_in digits
+number_in-all digits at n le number = sym number ∙ ap number_in (take_all at digits le)
+
+-- ---- the word of digits
+
+module _ (lanes : ℕ) (digits : List ℕ) (long : length digits ≡ (lanes + 3) / 4) where
+  at_word : word_at lanes digits ≡ option_and_then (fitted lanes) (bits_of_digits digits)
+  unfolding word_at digits_for
+  at_word = let many : eqb (length digits) ((lanes + 3) / 4) ≡ true = eq-eqb _ _ long in rw many refl
+
+  without : number_in digits ≡ None → (read : Option (List Bool)) → bits_of_digits digits ≡ read → option_and_then (fitted lanes) (bits_of_digits digits) ≡ None
+  without none None is = rw is refl
+  without none (Some bits) is = absurd (let some : ◌≡◌ {A = Option ℕ} (Some (number_of_bits bits)) None = sym (ap (option_map number_of_bits) is) ∙ none in cc)
+
+  pub word_at-no_number : number_in digits ≡ None → word_at lanes digits ≡ None
+  word_at-no_number none = at_word ∙ without none (bits_of_digits digits) refl
+
+  pub word_at-large : (n : ℕ) → number_in digits ≡ Some n → 2 ^ lanes ≤ n → word_at lanes digits ≡ None
+  word_at-large n number large =
+      let read = bits_in digits n (bits_of_digits digits) refl number in
+      let past : ltb n (2 ^ lanes) ≡ false = grind (arith, nat_tests) in
+      let ones : no_ones (drop lanes read.0) ≡ false = no_ones-drop lanes read.0 ∙ rw read.2 past in
+      at_word ∙ rw read.1 (fitted-none lanes read.0 ones)
+
+  module _ (n : ℕ) (fits : n < 2 ^ lanes) where
+    bits_at : (bits : List Bool) → bits_of_digits digits ≡ Some bits → number_of_bits bits ≡ n → (word_at lanes digits ≡ Some (take lanes bits)) × (number_of_bits (take lanes bits) ≡ n)
+    bits_at bits is number =
+        let within : ltb n (2 ^ lanes) ≡ true = grind (arith, nat_tests) in
+        let none : no_ones (drop lanes bits) ≡ true = no_ones-drop lanes bits ∙ rw number within in
+        let whole : take lanes bits ++ zero_bits (length (drop lanes bits)) ≡ bits = rw (← zeros_from_no_ones (drop lanes bits) none) (take-append-drop lanes bits) in
+        let same : number_of_bits (take lanes bits) ≡ n = sym (number_of_bits-zeros (take lanes bits) (length (drop lanes bits))) ∙ ap number_of_bits whole ∙ number in
+        (at_word ∙ rw is (fitted-some lanes bits none), same)
+
+    pub word_at-number : number_in digits ≡ Some n → (bits : List Bool) × (word_at lanes digits ≡ Some bits) × (number_of_bits bits ≡ n)
+    word_at-number number =
+        let read = bits_in digits n (bits_of_digits digits) refl number in
+        let word = bits_at read.0 read.1 read.2 in
+        (take lanes read.0, word.0, word.1)
+
+-- ---- the strobe bits
+
+module _ (lanes : ℕ) (words : List (List ℕ)) where
+  unread : word_field true 98 lanes words ≡ Err tt → strobe_field true lanes words ≡ Err tt
+  unfolding strobe_field
+  unread is = rw is refl
+
+  pub strobe_field-none : HasNoSized 98 ((lanes + 3) / 4) words → strobe_field true lanes words ≡ Err tt
+  strobe_field-none none = unread (word_field-none 98 lanes words none)
+
+  module _ (digits : List ℕ) (rest : List (List ℕ)) (sized : IsSized 98 ((lanes + 3) / 4) words digits rest) where
+    pub strobe_field-unread : number_in digits ≡ None → strobe_field true lanes words ≡ Err tt
+    strobe_field-unread none = unread (word_field-unread 98 lanes words digits rest sized (word_at-no_number lanes digits sized.long none))
+
+    pub strobe_field-large : (n : ℕ) → number_in digits ≡ Some n → 2 ^ lanes ≤ n → strobe_field true lanes words ≡ Err tt
+    strobe_field-large n number large = unread (word_field-unread 98 lanes words digits rest sized (word_at-large lanes digits sized.long n number large))
+
+    pub strobe_field-read : (n : ℕ) → number_in digits ≡ Some n → n < 2 ^ lanes → strobe_field true lanes words ≡ Ok (n, rest)
+    unfolding strobe_field
+    strobe_field-read n number fits =
+        let word = word_at-number lanes digits sized.long n fits number in
+        rw (word_field-read 98 lanes words digits rest sized word.0 word.1, word.2) refl
