@@ -1,20 +1,15 @@
 -- The rows of a trace, stream by stream, and what they say of the rules.
-use Rattle.std.proofs.Common.{◌≡◌, ◌∙◌, ◌↔◌, ℕ, zero, suc, ◌+◌, ◌*◌, ◌<◌, ◌≤◌, inl, inr, ◌⊎◌, Bool, true, false, nat_lt, if◌then◌else◌, List, [], ◌∷◌, ◌++◌, length, map, take, get_or, Option, None, Some, refl, sym, ap, subst, arith}
+use Rattle.std.proofs.Common.{◌≡◌, ◌∙◌, ℕ, zero, suc, ◌+◌, ◌*◌, ◌<◌, false, List, [], ◌∷◌, length, get_or, None, Some, refl, sym, ap, arith}
 use Rattle.std.specs.List.{slice_get}
 use Rattle.std.specs.Option.{option_to_list}
 use Rattle.std.proofs.lemmas.List.{length-map}
 use Rattle.std.proofs.lemmas.Nat.{mul-add-lt}
 use Rattle.std.proofs.lemmas.Option.{slice_get-get_or, slice_get_within}
-use Rattle.physical_stream.specs.Params.{Parameters}
 use Rattle.physical_stream.specs.Cycles.{Cycle, StreamTrace}
-use Rattle.physical_stream.specs.Items.{parts_below}
-use Rattle.physical_stream.specs.Breaks.{Breaks, BreaksAfter}
 use Rattle.physical_stream.specs.First.{Offence, Offends}
 use Rattle.physical_stream.specs.declared.head.Head.{Head}
-use Rattle.physical_stream.specs.declared.rule.Rule.{Rule}
-use Rattle.cycle_trace.specs.Trace.{TraceText, IsTrace, cycles_of_stream, owed, params_of_heads, row_in, streams_from, streams_of}
-use Rattle.cycle_trace.specs.Surveying.{cycles_before}
-use Rattle.cycle_trace.proofs.PartsLemmas.{AreSingles, length-singles, take-singles, slice_get-singles}
+use Rattle.cycle_trace.specs.Trace.{TraceText, IsTrace, cycles_of_stream, params_of_heads, row_in, streams_from, streams_of}
+use Rattle.cycle_trace.proofs.PartsLemmas.{AreSingles, length-singles}
 use Rattle.cycle_trace.proofs.RowsLemmas.{length-owed}
 
 -- ---- the streams of a trace

@@ -1,5 +1,5 @@
 -- What one row of a trace says, and what the rows so far say.
-use Rattle.std.proofs.Common.{◌≡◌, ◌∙◌, ◌↔◌, ℕ, zero, suc, ◌+◌, ◌-◌, ◌^◌, ◌<◌, ◌≤◌, inl, inr, ◌⊎◌, Bool, true, false, nat_lt, if◌then◌else◌, List, [], ◌∷◌, ◌++◌, length, take, Option, None, Some, IfSome, refl, sym, ap, subst, add-one, arith}
+use Rattle.std.proofs.Common.{◌≡◌, ◌∙◌, ℕ, zero, suc, ◌+◌, ◌-◌, ◌^◌, ◌<◌, ◌≤◌, inl, inr, ◌⊎◌, Bool, false, nat_lt, if◌then◌else◌, List, [], ◌∷◌, ◌++◌, length, take, Option, None, Some, IfSome, refl, sym, ap, subst, add-one, arith}
 use Rattle.std.specs.List.{slice_get}
 use Rattle.std.proofs.Math.ListN.{set}
 use Rattle.std.proofs.lemmas.Bool.{cases_lt, lt-ltb, ltb-true, false_from_ne_true}
@@ -18,8 +18,7 @@ use Rattle.physical_stream.specs.declared.rule.Rule.{Rule}
 use Rattle.complexity_rules.specs.Checking.{StandsFor, Steps, params_in}
 use Rattle.complexity_rules.specs.declared.checker.Checker.{Checker}
 use Rattle.cycle_trace.specs.Trace.{TraceText, IsTrace, cycles_of_stream, row_in, streams_of}
-use Rattle.cycle_trace.specs.Surveying.{cycles_before, cycles_seen, StandsAt, AreAt, NoneBefore, RowSays, RowsSay, offence_of}
-use Rattle.cycle_trace.specs.declared.surveying.Found.{Found}
+use Rattle.cycle_trace.specs.Surveying.{cycles_before, cycles_seen, StandsAt, AreAt, NoneBefore, RowSays}
 use Rattle.cycle_trace.proofs.PartsLemmas.{length-singles, take-singles, slice_get-singles}
 use Rattle.cycle_trace.proofs.SurveyLemmas.{stream_with, stream_at, head_at, rows_are_singles, cycle_within}
 

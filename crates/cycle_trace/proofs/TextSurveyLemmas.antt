@@ -7,7 +7,7 @@ use Rattle.std.proofs.Math.Nat.{zero-mul, suc-mul, mod_self, mod-eq_of_lt}
 use Rattle.std.proofs.lemmas.Bool.{cases_lt, false_from_ne_true, eqb-true}
 use Rattle.std.proofs.lemmas.Nat.{mul-add-lt}
 use Rattle.std.proofs.lemmas.Option.{slice_get-map, slice_get_within, get_or_from_slice_get}
-use Rattle.std.proofs.lemmas.List.{length-set, length-append, length-map, map-append, take_all}
+use Rattle.std.proofs.lemmas.List.{length-append, length-map, map-append, take_all}
 use Rattle.physical_stream.specs.Params.{Parameters}
 use Rattle.physical_stream.specs.Cycles.{Cycle}
 use Rattle.physical_stream.specs.First.{Offends, IsFirst}
@@ -18,7 +18,7 @@ use Rattle.physical_stream.specs.declared.rule.Rule.{Rule}
 use Rattle.complexity_rules.specs.Checking.{StandsFor, Steps, params_in, seen_in}
 use Rattle.complexity_rules.specs.declared.checker.Checker.{Checker}
 use Rattle.cycle_trace.specs.Trace.{TraceText, IsTrace, cycle_of, cycles_of, most_cycles, owed, params_of_heads, row_in, streams_of}
-use Rattle.cycle_trace.specs.Surveying.{AreAt, AreReady, CanShow, HaveCheckers, IsReady, NoneBefore, RowsSay, cycles_seen, offence_of}
+use Rattle.cycle_trace.specs.Surveying.{AreAt, AreReady, CanShow, HaveCheckers, IsReady, NoneBefore, RowsSay, offence_of}
 use Rattle.cycle_trace.specs.declared.surveying.Found.{Found}
 use Rattle.cycle_trace.specs.declared.own_row.OwnRow.{OwnRow}
 use Rattle.cycle_trace.proofs.RowsLemmas.{Reads, Reads-init, Reads-more, rows_from-end, turn_below}
@@ -300,22 +300,22 @@ pub FindsAll-some : (read : Result (List Cycle) TraceFault) (cycles count : ℕ)
     first ≡ Some found → FindsFirst read cycles count old new first → fault ≡ faults.Offence found.cycle found.stream found.rule → FindsAll read cycles count old (Err fault)
 FindsAll-some read cycles count old new first found fault some g is =
     let f = subst (λ (o : Option Found). FindsFirst read cycles count old new o) some g in record {
-  rows = f.rows;
-  reads = f.reads;
-  says = λ t whole all rows heads at.
-      subst (λ (e : SurveyFault). Answers (streams_of t) (Err e)) (sym is) (record { first = Some (offence_of found); is_first = f.says t whole all rows heads at; says = refl });
-}
+      rows = f.rows;
+      reads = f.reads;
+      says = λ t whole all rows heads at.
+          subst (λ (e : SurveyFault). Answers (streams_of t) (Err e)) (sym is) (record { first = Some (offence_of found); is_first = f.says t whole all rows heads at; says = refl });
+    }
 
 pub FindsAll-none : (read : Result (List Cycle) TraceFault) (cycles count : ℕ) (old new : List Checker) (first : Option Found) (result : Result Counts SurveyFault) → first ≡ None → FindsFirst read cycles count old new first →
     ((t : TraceText) → IsTrace t → AreAt t t.cycles 0 new → NoneBefore t t.cycles 0 → Answers (streams_of t) result) → FindsAll read cycles count old result
 FindsAll-none read cycles count old new first result none g counts =
     let f = subst (λ (o : Option Found). FindsFirst read cycles count old new o) none g in record {
-  rows = f.rows;
-  reads = f.reads;
-  says = λ t whole all rows heads at.
-      let says = f.says t whole all rows heads at in
-      counts t whole (subst (λ (n : ℕ). AreAt t n 0 new) (sym all) says.0) (subst (λ (n : ℕ). NoneBefore t n 0) (sym all) says.1);
-}
+      rows = f.rows;
+      reads = f.reads;
+      says = λ t whole all rows heads at.
+          let says = f.says t whole all rows heads at in
+          counts t whole (subst (λ (n : ℕ). AreAt t n 0 new) (sym all) says.0) (subst (λ (n : ℕ). NoneBefore t n 0) (sym all) says.1);
+    }
 
 same_params : (heads : List Head) (checkers : List Checker) → length checkers ≡ length heads →
     ((s : ℕ) (c : Checker) (h : Head) → slice_get checkers s ≡ Some c → slice_get heads s ≡ Some h → params_in c ≡ h.params) → map params_in checkers ≡ params_of_heads heads

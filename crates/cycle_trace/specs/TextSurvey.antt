@@ -1,5 +1,5 @@
 -- What a survey of the text of a trace says (this project's own).
-use Rattle.std.specs.Prelude.{◌≡◌, ℕ, List, length, Option, Some, None, Result, Ok, Err, MatchOption}
+use Rattle.std.specs.Prelude.{◌≡◌, ℕ, List, length, Option, Result, Ok, Err, MatchOption}
 use Rattle.physical_stream.specs.declared.head.Head.{Head}
 use Rattle.complexity_rules.specs.declared.checker.Checker.{Checker}
 use Rattle.cycle_trace.specs.Faults.{fault_in}

@@ -63,7 +63,12 @@ fn room_for(alloc: Global, want: u64, bytes: usize) -> Result<List<OwnRow>, Memo
 
 /// The row that the line of this number spells.
 #[tactic(auto, unfolding(crate::specs::RowText::row_at))]
-pub(crate) fn row_at(alloc: Global, layout: &RowLayout, number: u64, line: &[u8]) -> Result<OwnRow, TraceFault>
+pub(crate) fn row_at(
+    alloc: Global,
+    layout: &RowLayout,
+    number: u64,
+    line: &[u8],
+) -> Result<OwnRow, TraceFault>
     ensures { Gives fault_in cycle_of result (rows.row_at number layout.now.params line.now) }
 {
     match read_row(alloc, layout, line) {

@@ -69,7 +69,13 @@ fn survey_rows(
 {
     let layouts = layouts_of(alloc, heads)?;
     let mut checkers = checkers_of(alloc, heads.as_slice())?;
-    survey_by(alloc, layouts.as_slice(), checkers.as_mut_slice(), cycles, text)
+    survey_by(
+        alloc,
+        layouts.as_slice(),
+        checkers.as_mut_slice(),
+        cycles,
+        text,
+    )
 }
 
 /// The survey of rows by checkers that have seen none.
@@ -153,12 +159,7 @@ fn found_or(
 }
 
 /// The offence in this row, where there is none before it.
-fn offence_in(
-    checkers: &mut [Checker],
-    cycle: u32,
-    stream: usize,
-    row: &OwnRow,
-) -> Option<Found>
+fn offence_in(checkers: &mut [Checker], cycle: u32, stream: usize, row: &OwnRow) -> Option<Found>
     requires stream_in { stream < length checkers.old }
     requires few { cycle < most_cycles }
     requires ready { AreReady cycle stream checkers.old }

@@ -1,4 +1,4 @@
-use Rattle.std.proofs.Common.{◌≡◌, ℕ, ◌+◌, ◌*◌, length, map, refl, sym, subst, arith}
+use Rattle.std.proofs.Common.{◌+◌, ◌*◌, length, map, sym, subst}
 use Rattle.std.proofs.lemmas.List.{length-map}
 use Rattle.std.proofs.lemmas.Result.{err_from_is_err_and}
 use Rattle.cycle_trace.specs.Faults.{fault_in}
@@ -9,7 +9,7 @@ use Rattle.cycle_trace.specs.TraceText.{rows_from}
 use Rattle.cycle_trace.specs.declared.fault.TraceFault.{TraceFault}
 use Rattle.cycle_trace.specs.declared.row_layout.RowLayout.{RowLayout}
 use Rattle.cycle_trace.proofs.RowsLemmas.{rows_from-no_line, rows_from-fails, rows_from-rest, empty_is, some_is_not, params_at}
-use Rattle.cycle_trace.proofs.TextSurveyLemmas.{WalksOn-init, WalksOn-more, WalksOn-end, can_show, stream_there, cycle_there, IsFault-cut}
+use Rattle.cycle_trace.proofs.TextSurveyLemmas.{WalksOn-init, WalksOn-more, WalksOn-end, can_show, IsFault-cut}
 use Rattle.cycle_trace.proofs.text_survey.first_offence.Goals as goal
 
 pub rows-init : goal.rows-init

@@ -3,9 +3,8 @@ use Rattle.std.proofs.lemmas.List.{length-map}
 use Rattle.tydi_base.specs.Pieces.{lines_of}
 use Rattle.physical_stream.specs.Params.{Parameters}
 use Rattle.physical_stream.specs.declared.head.Head.{Head}
-use Rattle.complexity_rules.specs.Checking.{params_in}
 use Rattle.complexity_rules.specs.declared.checker.Checker.{Checker}
-use Rattle.cycle_trace.specs.Surveying.{AreReady, HaveCheckers}
+use Rattle.cycle_trace.specs.Surveying.{HaveCheckers}
 use Rattle.cycle_trace.specs.Trace.{owed, params_of_heads}
 use Rattle.cycle_trace.specs.TraceText.{rows_from}
 use Rattle.cycle_trace.specs.declared.row_layout.RowLayout.{RowLayout}
