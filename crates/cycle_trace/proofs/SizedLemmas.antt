@@ -1,13 +1,13 @@
 -- Values of a known size in the words of a line.
 use Rattle.std.proofs.Common.{add-one, ◌≡◌, ◌≢◌, ℕ, ◌+◌, ◌-◌, ◌<◌, List, [], ◌∷◌, ◌++◌, inl, inr, length, get_or, take, drop, refl, sym, ap, subst, ◌∙◌, arith, append-nil, All}
-use Rattle.std.proofs.lemmas.List.Elements.{All-cons, All-head}
+use Rattle.std.proofs.lemmas.List.Elements.{All-cons, All-head, All-nil}
 use Rattle.std.specs.List.{join_with_byte}
 use Rattle.std.proofs.Math.Seq.{drop-cons, take-append_seam}
 use Rattle.std.proofs.lemmas.List.{take-append-drop, take_rest, length-take-le}
 use Rattle.tydi_base.specs.Pieces.{Lacks, words_of}
 use Rattle.tydi_base.proofs.PieceLaws.{join-pieces_of, pieces_of-append, pieces_of-each_lacks, pieces_of-lacks}
-use Rattle.std.proofs.Common.{Option, Some, None, MatchOption, Bor}
-use Rattle.cycle_trace.specs.WordsLeft.{words_left}
+use Rattle.std.proofs.Common.{Bool, IsTrue, true, false, not, is_some, Option, Some, None, MatchOption, Bor}
+use Rattle.cycle_trace.specs.WordsLeft.{words_in, words_left}
 use Rattle.cycle_trace.specs.declared.words_left.WordsLeft.{WordsLeft}
 use Rattle.cycle_trace.specs.SizedValues.{Follows, HasNoSized, IsCut, IsEnd, IsSized, NoCut}
 
@@ -84,3 +84,17 @@ sized_space size text other others is long =
     let each : All (Lacks 32) ((32 ∷ 61 ∷ other) ∷ others) = subst (All (Lacks 32)) is (pieces_of-each_lacks 32 text) in
     let lacks : Lacks 32 (32 ∷ 61 ∷ other) = All-head (Lacks 32) (32 ∷ 61 ∷ other) others each in
     lacks 0 0 (omega arith) refl
+
+-- ---- whether words are left
+
+words_of-some : (text : List ℕ) → words_of text ≡ [] → ⊥
+words_of-some text none =
+    let empty : text ≡ [] = sym (join-pieces_of 32 text) ∙ ap (join_with_byte 32) none in
+    let one : words_of text ≡ [] ∷ [] = rw empty (pieces_of-lacks 32 [] (All-nil (λ byte. byte ≢ 32))) in
+    cc
+
+pub words_in-empty : (rest : Option (Bor (List ℕ))) (result : Bool) → is_some rest ≡ not result → (IsTrue result → words_in rest ≡ []) × (words_in rest ≡ [] → IsTrue result)
+words_in-empty None true is = (λ _. refl, λ _. refl)
+words_in-empty None false is = absurd cc
+words_in-empty (Some text) true is = absurd cc
+words_in-empty (Some text) false is = (λ no. absurd cc, λ none. absurd (words_of-some text.now none))

@@ -18,6 +18,7 @@ use std::alloc::Global;
 use tydi_base::{Bits, read_decimal};
 
 /// The value of the first word, which is this key, `=` and the value; and the words after it.
+#[inline(never)]
 #[tactic(auto, unfolding(crate::specs::RowText::value_of))]
 fn value_of<'a>(key: u8, words: WordsLeft<'a>) -> Result<(&'a [u8], WordsLeft<'a>), Misspelling>
     ensures { Gives misspelling_in (λ x. (x.0.now, words_left x.1)) result (spec.value_of key (words_left words.entry)) }
@@ -29,6 +30,7 @@ fn value_of<'a>(key: u8, words: WordsLeft<'a>) -> Result<(&'a [u8], WordsLeft<'a
 }
 
 /// A word of bits: zeros where the signal is absent, else exactly its hexadecimal digits.
+#[inline(always)]
 #[tactic(auto, unfolding(crate::specs::RowText::word_field))]
 fn word_field<'a>(
     alloc: Global,
@@ -69,6 +71,7 @@ fn index_of(limit: u32, digits: &[u8]) -> Result<u16, Misspelling>
 }
 
 /// The number of a lane: its default where the signal is absent.
+#[inline(always)]
 #[tactic(auto, unfolding(crate::specs::RowText::index_field))]
 fn index_field<'a>(
     present: bool,
@@ -141,13 +144,15 @@ fn strobe_field<'a>(
 }
 
 /// That no word is left.
+#[inline(always)]
 #[tactic(auto, unfolding(crate::specs::RowText::no_more))]
 fn no_more(words: WordsLeft) -> Result<(), Misspelling>
     ensures { Gives misspelling_in (λ fine. fine) result (spec.no_more (words_left words.entry)) }
 {
-    match words.next_word() {
-        Some(_) => Err(Misspelling::Unspelled),
-        None => Ok(()),
+    if words.is_empty() {
+        Ok(())
+    } else {
+        Err(Misspelling::Unspelled)
     }
 }
 

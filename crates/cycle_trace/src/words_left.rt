@@ -65,10 +65,11 @@ impl<'a> WordsLeft<'a> {
     }
 
     /// Whether no word is left.
+    #[inline(always)]
     pub(crate) fn is_empty(self) -> bool
         ensures { IsTrue result ↔ (words_left self.entry ≡ []) }
     {
-        self.next_word().is_none()
+        self.rest.is_none()
     }
 }
 
