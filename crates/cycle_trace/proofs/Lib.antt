@@ -9,6 +9,7 @@ pub mod PartsLemmas
 pub mod PlainWords
 pub mod RowLemmas
 pub mod RowSpelling
+pub mod RowStartLemmas
 pub mod RowsLemmas
 pub mod RowsSpelling
 pub mod ShownLemmas

@@ -2,6 +2,7 @@ pub mod Faults
 pub mod HeaderText
 pub mod OpeningView
 pub mod RowLayout
+pub mod RowStart
 pub mod RowText
 pub mod RowsText
 pub mod SizedValues

@@ -1,10 +1,12 @@
 //! The rows of a trace text.
 
-ghost use Rattle.std.specs.Prelude.{◌≡◌, ◌≤◌, ◌<◌, ◌^◌, ℕ, length, option_map, IfSome};
+ghost use Rattle.std.specs.Prelude.{◌≡◌, ◌≢◌, ◌≤◌, ◌<◌, ◌^◌, ℕ, length, [], ◌∷◌, Ok, option_map, IfSome};
 ghost use Rattle.tydi_base.specs.Bits.{number_of_bits};
 ghost use Rattle.tydi_base.specs.Hex.{bits_of_digits, digit_of};
+ghost use Rattle.tydi_base.specs.Pieces.{words_of};
 ghost use Rattle.tydi_base.specs.Reading.{Gives};
 ghost use Rattle.cycle_trace.specs.Faults.{misspelling_in};
+ghost use Rattle.cycle_trace.specs.RowStart.{row_start};
 ghost use Rattle.cycle_trace.specs.RowText as spec;
 ghost use Rattle.cycle_trace.specs.Trace.{cycle_of};
 ghost use Rattle.cycle_trace.specs.WordsLeft.{words_left};
@@ -238,8 +240,55 @@ fn bit_of(word: &[u8]) -> Result<bool, Misspelling>
     }
 }
 
+/// The bit that a byte is.
+#[inline(always)]
+#[tactic(auto, unfolding(crate::specs::RowText::bit_of))]
+fn bit_in(byte: u8) -> Option<bool>
+    ensures bit { IfSome result (λ bit. spec.bit_of (byte ∷ []) ≡ Ok bit) }
+    ensures plain { IfSome result (λ bit. byte ≢ 32) }
+{
+    if byte == b'1' {
+        Some(true)
+    } else if byte == b'0' {
+        Some(false)
+    } else {
+        None
+    }
+}
+
+/// The valid bit and the ready bit of a row, and what follows the space after them. None where a row does not begin so.
+#[inline(always)]
+fn two_bits(line: &[u8]) -> Option<(bool, bool, &[u8])>
+    ensures { IfSome result (λ x. row_start (words_of line.now) ≡ Ok (x.0, x.1, words_of x.2.now)) }
+{
+    if line.len() < 4 || line[1] != b' ' || line[3] != b' ' {
+        return None;
+    }
+    let valid = bit_in(line[0])?;
+    let ready = bit_in(line[2])?;
+    Some((valid, ready, &line[4..]))
+}
+
+/// The valid bit and the ready bit of a row, and the words of its payload.
+#[inline(always)]
+#[tactic(auto, unfolding(crate::specs::RowStart::row_start))]
+fn start_of(line: &[u8]) -> Result<(bool, bool, WordsLeft<'_>), Misspelling>
+    ensures { Gives misspelling_in (λ x. (x.0, x.1, words_left x.2)) result (row_start (words_of line.now)) }
+{
+    if let Some((valid, ready, payload)) = two_bits(line) {
+        return Ok((valid, ready, WordsLeft::of(payload)));
+    }
+    let (valid, words) = WordsLeft::of(line)
+        .next_word()
+        .ok_or(Misspelling::Unspelled)?;
+    let (ready, payload) = words.next_word().ok_or(Misspelling::Unspelled)?;
+    let valid = bit_of(valid)?;
+    let ready = bit_of(ready)?;
+    Ok((valid, ready, payload))
+}
+
 /// The cycle that a row spells.
-#[tactic(auto, unfolding(crate::specs::RowText::row_of, crate::specs::RowText::cycle_of_words))]
+#[tactic(auto, using(crate::proofs::RowStartLemmas::row_of_start))]
 pub(crate) fn read_row(
     alloc: Global,
     layout: &RowLayout,
@@ -247,12 +296,7 @@ pub(crate) fn read_row(
 ) -> Result<OwnRow, Misspelling>
     ensures { Gives misspelling_in cycle_of result (spec.row_of layout.now.params line.now) }
 {
-    let (valid, words) = WordsLeft::of(line)
-        .next_word()
-        .ok_or(Misspelling::Unspelled)?;
-    let (ready, payload) = words.next_word().ok_or(Misspelling::Unspelled)?;
-    let valid = bit_of(valid)?;
-    let ready = bit_of(ready)?;
+    let (valid, ready, payload) = start_of(line)?;
     let shown = shown_of(alloc, layout, valid, payload)?;
     Ok(OwnRow { ready, shown })
 }

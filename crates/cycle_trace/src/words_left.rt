@@ -27,21 +27,11 @@ impl<'a> WordsLeft<'a> {
         WordsLeft { rest: None }
     }
 
-    /// The first word, and the words after it. None exactly where no word is left. A word of one byte, as each bit of a row
-    /// is, is found without a search.
-    #[inline(always)]
+    /// The first word, and the words after it. None exactly where no word is left.
     pub(crate) fn next_word(self) -> Option<(&'a [u8], WordsLeft<'a>)>
         ensures { MatchOption result (words_left self.entry ≡ []) (λ x. words_left self.entry ≡ x.0.now ∷ words_left x.1) }
     {
         let text = self.rest?;
-        if text.len() > 1 && text[0] != b' ' && text[1] == b' ' {
-            return Some((
-                &text[..1],
-                WordsLeft {
-                    rest: Some(&text[2..]),
-                },
-            ));
-        }
         match first_piece(text, b' ') {
             Some((word, rest)) => Some((word, WordsLeft { rest: Some(rest) })),
             None => Some((text, WordsLeft { rest: None })),
