@@ -21,7 +21,10 @@ pub(crate) fn place_past(place: Place, bytes: &[u8]) -> Place
     requires fits { place.offset + length bytes.now < 2 ^ 32 - 1 }
     requires line { place.line ≤ place.offset + 1 }
     requires column { place.column ≤ place.offset + 1 }
-    ensures { result ≡ place_past place bytes.now }
+    ensures value { result ≡ place_past place bytes.now }
+    ensures offset { result.offset ≡ place.offset + length bytes.now }
+    ensures line { result.line ≤ result.offset + 1 }
+    ensures column { result.column ≤ result.offset + 1 }
 {
     let mut after = place;
     'bytes: for byte in bytes {

@@ -1,6 +1,7 @@
 //! Words.
 
-ghost use Rattle.std.specs.Prelude.{◌≡◌, true, drop, slice_index, IfOk};
+ghost use Rattle.std.specs.Prelude.{◌≡◌, ◌==◌, ◌||◌, true, drop, slice_index, IfOk};
+ghost use Rattle.std.specs.Char.{is_ascii_alphabetic};
 ghost use Rattle.std.specs.List.{list_all};
 ghost use Rattle.std.specs.Str.{chars, IsCharBoundary};
 ghost use Rattle.tydi_base.specs.Name as name;
@@ -15,14 +16,21 @@ use crate::token::TokenKind;
 use tydi_base::Place;
 use unicode_ident::{is_xid_continue, is_xid_start};
 
-/// Whether a word begins a text.
+/// Whether a word begins a text. Only a character that is not ASCII is decoded.
 pub(crate) fn starts_word(text: &str) -> bool
     ensures { result ≡ spec.starts_word (slice_index (chars text.now) 0) }
 {
     match text.as_bytes() {
-        [first, ..] if first.is_ascii() => first.is_ascii_alphabetic() || *first == b'_',
+        [first, ..] if first.is_ascii() => starts_ascii_word(*first),
         _ => starts_other_word(text),
     }
+}
+
+/// Whether a word begins with this ASCII byte.
+fn starts_ascii_word(byte: u8) -> bool
+    ensures { result ≡ (is_ascii_alphabetic byte || (byte == 95)) }
+{
+    byte.is_ascii_alphabetic() || byte == b'_'
 }
 
 /// Whether a word begins a text whose first character may be any.
@@ -42,11 +50,12 @@ pub(crate) fn word_at(place: Place, text: &str) -> Result<Piece, LexFault>
     ensures value { result ≡ word_token place (spec.word_of (chars text.now)) }
     ensures cut { IfOk result (λ piece. CanCut text.now (length_of piece)) }
 {
-    let count = name_bytes_at(text.as_bytes());
+    let bytes = text.as_bytes();
+    let count = name_bytes_at(bytes);
     if count == 0 || continues(text, count) {
         return Err(LexFault::NameNotAscii(place));
     }
-    if has_name_form(&text.as_bytes()[..count]) {
+    if has_name_form(&bytes[..count]) {
         Ok(Piece::Token(TokenKind::Word, count))
     } else {
         Err(LexFault::BadName(place))
