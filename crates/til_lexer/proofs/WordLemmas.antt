@@ -79,7 +79,7 @@ Runs-cons byte bytes count utf8 is runs =
     let ascii : byte < 128 = is_name_byte-ascii byte is in
     let goes : is_xid_continue byte ≡ true = is_xid_continue-ascii byte ascii ∙ is in
     let tail : take_while is_xid_continue (chars (byte ∷ bytes)) ≡ byte ∷ take_while is_xid_continue (chars bytes) =
-      ap (λ cs. take_while is_xid_continue cs) (chars-ascii byte bytes utf8 ascii) ∙ take_while-cons is_xid_continue byte (chars bytes) ∙ ap (λ b. cond b (byte ∷ take_while is_xid_continue (chars bytes)) []) goes in
+    ap (λ cs. take_while is_xid_continue cs) (chars-ascii byte bytes utf8 ascii) ∙ take_while-cons is_xid_continue byte (chars bytes) ∙ ap (λ b. cond b (byte ∷ take_while is_xid_continue (chars bytes)) []) goes in
     let first : is_ascii byte ≡ true = grind (arith, nat_tests) in
     record {
       ascii = λ ends. tail ∙ ap (λ (l : List ℕ). byte ∷ l) (runs.ascii ends);
@@ -98,11 +98,13 @@ Runs-stops bytes utf8 is_not = record { ascii = (of_chars (chars bytes) refl).0;
         let name : is_name_byte character ≡ true = sym (is_xid_continue-ascii character below) ∙ goes in
         let not_name : is_name_byte character ≡ false = ap is_name_byte (sym first) ∙ is_not in
         absurd cc
+
     of_chars : (characters : List ℕ) → chars bytes ≡ characters → (continues characters ≡ false → take_while is_xid_continue characters ≡ []) × (continues characters ≡ true → list_all is_ascii (take_while is_xid_continue characters) ≡ false)
     of_chars [] same = (λ _. refl, λ e. absurd cc)
-    of_chars (character ∷ characters) same =
-        (λ ends. take_while-cons is_xid_continue character characters ∙ ap (λ b. cond b (character ∷ take_while is_xid_continue characters) []) ends,
-        λ goes. ap (list_all is_ascii) (take_while-cons is_xid_continue character characters ∙ ap (λ b. cond b (character ∷ take_while is_xid_continue characters) []) goes) ∙ rw (goes_on character characters (ltb character 128) same refl goes) refl)
+    of_chars (character ∷ characters) same = (
+      λ ends. take_while-cons is_xid_continue character characters ∙ ap (λ b. cond b (character ∷ take_while is_xid_continue characters) []) ends,
+      λ goes. ap (list_all is_ascii) (take_while-cons is_xid_continue character characters ∙ ap (λ b. cond b (character ∷ take_while is_xid_continue characters) []) goes) ∙ rw (goes_on character characters (ltb character 128) same refl goes) refl,
+    )
 
 runs : (bytes : List ℕ) → IsUtf8 bytes → Runs bytes (prefix_len is_name_byte bytes)
 runs [] utf8 = Runs-nil
@@ -160,6 +162,7 @@ none-ascii text utf8 none starts = of_chars (chars text) refl starts
         let first : get_or text 0 0 ≡ character = first_byte text character characters utf8 same below in
         let some : 0 < prefix_len is_name_byte text = name_byte-prefix text (ap is_name_byte first ∙ starts-name_byte character below is) in
         absurd (omega arith)
+
     of_chars : (characters : List ℕ) → chars text ≡ characters → starts_word (get_or characters 0 0) ≡ true → list_all is_ascii (word_of characters) ≡ false
     of_chars [] same is = let name = starts-name_byte 0 (omega arith) is in absurd cc
     of_chars (character ∷ characters) same is = rw (not_ascii character characters (ltb character 128) same refl is) refl

@@ -12,8 +12,8 @@ mod pieces;
 mod places;
 mod spans;
 mod symbols;
-//#[cfg(test)]
-//mod tests;
+#[cfg(test)]
+mod tests;
 mod token;
 mod words;
 

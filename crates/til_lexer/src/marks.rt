@@ -21,7 +21,12 @@ pub(crate) fn mark_at(place: Place, bytes: &[u8]) -> Result<Piece, LexFault>
 {
     match bytes {
         [b'0'..=b'9', ..] => number_at(place, bytes),
-        [b'"', after @ ..] => closed_token(TokenKind::Quoted, LexFault::OpenString(place), b'"', after),
+        [b'"', after @ ..] => closed_token(
+            TokenKind::Quoted,
+            LexFault::OpenString(place),
+            b'"',
+            after,
+        ),
         [b'#', after @ ..] => closed_token(TokenKind::Doc, LexFault::OpenDoc(place), b'#', after),
         _ => symbol_at(place, bytes),
     }
@@ -29,12 +34,7 @@ pub(crate) fn mark_at(place: Place, bytes: &[u8]) -> Result<Piece, LexFault>
 
 /// The token that a mark opens, of what stands after it.
 #[tactic(auto, unfolding(crate::specs::Pieces::closed_token))]
-fn closed_token(
-    kind: TokenKind,
-    fault: LexFault,
-    mark: u8,
-    after: &[u8],
-) -> Result<Piece, LexFault>
+fn closed_token(kind: TokenKind, fault: LexFault, mark: u8, after: &[u8]) -> Result<Piece, LexFault>
     requires { mark < 128 }
     ensures value { result ≡ spec.closed_token kind fault (until_mark mark after.now) }
     ensures ends { IfOk result (λ piece. (first : ℕ) → EndsInAscii (first ∷ after.now) (length_of piece)) }

@@ -18,14 +18,15 @@ pub pieces-preserved : goal.pieces-preserved
 pieces-preserved c =
     let cut = c.in_ok-piece.ensures.cut in
     let boundary : IsCharBoundary c.pieces.rest.now c.len.result = rw c.len.ensures cut.boundary in
-    let utf8 : IsUtf8 c.split_at.result.1.now = rw c.split_at.ensures.back (IsUtf8-drop c.pieces.rest.now c.len.result c.pieces.invariant.0 boundary) in
-    (utf8,
-    more (tokens_of c.args.text.now) c.pieces.tokens c.push_token.new.tokens c.pieces.place c.place_past-place.result c.pieces.rest.now c.as_bytes.result.now c.split_at.result.1.now
-      c.in_ok-piece.piece c.len.result c.pieces.invariant.1 (nonempty c.pieces.rest.now c.pieces-test.ensures) c.in_ok-piece.ensures.value cut.some
-      c.in_ok-push_token.ensures c.len.ensures (c.as_bytes.ensures.value ∙ c.split_at.ensures.front) c.split_at.ensures.back c.place_past-place.ensures.value,
-    omega (arith, ap length c.as_bytes.ensures.value),
-    c.place_past-place.ensures.line,
-    c.place_past-place.ensures.column)
+    let utf8 : IsUtf8 c.split_at.result.1.now = rw c.split_at.ensures.back (IsUtf8-drop c.pieces.rest.now c.len.result c.pieces.invariant.0 boundary) in (
+      utf8,
+      more (tokens_of c.args.text.now) c.pieces.tokens c.push_token.new.tokens c.pieces.place c.place_past-place.result c.pieces.rest.now c.as_bytes.result.now c.split_at.result.1.now
+          c.in_ok-piece.piece c.len.result c.pieces.invariant.1 (nonempty c.pieces.rest.now c.pieces-test.ensures) c.in_ok-piece.ensures.value cut.some
+          c.in_ok-push_token.ensures c.len.ensures (c.as_bytes.ensures.value ∙ c.split_at.ensures.front) c.split_at.ensures.back c.place_past-place.ensures.value,
+      omega (arith, ap length c.as_bytes.ensures.value),
+      c.place_past-place.ensures.line,
+      c.place_past-place.ensures.column,
+    )
 
 pub returns : goal.returns
 returns c = record { gives = at_end (tokens_of c.args.text.now) c.pieces.tokens c.pieces.place c.pieces.rest.now c.pieces.invariant.1 c.pieces-test.ensures }

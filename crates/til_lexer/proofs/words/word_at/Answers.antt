@@ -16,10 +16,10 @@ pub returns-then-count-eq0-clause-value : goal.returns-then-count-eq0-clause-val
 returns-then-count-eq0-clause-value c =
     let is = c.name_bytes_at-count.ensures.value ∙ ap (prefix_len is_name_byte) c.as_bytes-bytes.ensures.value in
     elim c.then-count-eq0.branch [
-      then-count-eq0-via-then-count-eq0 w ↦ word-none c.args.place c.args.text.now c.name_bytes_at-count.result c.utf8.text is w.if-count-eq0.true c.requires
-    | then-count-eq0-via-else-count-eq0+then-continues w ↦
-        let some = w.if-count-eq0.false in
-        word-other c.args.place c.args.text.now c.name_bytes_at-count.result c.utf8.text is (omega arith) (sym w.continues.ensures ∙ w.if-continues.true)
+      | then-count-eq0-via-then-count-eq0 w ↦ word-none c.args.place c.args.text.now c.name_bytes_at-count.result c.utf8.text is w.if-count-eq0.true c.requires
+      | then-count-eq0-via-else-count-eq0+then-continues w ↦
+          let some = w.if-count-eq0.false in
+          word-other c.args.place c.args.text.now c.name_bytes_at-count.result c.utf8.text is (omega arith) (sym w.continues.ensures ∙ w.if-continues.true)
     ]
 
 pub has_name_form-requires : goal.has_name_form-requires
