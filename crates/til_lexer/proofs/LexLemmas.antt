@@ -1,9 +1,9 @@
 -- The tokens of a text, piece by piece.
-use Rattle.std.proofs.Common.{◌≡◌, ℕ, zero, suc, ◌+◌, ◌-◌, ◌<◌, ◌≤◌, true, false, eqb, List, [], ◌∷◌, ◌++◌, length, take, drop, append_assoc, Result, Ok, Err, refl, sym, ap, ◌∙◌, arith}
+use Rattle.std.proofs.Common.{◌≡◌, ℕ, zero, suc, ◌-◌, ◌<◌, true, false, eqb, List, [], ◌∷◌, ◌++◌, length, take, drop, append_assoc, Result, Ok, Err, refl, sym, ap, ◌∙◌, arith}
 use Rattle.std.proofs.lemmas.Bool.Decides.{nat_tests}
 use Rattle.std.proofs.lemmas.List.{append-nil}
 use Rattle.tydi_base.specs.declared.place.Place.{Place}
-use Rattle.tydi_base.specs.Reading.{◌>>=◌, Gives}
+use Rattle.tydi_base.specs.Reading.{Gives}
 use Rattle.til_lexer.specs.declared.fault.LexFault.{LexFault}
 use Rattle.til_lexer.specs.declared.fault.LexFault.TheVariants as faults
 use Rattle.til_lexer.specs.declared.piece.Piece.{Piece}

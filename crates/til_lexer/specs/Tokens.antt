@@ -1,5 +1,5 @@
 -- The tokens of a text, or its first fault. This project's own.
-use Rattle.std.specs.Prelude.{ℕ, zero, suc, ◌+◌, ◌-◌, List, [], ◌∷◌, ◌++◌, Result, Ok, Err}
+use Rattle.std.specs.Prelude.{ℕ, zero, suc, ◌+◌, ◌-◌, List, [], ◌∷◌, ◌++◌, Result, Ok}
 use Rattle.tydi_base.specs.Reading.{◌>>=◌}
 use Rattle.tydi_base.specs.declared.place.Place.{Place}
 use Rattle.til_lexer.specs.declared.fault.LexFault.{LexFault}

@@ -1,8 +1,7 @@
-use Rattle.std.proofs.Common.{◌≡◌, ◌<◌, true, false, drop, take, sym, ◌∙◌, ap, arith}
+use Rattle.std.proofs.Common.{take, sym, ◌∙◌, ap, arith}
 use Rattle.std.specs.List.{prefix_len}
-use Rattle.std.specs.Str.{chars}
 use Rattle.tydi_base.specs.Name.{is_name_byte}
-use Rattle.til_lexer.specs.Words.{has_name_form, continues}
+use Rattle.til_lexer.specs.Words.{has_name_form}
 use Rattle.til_lexer.proofs.WordLemmas.{name_cut, prefix_names, word-none, word-other, word-name, word-bad}
 use Rattle.til_lexer.proofs.words.word_at.Goals as goal
 use Rattle.til_lexer.proofs.words.word_at.Goals.{then-count-eq0-via-then-count-eq0, then-count-eq0-via-else-count-eq0+then-continues}
