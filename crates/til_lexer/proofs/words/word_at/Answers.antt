@@ -1,0 +1,42 @@
+use Rattle.std.proofs.Common.{take, sym, ◌∙◌, ap, arith}
+use Rattle.std.specs.List.{prefix_len}
+use Rattle.tydi_base.specs.Name.{is_name_byte}
+use Rattle.til_lexer.specs.Words.{has_name_form}
+use Rattle.til_lexer.proofs.WordLemmas.{name_cut, prefix_names, word-none, word-other, word-name, word-bad}
+use Rattle.til_lexer.proofs.words.word_at.Goals as goal
+use Rattle.til_lexer.proofs.words.word_at.Goals.{then-count-eq0-via-then-count-eq0, then-count-eq0-via-else-count-eq0+then-continues}
+
+pub continues-requires : goal.continues-requires
+continues-requires c =
+    let is = c.name_bytes_at-count.ensures.value ∙ ap (prefix_len is_name_byte) c.as_bytes-bytes.ensures.value in
+    (name_cut c.args.text.now c.name_bytes_at-count.result c.utf8.text is (omega arith)).boundary
+
+pub returns-then-count-eq0-clause-value : goal.returns-then-count-eq0-clause-value
+returns-then-count-eq0-clause-value c =
+    let is = c.name_bytes_at-count.ensures.value ∙ ap (prefix_len is_name_byte) c.as_bytes-bytes.ensures.value in
+    elim c.then-count-eq0.branch [
+      | then-count-eq0-via-then-count-eq0 w ↦ word-none c.args.place c.args.text.now c.name_bytes_at-count.result c.utf8.text is w.if-count-eq0.true c.requires
+      | then-count-eq0-via-else-count-eq0+then-continues w ↦
+          let some = w.if-count-eq0.false in
+          word-other c.args.place c.args.text.now c.name_bytes_at-count.result c.utf8.text is (omega arith) (sym w.continues.ensures ∙ w.if-continues.true)
+    ]
+
+pub has_name_form-requires : goal.has_name_form-requires
+has_name_form-requires c = prefix_names c.as_bytes-bytes.result.now c.name_bytes_at-count.result c.name_bytes_at-count.ensures.value
+
+pub returns-then-has_name_form-clause-value : goal.returns-then-has_name_form-clause-value
+returns-then-has_name_form-clause-value c =
+    let is = c.name_bytes_at-count.ensures.value ∙ ap (prefix_len is_name_byte) c.as_bytes-bytes.ensures.value in
+    let form = ap (λ bytes. has_name_form (take c.name_bytes_at-count.result bytes)) (sym c.as_bytes-bytes.ensures.value) ∙ sym c.has_name_form.ensures ∙ c.if-has_name_form.true in
+    word-name c.args.place c.args.text.now c.name_bytes_at-count.result c.utf8.text is (omega arith) (sym c.continues.ensures ∙ c.if-continues.false) form
+
+pub returns-then-has_name_form-clause-cut : goal.returns-then-has_name_form-clause-cut
+returns-then-has_name_form-clause-cut c =
+    let is = c.name_bytes_at-count.ensures.value ∙ ap (prefix_len is_name_byte) c.as_bytes-bytes.ensures.value in
+    name_cut c.args.text.now c.name_bytes_at-count.result c.utf8.text is (omega arith)
+
+pub returns-else-has_name_form-clause-value : goal.returns-else-has_name_form-clause-value
+returns-else-has_name_form-clause-value c =
+    let is = c.name_bytes_at-count.ensures.value ∙ ap (prefix_len is_name_byte) c.as_bytes-bytes.ensures.value in
+    let form = ap (λ bytes. has_name_form (take c.name_bytes_at-count.result bytes)) (sym c.as_bytes-bytes.ensures.value) ∙ sym c.has_name_form.ensures ∙ c.if-has_name_form.false in
+    word-bad c.args.place c.args.text.now c.name_bytes_at-count.result c.utf8.text is (omega arith) (sym c.continues.ensures ∙ c.if-continues.false) form

@@ -1,0 +1,7 @@
+pub mod Places
+pub mod Spans
+pub mod Words
+pub mod Pieces
+pub mod Faults
+pub mod Cuts
+pub mod Tokens

@@ -1,0 +1,35 @@
+-- White space, comments, digits and what stands between two marks. This project's own.
+use Rattle.std.specs.Prelude.{ℕ, ◌==◌, ◌&&◌, ◌||◌, nat_lt, Bool, List, [], ◌∷◌, length, slice_index, Option, Some, None, if◌then◌else◌}
+use Rattle.std.specs.Char.{is_ascii_digit}
+use Rattle.std.specs.List.{prefix_len, position_or_len}
+
+-- space, tab, CR or LF
+abbrev pub is_space : ℕ → Bool
+is_space byte = byte == 32 || byte == 9 || byte == 13 || byte == 10
+
+-- how many bytes of white space stand at the front
+abbrev pub space_length : List ℕ → ℕ
+space_length bytes = prefix_len is_space bytes
+
+-- `//` stands at the front
+abbrev pub begins_comment : List ℕ → Bool
+begins_comment bytes = slice_index bytes 0 == 47 && slice_index bytes 1 == 47
+
+-- how many bytes stand before the first LF, or in all where there is none: a comment's LF is white space after it
+abbrev pub line_length : List ℕ → ℕ
+line_length bytes = position_or_len (λ byte. byte == 10) bytes
+
+-- how many digits stand at the front
+abbrev pub digits_at : List ℕ → ℕ
+digits_at bytes = prefix_len is_ascii_digit bytes
+
+-- how many digits stand after a point at the front: none where no point stands there
+abbrev pub digits_after_point : List ℕ → ℕ
+digits_after_point [] = 0
+digits_after_point (byte ∷ bytes) = if byte == 46 then digits_at bytes else 0
+
+-- how many bytes stand before the first such mark: None where there is none
+abbrev pub until_mark : ℕ → List ℕ → Option ℕ
+until_mark mark bytes =
+    if nat_lt (position_or_len (λ byte. byte == mark) bytes) (length bytes)
+    then Some (position_or_len (λ byte. byte == mark) bytes) else None

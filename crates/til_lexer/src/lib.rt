@@ -1,0 +1,22 @@
+//! The tokens of a text in the Tydi Intermediate Language. `lex` gives the tokens of a text, each with its place, or the
+//! text's first fault with its place; `specs/Tokens.antt` says which these are. It stands on `tydi_base` and, for which
+//! characters a word may have, on `unicode_ident`.
+#![tactic(auto)]
+
+mod fault;
+mod lexing;
+mod marks;
+mod numbers;
+mod piece;
+mod pieces;
+mod places;
+mod spans;
+mod symbols;
+#[cfg(test)]
+mod tests;
+mod token;
+mod words;
+
+pub use fault::LexFault;
+pub use lexing::lex;
+pub use token::{Token, TokenKind};

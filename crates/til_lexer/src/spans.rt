@@ -1,0 +1,106 @@
+//! How far white space, a comment, digits and what stands before a mark reach.
+
+ghost use Rattle.std.specs.Prelude.{◌≡◌, ◌<◌, ◌≤◌, length, slice_index, IfSome};
+ghost use Rattle.std.specs.List.{prefix_len};
+ghost use Rattle.tydi_base.specs.Name.{is_name_byte};
+ghost use Rattle.til_lexer.specs.Spans as spec;
+
+/// Whether a byte is white space.
+pub(crate) fn is_space(byte: u8) -> bool
+    ensures { result ≡ spec.is_space byte }
+{
+    matches!(byte, b' ' | b'\t' | b'\r' | b'\n')
+}
+
+/// Whether a comment begins a text.
+pub(crate) fn begins_comment(bytes: &[u8]) -> bool
+    ensures { result ≡ spec.begins_comment bytes.now }
+{
+    matches!(bytes, [b'/', b'/', ..])
+}
+
+/// How many bytes of white space begin a text.
+pub(crate) fn space_length(bytes: &[u8]) -> usize
+    ensures value { result ≡ spec.space_length bytes.now }
+    ensures within { result ≤ length bytes.now }
+{
+    let mut count = 0;
+    'bytes: for byte in bytes {
+        if !is_space(*byte) {
+            return count;
+        }
+        count += 1;
+    }
+    count
+}
+
+/// How many bytes stand before a text's first LF, or in all.
+pub(crate) fn line_length(bytes: &[u8]) -> usize
+    ensures value { result ≡ spec.line_length bytes.now }
+    ensures within { result ≤ length bytes.now }
+{
+    let mut count = 0;
+    'bytes: for byte in bytes {
+        if *byte == b'\n' {
+            return count;
+        }
+        count += 1;
+    }
+    count
+}
+
+/// How many digits begin a text.
+pub(crate) fn digits_at(bytes: &[u8]) -> usize
+    ensures value { result ≡ spec.digits_at bytes.now }
+    ensures within { result ≤ length bytes.now }
+{
+    let mut count = 0;
+    'bytes: for byte in bytes {
+        if !byte.is_ascii_digit() {
+            return count;
+        }
+        count += 1;
+    }
+    count
+}
+
+/// How many digits stand after the point that begins a text: none where none begins it.
+pub(crate) fn digits_after_point(bytes: &[u8]) -> usize
+    ensures value { result ≡ spec.digits_after_point bytes.now }
+    ensures within { result ≤ length bytes.now }
+{
+    match bytes {
+        [b'.', rest @ ..] => digits_at(rest),
+        _ => 0,
+    }
+}
+
+/// How many ASCII letters, digits and `_` begin a text.
+pub(crate) fn name_bytes_at(bytes: &[u8]) -> usize
+    ensures value { result ≡ prefix_len is_name_byte bytes.now }
+    ensures within { result ≤ length bytes.now }
+{
+    let mut count = 0;
+    'bytes: for byte in bytes {
+        if !byte.is_ascii_alphanumeric() && *byte != b'_' {
+            return count;
+        }
+        count += 1;
+    }
+    count
+}
+
+/// How many bytes stand before the first such mark. None where there is none.
+pub(crate) fn until_mark(mark: u8, bytes: &[u8]) -> Option<usize>
+    ensures value { result ≡ spec.until_mark mark bytes.now }
+    ensures found { IfSome result (λ inside. (inside < length bytes.now) × (slice_index bytes.now inside ≡ mark)) }
+{
+    let mut count = 0;
+    'bytes: for byte in bytes {
+        if *byte == mark {
+            return Some(count);
+        }
+        count += 1;
+    }
+    None
+}

@@ -1,0 +1,113 @@
+//! Words.
+
+ghost use Rattle.std.specs.Prelude.{◌≡◌, ◌==◌, ◌||◌, true, drop, slice_index, IfOk};
+ghost use Rattle.std.specs.Char.{is_ascii_alphabetic};
+ghost use Rattle.std.specs.List.{list_all};
+ghost use Rattle.std.specs.Str.{chars, IsCharBoundary};
+ghost use Rattle.tydi_base.specs.Name as name;
+ghost use Rattle.til_lexer.specs.Cuts.{length_of, CanCut};
+ghost use Rattle.til_lexer.specs.Pieces.{word_token};
+ghost use Rattle.til_lexer.specs.Words as spec;
+
+use crate::fault::LexFault;
+use crate::piece::Piece;
+use crate::spans::name_bytes_at;
+use crate::token::TokenKind;
+use tydi_base::Place;
+use unicode_ident::{is_xid_continue, is_xid_start};
+
+/// Whether a word begins a text. Only a character that is not ASCII is decoded.
+pub(crate) fn starts_word(text: &str) -> bool
+    ensures { result ≡ spec.starts_word (slice_index (chars text.now) 0) }
+{
+    match text.as_bytes() {
+        [first, ..] if first.is_ascii() => starts_ascii_word(*first),
+        _ => starts_other_word(text),
+    }
+}
+
+/// Whether a word begins with this ASCII byte.
+fn starts_ascii_word(byte: u8) -> bool
+    ensures { result ≡ (is_ascii_alphabetic byte || (byte == 95)) }
+{
+    byte.is_ascii_alphabetic() || byte == b'_'
+}
+
+/// Whether a word begins a text whose first character may be any.
+fn starts_other_word(text: &str) -> bool
+    ensures { result ≡ spec.starts_word (slice_index (chars text.now) 0) }
+{
+    match text.chars().next() {
+        Some(character) => character == '_' || is_xid_start(character),
+        None => false,
+    }
+}
+
+/// The token of the word that begins a text. The ASCII of it is looked at byte by byte, and one character after that.
+#[tactic(auto, unfolding(crate::specs::Pieces::word_token))]
+pub(crate) fn word_at(place: Place, text: &str) -> Result<Piece, LexFault>
+    requires { spec.starts_word (slice_index (chars text.now) 0) ≡ true }
+    ensures value { result ≡ word_token place (spec.word_of (chars text.now)) }
+    ensures cut { IfOk result (λ piece. CanCut text.now (length_of piece)) }
+{
+    let bytes = text.as_bytes();
+    let count = name_bytes_at(bytes);
+    if count == 0 || continues(text, count) {
+        return Err(LexFault::NameNotAscii(place));
+    }
+    if has_name_form(&bytes[..count]) {
+        Ok(Piece::Token(TokenKind::Word, count))
+    } else {
+        Err(LexFault::BadName(place))
+    }
+}
+
+/// Whether a character that may continue a word stands after so many bytes of a text.
+fn continues(text: &str, count: usize) -> bool
+    requires { IsCharBoundary text.now count }
+    ensures { result ≡ spec.continues (chars (drop count text.now)) }
+{
+    match text[count..].chars().next() {
+        Some(character) => is_xid_continue(character),
+        None => false,
+    }
+}
+
+/// Whether a word of ASCII letters, digits and `_` has the form of a name.
+fn has_name_form(word: &[u8]) -> bool
+    requires { list_all name.is_name_byte word.now ≡ true }
+    ensures { result ≡ spec.has_name_form word.now }
+{
+    begins_with_letter(word) && !has_double_underscore(word) && !ends_in_underscore(word)
+}
+
+fn begins_with_letter(word: &[u8]) -> bool
+    ensures { result ≡ name.begins_with_letter word.now }
+{
+    match word {
+        [] => false,
+        [first, ..] => first.is_ascii_alphabetic(),
+    }
+}
+
+fn has_double_underscore(word: &[u8]) -> bool
+    ensures { result ≡ name.has_double_underscore word.now }
+{
+    let mut previous = 0;
+    for byte in word {
+        if previous == b'_' && *byte == b'_' {
+            return true;
+        }
+        previous = *byte;
+    }
+    false
+}
+
+fn ends_in_underscore(word: &[u8]) -> bool
+    ensures { result ≡ name.ends_in_underscore word.now }
+{
+    match word {
+        [] => false,
+        [.., last] => *last == b'_',
+    }
+}
