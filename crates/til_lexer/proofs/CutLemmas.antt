@@ -83,7 +83,7 @@ fraction_ends (byte ∷ bytes) some = by_cases (eqb byte 46) refl some
     by_cases true is some = ends_past (byte ∷ bytes) 1 (digits_at bytes) (omega arith) (prefix_ends is_ascii_digit is_ascii_digit-ascii bytes some)
     by_cases false is some = absurd (omega arith)
 
-number_ends-at : (bytes : List ℕ) (whole fraction : ℕ) → whole ≤ length bytes → fraction ≡ digits_after_point (drop whole bytes) → 0 < fraction → EndsInAscii bytes (whole + 1 + fraction)
+pub number_ends-at : (bytes : List ℕ) (whole fraction : ℕ) → whole ≤ length bytes → fraction ≡ digits_after_point (drop whole bytes) → 0 < fraction → EndsInAscii bytes (whole + 1 + fraction)
 number_ends-at bytes whole fraction within is some =
     let order : whole + (1 + fraction) ≡ whole + 1 + fraction = omega arith in
     subst (λ count. EndsInAscii bytes count) order (ends_past bytes whole (1 + fraction) within (rw is (fraction_ends (drop whole bytes) (rw is at some))))

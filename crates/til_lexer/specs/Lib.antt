@@ -5,3 +5,4 @@ pub mod Pieces
 pub mod Faults
 pub mod Cuts
 pub mod Tokens
+pub mod Slices
