@@ -1,8 +1,8 @@
 -- Each piece can be cut off the front of its text.
-use Rattle.std.proofs.Common.{◌≡◌, ℕ, zero, suc, ◌+◌, ◌-◌, ◌<◌, ◌≤◌, Bool, true, false, not, ◌&&◌, cond, eqb, ltb, List, [], ◌∷◌, ◌++◌, length, take, drop, get_or, Option, Some, None, IfSome, Result, Ok, Err, IfOk, refl, sym, ap, ◌∙◌, subst, arith, length-append}
+use Rattle.std.proofs.Common.{◌≡◌, ℕ, zero, suc, ◌+◌, ◌-◌, ◌<◌, Bool, true, false, not, ◌&&◌, cond, eqb, ltb, List, [], ◌∷◌, ◌++◌, length, take, drop, get_or, Option, Some, None, IfSome, Result, Ok, Err, IfOk, refl, sym, ap, ◌∙◌, subst, arith, length-append}
 use Rattle.std.specs.Char.{is_ascii, is_ascii_digit}
-use Rattle.std.specs.List.{list_all, position_or_len, prefix_len, take_while}
-use Rattle.std.specs.Str.{IsUtf8, IsAscii, chars, encode_utf8_all}
+use Rattle.std.specs.List.{list_all, position_or_len, prefix_len}
+use Rattle.std.specs.Str.{IsUtf8, chars, encode_utf8_all}
 use Rattle.std.proofs.lemmas.Bool.Decides.{nat_tests}
 use Rattle.std.proofs.lemmas.List.{take-append-drop, get_or_append_left}
 use Rattle.std.proofs.lemmas.List.Sums.{prefix_len_stops}
@@ -13,11 +13,11 @@ use Rattle.til_lexer.specs.declared.fault.LexFault.{LexFault}
 use Rattle.til_lexer.specs.declared.piece.Piece.{Piece}
 use Rattle.til_lexer.specs.declared.token.TokenKind.{TokenKind}
 use Rattle.til_lexer.specs.declared.token.TokenKind.TheVariants as kinds
-use Rattle.til_lexer.specs.Cuts.{length_of, EndsInAscii, CanCut}
-use Rattle.til_lexer.specs.Pieces.{piece_at, word_token, mark_at, number_at, number_token, number_length, symbol_at, symbol_token, single_symbol, double_symbol, closed_token}
+use Rattle.til_lexer.specs.Tokens.{length_of}
+use Rattle.til_lexer.specs.Pieces.{piece_at, word_token, mark_at, number_token, symbol_token, single_symbol, double_symbol, closed_token}
 use Rattle.til_lexer.specs.Spans.{is_space, begins_comment, digits_at, digits_after_point, until_mark}
 use Rattle.til_lexer.specs.Words.{starts_word, word_of, has_name_form}
-use Rattle.til_lexer.proofs.CutLemmas.{ends_past, ends_cut, space_cut, line_cut, digits_end, number_ends-at}
+use Rattle.til_lexer.proofs.CutLemmas.{EndsInAscii, CanCut, ends_past, ends_cut, space_cut, line_cut, digits_end, number_ends}
 
 abbrev Found : Type 0
 Found = Result Piece LexFault
@@ -103,7 +103,7 @@ closed_ends kind fault mark (byte ∷ bytes) ascii first some = by_cases (ltb (p
 mark_ends : (place : Place) (bytes : List ℕ) → IfOk (mark_at place bytes) (λ piece. EndsInAscii bytes (length_of piece))
 unfolding mark_at
 mark_ends place bytes =
-    either _ (is_ascii_digit (get_or bytes 0 0)) _ _ (λ digit. number_token-ends place bytes (digits_at bytes) (digits_after_point (drop (digits_at bytes) bytes)) (digits_end bytes digit) (λ some. number_ends-at bytes (digits_at bytes) _ (digits_end bytes digit).within refl some))
+    either _ (is_ascii_digit (get_or bytes 0 0)) _ _ (λ digit. number_token-ends place bytes (digits_at bytes) (digits_after_point (drop (digits_at bytes) bytes)) (digits_end bytes digit) (λ some. number_ends bytes (digits_at bytes) _ (digits_end bytes digit).within refl some))
     (λ _. either _ (eqb (get_or bytes 0 0) 34) _ _ (λ mark. closed_ends _ _ 34 bytes (omega arith) (grind (arith, nat_tests)) (omega arith))
     (λ _. either _ (eqb (get_or bytes 0 0) 35) _ _ (λ mark. closed_ends _ _ 35 bytes (omega arith) (grind (arith, nat_tests)) (omega arith))
     (λ _. symbol_ends place bytes _ _ (double_symbol-ascii (get_or bytes 0 0) (get_or bytes 1 0)) (single_symbol-ascii (get_or bytes 0 0)))))
@@ -129,25 +129,28 @@ unfolding word_of
 word_ends text [] same some all = absurd (omega (arith, ap length same))
 word_ends text (character ∷ characters) same some all =
     let whole : character ∷ characters ≡ (character ∷ take (prefix_len is_xid_continue characters) characters) ++ drop (prefix_len is_xid_continue characters) characters =
-      ap (λ (l : List ℕ). character ∷ l) (sym (take-append-drop (prefix_len is_xid_continue characters) characters)) in
+    ap (λ (l : List ℕ). character ∷ l) (sym (take-append-drop (prefix_len is_xid_continue characters) characters)) in
     let plain : encode_utf8_all (character ∷ take (prefix_len is_xid_continue characters) characters) ≡ character ∷ take (prefix_len is_xid_continue characters) characters =
-      encodes-IsAscii (character ∷ take (prefix_len is_xid_continue characters) characters) (λ at. ascii_at (character ∷ take (prefix_len is_xid_continue characters) characters) at all) in
+    encodes-IsAscii (character ∷ take (prefix_len is_xid_continue characters) characters) (λ at. ascii_at (character ∷ take (prefix_len is_xid_continue characters) characters) at all) in
     front_ends (character ∷ take (prefix_len is_xid_continue characters) characters) (encode_utf8_all (drop (prefix_len is_xid_continue characters) characters)) text
-      (same ∙ ap encode_utf8_all whole ∙ encodes-append (character ∷ take (prefix_len is_xid_continue characters) characters) (drop (prefix_len is_xid_continue characters) characters)
-        ∙ ap (λ (l : List ℕ). l ++ encode_utf8_all (drop (prefix_len is_xid_continue characters) characters)) plain)
-      (omega arith) all
+    (same ∙ ap encode_utf8_all whole ∙ encodes-append (character ∷ take (prefix_len is_xid_continue characters) characters) (drop (prefix_len is_xid_continue characters) characters)
+    ∙ ap (λ (l : List ℕ). l ++ encode_utf8_all (drop (prefix_len is_xid_continue characters) characters)) plain)
+    (omega arith) all
 
 word_cut : (place : Place) (text : List ℕ) → IsUtf8 text → 0 < length text → IfOk (word_token place (word_of (chars text))) (λ piece. CanCut text (length_of piece))
 unfolding word_token
 word_cut place text utf8 some =
     either _ (list_all is_ascii (word_of (chars text))) _ _
-      (λ all. either _ (has_name_form (word_of (chars text))) _ _ (λ _. ends_cut text (length (word_of (chars text))) utf8 (word_ends text (chars text) (sym (encodes-chars text utf8)) some all)) (λ _. tt))
-      (λ _. tt)
+    (λ all. either _ (has_name_form (word_of (chars text))) _ _ (λ _. ends_cut text (length (word_of (chars text))) utf8 (word_ends text (chars text) (sym (encodes-chars text utf8)) some all)) (λ _. tt))
+    (λ _. tt)
 
-pub piece_cut : (place : Place) (text : List ℕ) → IsUtf8 text → 0 < length text → IfOk (piece_at place text) (λ piece. CanCut text (length_of piece))
+piece_cut : (place : Place) (text : List ℕ) → IsUtf8 text → 0 < length text → IfOk (piece_at place text) (λ piece. CanCut text (length_of piece))
 unfolding piece_at
 piece_cut place text utf8 some =
     either _ (is_space (get_or text 0 0)) _ _ (λ is. space_cut text utf8 some is)
     (λ _. either _ (begins_comment text) _ _ (λ is. line_cut text is)
     (λ _. either _ (starts_word (get_or (chars text) 0 0)) _ _ (λ is. word_cut place text utf8 some)
     (λ _. if_ok _ _ (mark_at place text) (λ piece ends. ends_cut text (length_of piece) utf8 ends) (mark_ends place text))))
+
+pub found_cut : (place : Place) (bytes : List ℕ) (piece : Piece) → IsUtf8 bytes → 0 < length bytes → piece_at place bytes ≡ Ok piece → CanCut bytes (length_of piece)
+found_cut place bytes piece utf8 some is = rw is at (piece_cut place bytes utf8 some)

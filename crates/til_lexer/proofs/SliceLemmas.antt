@@ -1,5 +1,5 @@
 -- Each token of a text is the piece that stands at its place.
-use Rattle.std.proofs.Common.{◌≡◌, ℕ, zero, suc, ◌+◌, ◌-◌, ◌<◌, ◌≤◌, Bool, true, false, cond, eqb, List, [], ◌∷◌, ◌++◌, length, take, drop, Result, Ok, Err, All, append_assoc, length-append, refl, sym, ap, ◌∙◌, subst, arith}
+use Rattle.std.proofs.Common.{◌≡◌, ℕ, zero, suc, ◌+◌, ◌-◌, ◌≤◌, Bool, true, false, cond, eqb, List, [], ◌∷◌, ◌++◌, length, take, drop, Result, Ok, Err, All, append_assoc, length-append, refl, sym, ap, ◌∙◌, subst, arith}
 use Rattle.std.proofs.Math.Seq.{drop-append_seam, take-append_seam}
 use Rattle.std.proofs.lemmas.List.Elements.{All-append, All-nil, All-cons}
 use Rattle.std.proofs.lemmas.Str.{IsUtf8-drop, IsCharBoundary-from_rest, IsCharBoundary-start}
@@ -11,12 +11,12 @@ use Rattle.til_lexer.specs.declared.piece.Piece.{Piece}
 use Rattle.til_lexer.specs.declared.piece.Piece.TheVariants as pieces
 use Rattle.til_lexer.specs.declared.token.Token.{Token}
 use Rattle.til_lexer.specs.declared.token.TokenKind.{TokenKind}
-use Rattle.til_lexer.specs.Cuts.{length_of, CanCut}
 use Rattle.til_lexer.specs.Pieces.{piece_at}
 use Rattle.til_lexer.specs.Places.{start, place_after, place_past}
 use Rattle.til_lexer.specs.Slices.{IsTokenOf, TokensAreOfTheText}
-use Rattle.til_lexer.specs.Tokens.{with_front, tokens_in, tokens_from}
-use Rattle.til_lexer.proofs.PieceCuts.{piece_cut}
+use Rattle.til_lexer.specs.Tokens.{length_of, with_front, tokens_in, tokens_from}
+use Rattle.til_lexer.proofs.PieceCuts.{found_cut}
+use Rattle.til_lexer.proofs.CutLemmas.{CanCut}
 
 -- ---- places
 
@@ -63,9 +63,6 @@ At-boundary : (text front bytes : List ℕ) (place : Place) (count : ℕ) → At
 At-boundary text front bytes place count at boundary =
     IsCharBoundary-from_rest text (length front) count (omega (arith, ap length at.whole, length-append front bytes)) (subst (λ (l : List ℕ). IsCharBoundary l count) (sym (At-drop text front bytes place at)) boundary)
 
-found_cut : (place : Place) (bytes : List ℕ) (piece : Piece) → IsUtf8 bytes → 0 < length bytes → piece_at place bytes ≡ Ok piece → CanCut bytes (length_of piece)
-found_cut place bytes piece utf8 some is = rw is at (piece_cut place bytes utf8 some)
-
 token_found : TokenKind → ℕ → Result Piece LexFault
 token_found kind count = Ok (pieces.Token kind count)
 
@@ -105,7 +102,7 @@ law-rest text front byte bytes place piece tokens (Ok more) further at utf8 begi
     let ends : IsCharBoundary text (length front + length_of piece) = At-boundary text front (byte ∷ bytes) place (length_of piece) at cut.boundary in
     let step : length front + length_of piece ≡ length (front ++ byte ∷ []) + (length_of piece - 1) = omega (arith, length-append front (byte ∷ [])) in
     subst (All (IsTokenOf text)) both (All-append (IsTokenOf text) (tokens_in place piece) more (tokens_in-are text front (byte ∷ bytes) place piece at begins cut is)
-      (further (front ++ byte ∷ []) (length_of piece - 1) (place_after place byte) more (At-more text front byte bytes place at) utf8 (omega arith) (subst (IsCharBoundary text) step ends) rest_is))
+    (further (front ++ byte ∷ []) (length_of piece - 1) (place_after place byte) more (At-more text front byte bytes place at) utf8 (omega arith) (subst (IsCharBoundary text) step ends) rest_is))
 
 law-piece : (text front : List ℕ) (byte : ℕ) (bytes : List ℕ) (place : Place) (tokens : List Token) (found : Result Piece LexFault) → Law text bytes → At text front (byte ∷ bytes) place → IsUtf8 text → IsCharBoundary text (length front)
     → piece_at place (byte ∷ bytes) ≡ found → (found >>= λ piece. with_front (tokens_in place piece) (tokens_from (length_of piece - 1) (place_after place byte) bytes)) ≡ Ok tokens → All (IsTokenOf text) tokens
