@@ -1,16 +1,24 @@
 -- Where pieces end.
-use Rattle.std.proofs.Common.{◌≡◌, ℕ, ◌+◌, ◌-◌, ◌<◌, ◌≤◌, Bool, true, false, not, cond, eqb, List, [], ◌∷◌, length, take, drop, get_or, length-drop, Result, Ok, Err, IfOk, refl, ap, ◌∙◌, subst, arith}
+use Rattle.std.proofs.Common.{◌≡◌, ℕ, ◌+◌, ◌-◌, ◌<◌, ◌≤◌, Bool, true, false, not, cond, eqb, List, [], ◌∷◌, length, drop, get_or, length-drop, refl, subst, arith}
 use Rattle.std.specs.Char.{is_ascii_digit}
 use Rattle.std.specs.List.{prefix_len}
 use Rattle.std.specs.Str.{IsUtf8, IsCharBoundary}
 use Rattle.std.proofs.lemmas.Bool.Decides.{nat_tests}
-use Rattle.std.proofs.lemmas.List.{get_or-drop, take_rest}
+use Rattle.std.proofs.lemmas.List.{get_or-drop}
 use Rattle.std.proofs.lemmas.List.Sums.{prefix_len-le-length, prefix_len_passes, prefix_len_stops}
 use Rattle.std.proofs.lemmas.Str.{IsCharBoundary-after_ascii, IsCharBoundary-before_ascii, IsCharBoundary-end}
-use Rattle.til_lexer.specs.Cuts.{length_of, EndsInAscii, CanCut}
-use Rattle.til_lexer.specs.declared.fault.LexFault.{LexFault}
-use Rattle.til_lexer.specs.declared.piece.Piece.{Piece}
 use Rattle.til_lexer.specs.Spans.{is_space, space_length, begins_comment, line_length, digits_at, digits_after_point}
+
+-- so many bytes stand at the front of a text, one at least, and the last of them is ASCII
+pub record EndsInAscii (bytes : List ℕ) (count : ℕ) : Type 0 where
+  pub some : 0 < count
+  pub within : count ≤ length bytes
+  pub last : get_or bytes (count - 1) 0 < 128
+
+-- so many bytes, one at least, can be cut off the front of a text: no character is cut in two
+pub record CanCut (bytes : List ℕ) (count : ℕ) : Type 0 where
+  pub some : 0 < count
+  pub boundary : IsCharBoundary bytes count
 
 -- what ends in ASCII further on in a text
 pub ends_past : (bytes : List ℕ) (before count : ℕ) → before ≤ length bytes → EndsInAscii (drop before bytes) count → EndsInAscii bytes (before + count)
@@ -83,15 +91,7 @@ fraction_ends (byte ∷ bytes) some = by_cases (eqb byte 46) refl some
     by_cases true is some = ends_past (byte ∷ bytes) 1 (digits_at bytes) (omega arith) (prefix_ends is_ascii_digit is_ascii_digit-ascii bytes some)
     by_cases false is some = absurd (omega arith)
 
-number_ends-at : (bytes : List ℕ) (whole fraction : ℕ) → whole ≤ length bytes → fraction ≡ digits_after_point (drop whole bytes) → 0 < fraction → EndsInAscii bytes (whole + 1 + fraction)
-number_ends-at bytes whole fraction within is some =
+pub number_ends : (bytes : List ℕ) (whole fraction : ℕ) → whole ≤ length bytes → fraction ≡ digits_after_point (drop whole bytes) → 0 < fraction → EndsInAscii bytes (whole + 1 + fraction)
+number_ends bytes whole fraction within is some =
     let order : whole + (1 + fraction) ≡ whole + 1 + fraction = omega arith in
     subst (λ count. EndsInAscii bytes count) order (ends_past bytes whole (1 + fraction) within (rw is (fraction_ends (drop whole bytes) (rw is at some))))
-
--- a number with a point, as a slice gives what stands after its whole digits
-pub number_ends : (bytes : List ℕ) (whole fraction : ℕ) → whole ≤ length bytes → fraction ≡ digits_after_point (take (length bytes - whole) (drop whole bytes)) → 0 < fraction → EndsInAscii bytes (whole + 1 + fraction)
-number_ends bytes whole fraction within is some = number_ends-at bytes whole fraction within (is ∙ ap digits_after_point (take_rest bytes whole)) some
-
-pub mark_cut : (text bytes : List ℕ) (found : Result Piece LexFault) → IsUtf8 text → bytes ≡ text → IfOk found (λ piece. EndsInAscii bytes (length_of piece)) → IfOk found (λ piece. CanCut text (length_of piece))
-mark_cut text bytes (Ok piece) utf8 same ends = ends_cut text (length_of piece) utf8 (subst (λ front. EndsInAscii front (length_of piece)) same ends)
-mark_cut text bytes (Err fault) utf8 same ends = tt

@@ -4,15 +4,17 @@ use Rattle.std.proofs.lemmas.Bool.Decides.{nat_tests}
 use Rattle.std.proofs.lemmas.List.{append-nil}
 use Rattle.tydi_base.specs.declared.place.Place.{Place}
 use Rattle.tydi_base.specs.Reading.{Gives}
+use Rattle.std.specs.Str.{IsUtf8}
+use Rattle.til_lexer.proofs.CutLemmas.{CanCut}
+use Rattle.til_lexer.proofs.PieceCuts.{found_cut}
 use Rattle.til_lexer.specs.declared.fault.LexFault.{LexFault}
 use Rattle.til_lexer.specs.declared.fault.LexFault.TheVariants as faults
 use Rattle.til_lexer.specs.declared.piece.Piece.{Piece}
 use Rattle.til_lexer.specs.declared.token.Token.{Token}
-use Rattle.til_lexer.specs.Cuts.{length_of}
 use Rattle.til_lexer.specs.Faults.{fault_in}
 use Rattle.til_lexer.specs.Pieces.{piece_at}
 use Rattle.til_lexer.specs.Places.{place_after, place_past}
-use Rattle.til_lexer.specs.Tokens.{with_front, tokens_in, tokens_from}
+use Rattle.til_lexer.specs.Tokens.{length_of, with_front, tokens_in, tokens_from}
 
 abbrev Tokens : Type 0
 Tokens = Result (List Token) LexFault
@@ -67,6 +69,9 @@ at_end whole tokens place (byte ∷ bytes) same none = absurd (grind (arith, nat
 
 pub nonempty : (bytes : List ℕ) → false ≡ eqb (length bytes) 0 → 0 < length bytes
 nonempty bytes test = grind (arith, nat_tests)
+
+pub can_cut : (place : Place) (bytes : List ℕ) (piece : Piece) → IsUtf8 bytes → false ≡ eqb (length bytes) 0 → Ok piece ≡ piece_at place bytes → CanCut bytes (length_of piece)
+can_cut place bytes piece utf8 test is = found_cut place bytes piece utf8 (nonempty bytes test) (sym is)
 
 gives_fault : (fault : LexFault) (whole : Tokens) → whole ≡ Err fault → Gives fault_in (λ (tokens : List Token). tokens) (Err fault) whole
 gives_fault (faults.StrayChar place) whole same = same

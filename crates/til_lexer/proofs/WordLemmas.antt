@@ -14,10 +14,9 @@ use Rattle.tydi_base.specs.Name.{is_name_byte}
 use Rattle.til_lexer.specs.declared.fault.LexFault.TheVariants as faults
 use Rattle.til_lexer.specs.declared.token.TokenKind.TheVariants as kinds
 use Rattle.til_lexer.specs.declared.piece.Piece.TheVariants.{Token}
-use Rattle.til_lexer.specs.Cuts.{CanCut}
 use Rattle.til_lexer.specs.Pieces.{word_token}
 use Rattle.til_lexer.specs.Words.{starts_word, word_of, has_name_form, continues}
-use Rattle.til_lexer.proofs.CutLemmas.{prefix_ends, ends_cut}
+use Rattle.til_lexer.proofs.CutLemmas.{CanCut, prefix_ends, ends_cut}
 
 -- ---- a text whose first byte is ASCII
 

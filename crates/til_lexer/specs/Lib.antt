@@ -3,5 +3,5 @@ pub mod Spans
 pub mod Words
 pub mod Pieces
 pub mod Faults
-pub mod Cuts
 pub mod Tokens
+pub mod Slices

@@ -1,4 +1,5 @@
--- The piece at the front of a text: a token, or what lies between tokens. This project's own.
+-- The piece at the front of a text: a token, or what lies between tokens. This project's own. A text is its bytes in UTF-8. All
+-- that tells pieces apart is ASCII, a byte for each character, but for the characters of words.
 use Rattle.std.specs.Prelude.{ℕ, ◌+◌, ◌==◌, ◌&&◌, nat_lt, List, drop, length, slice_index, Option, Some, None, Result, Ok, Err, if◌then◌else◌}
 use Rattle.std.specs.Char.{is_ascii, is_ascii_digit}
 use Rattle.std.specs.List.{list_all}
@@ -13,7 +14,8 @@ use Rattle.til_lexer.specs.declared.piece.Piece.TheVariants.{Blank, Token}
 use Rattle.til_lexer.specs.Spans.{is_space, space_length, begins_comment, line_length, digits_at, digits_after_point, until_mark}
 use Rattle.til_lexer.specs.Words.{starts_word, word_of, has_name_form}
 
--- the token that a word is: a fault where a character of it is not ASCII, and else where it has not the form of a name
+-- the token that a word is, with a byte for each of its characters: a fault where one of them is not ASCII, and else where it
+-- has not the form of a name
 unfoldable pub word_token : Place → List ℕ → Result Piece LexFault
 word_token place word =
     if list_all is_ascii word

@@ -7,8 +7,12 @@ use Rattle.til_lexer.specs.declared.token.Token.{Token}
 use Rattle.til_lexer.specs.declared.piece.Piece.{Piece}
 use Rattle.til_lexer.specs.declared.piece.Piece.TheVariants as pieces
 use Rattle.til_lexer.specs.Places.{start, place_after}
-use Rattle.til_lexer.specs.Cuts.{length_of}
 use Rattle.til_lexer.specs.Pieces.{piece_at}
+
+-- how many bytes a piece has
+abbrev pub length_of : Piece → ℕ
+length_of (pieces.Blank count) = count
+length_of (pieces.Token kind count) = count
 
 -- the token that a piece at this place is: none between tokens
 abbrev pub tokens_in : Place → Piece → List Token

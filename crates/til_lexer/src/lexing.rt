@@ -2,9 +2,8 @@
 
 ghost use Rattle.std.specs.Prelude.{◌≡◌, ◌+◌, ◌-◌, ◌^◌, ◌<◌, ◌≤◌, ◌++◌, length, OnOk};
 ghost use Rattle.tydi_base.specs.Reading.{Gives};
-ghost use Rattle.til_lexer.specs.Cuts.{length_of};
 ghost use Rattle.til_lexer.specs.Faults.{fault_in};
-ghost use Rattle.til_lexer.specs.Tokens.{tokens_in, tokens_of};
+ghost use Rattle.til_lexer.specs.Tokens.{length_of, tokens_in, tokens_of};
 
 use crate::fault::LexFault;
 use crate::piece::Piece;

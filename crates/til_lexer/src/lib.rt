@@ -4,6 +4,7 @@
 #![tactic(auto)]
 
 mod fault;
+mod laws;
 mod lexing;
 mod marks;
 mod numbers;
@@ -18,5 +19,6 @@ mod token;
 mod words;
 
 pub use fault::LexFault;
+pub use laws::tokens_are_of_the_text;
 pub use lexing::lex;
 pub use token::{Token, TokenKind};

@@ -1,7 +1,6 @@
 //! Quoted text and documentation: what stands between two marks. And all pieces that are no blank and no word.
 
-ghost use Rattle.std.specs.Prelude.{◌≡◌, ℕ, ◌<◌, ◌∷◌, IfOk};
-ghost use Rattle.til_lexer.specs.Cuts.{length_of, EndsInAscii};
+ghost use Rattle.std.specs.Prelude.{◌≡◌};
 ghost use Rattle.til_lexer.specs.Pieces as spec;
 ghost use Rattle.til_lexer.specs.Spans.{until_mark};
 
@@ -16,8 +15,7 @@ use tydi_base::Place;
 /// The number, quoted text, documentation or symbol that begins a text.
 #[tactic(auto, unfolding(crate::specs::Pieces::mark_at))]
 pub(crate) fn mark_at(place: Place, bytes: &[u8]) -> Result<Piece, LexFault>
-    ensures value { result ≡ spec.mark_at place bytes.now }
-    ensures ends { IfOk result (λ piece. EndsInAscii bytes.now (length_of piece)) }
+    ensures { result ≡ spec.mark_at place bytes.now }
 {
     match bytes {
         [b'0'..=b'9', ..] => number_at(place, bytes),
@@ -35,9 +33,7 @@ pub(crate) fn mark_at(place: Place, bytes: &[u8]) -> Result<Piece, LexFault>
 /// The token that a mark opens, of what stands after it.
 #[tactic(auto, unfolding(crate::specs::Pieces::closed_token))]
 fn closed_token(kind: TokenKind, fault: LexFault, mark: u8, after: &[u8]) -> Result<Piece, LexFault>
-    requires { mark < 128 }
-    ensures value { result ≡ spec.closed_token kind fault (until_mark mark after.now) }
-    ensures ends { IfOk result (λ piece. (first : ℕ) → EndsInAscii (first ∷ after.now) (length_of piece)) }
+    ensures { result ≡ spec.closed_token kind fault (until_mark mark after.now) }
 {
     match until_mark(mark, after) {
         Some(inside) => Ok(Piece::Token(kind, inside + 2)),

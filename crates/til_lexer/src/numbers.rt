@@ -1,8 +1,6 @@
 //! Numbers.
 
-ghost use Rattle.std.specs.Prelude.{◌≡◌, true, slice_index, IfOk};
-ghost use Rattle.std.specs.Char.{is_ascii_digit};
-ghost use Rattle.til_lexer.specs.Cuts.{length_of, EndsInAscii};
+ghost use Rattle.std.specs.Prelude.{◌≡◌};
 ghost use Rattle.til_lexer.specs.Pieces as spec;
 
 use crate::fault::LexFault;
@@ -17,9 +15,7 @@ const MOST_DIGITS: usize = 18;
 /// The number that begins a text: digits, and then a point and digits where both stand there.
 #[tactic(auto, unfolding(crate::specs::Pieces::number_token))]
 pub(crate) fn number_at(place: Place, bytes: &[u8]) -> Result<Piece, LexFault>
-    requires { is_ascii_digit (slice_index bytes.now 0) ≡ true }
-    ensures value { result ≡ spec.number_at place bytes.now }
-    ensures ends { IfOk result (λ piece. EndsInAscii bytes.now (length_of piece)) }
+    ensures { result ≡ spec.number_at place bytes.now }
 {
     let whole = digits_at(bytes);
     let fraction = digits_after_point(&bytes[whole..]);

@@ -1,5 +1,5 @@
 ghost use Rattle.std.specs.Prelude.{◌≡◌};
-ghost use Rattle.til_lexer.specs.Cuts.{length_of};
+ghost use Rattle.til_lexer.specs.Tokens.{length_of};
 
 use crate::token::TokenKind;
 

@@ -1,7 +1,6 @@
 //! The piece that begins a text.
 
 ghost use Rattle.std.specs.Prelude.{◌≡◌, ◌<◌, length, IfOk};
-ghost use Rattle.til_lexer.specs.Cuts.{length_of, CanCut};
 ghost use Rattle.til_lexer.specs.Pieces as spec;
 
 use crate::fault::LexFault;
@@ -15,8 +14,7 @@ use tydi_base::Place;
 #[tactic(auto, unfolding(crate::specs::Pieces::piece_at))]
 pub(crate) fn piece_at(place: Place, text: &str) -> Result<Piece, LexFault>
     requires { 0 < length text.now }
-    ensures value { result ≡ spec.piece_at place text.now }
-    ensures cut { IfOk result (λ piece. CanCut text.now (length_of piece)) }
+    ensures { result ≡ spec.piece_at place text.now }
 {
     let bytes = text.as_bytes();
     if is_space(bytes[0]) {

@@ -93,7 +93,7 @@ pub(crate) fn name_bytes_at(bytes: &[u8]) -> usize
 /// How many bytes stand before the first such mark. None where there is none.
 pub(crate) fn until_mark(mark: u8, bytes: &[u8]) -> Option<usize>
     ensures value { result ≡ spec.until_mark mark bytes.now }
-    ensures found { IfSome result (λ inside. (inside < length bytes.now) × (slice_index bytes.now inside ≡ mark)) }
+    ensures within { IfSome result (λ inside. inside < length bytes.now) }
 {
     let mut count = 0;
     'bytes: for byte in bytes {

@@ -1,7 +1,6 @@
 //! Symbols, the longest first.
 
-ghost use Rattle.std.specs.Prelude.{◌≡◌, slice_index, IfOk, IfSome};
-ghost use Rattle.til_lexer.specs.Cuts.{length_of, EndsInAscii};
+ghost use Rattle.std.specs.Prelude.{◌≡◌, slice_index};
 ghost use Rattle.til_lexer.specs.Pieces as spec;
 
 use crate::fault::LexFault;
@@ -12,8 +11,7 @@ use tydi_base::Place;
 /// The symbol that begins a text.
 #[tactic(auto, unfolding(crate::specs::Pieces::symbol_token))]
 pub(crate) fn symbol_at(place: Place, bytes: &[u8]) -> Result<Piece, LexFault>
-    ensures value { result ≡ spec.symbol_at place bytes.now }
-    ensures ends { IfOk result (λ piece. EndsInAscii bytes.now (length_of piece)) }
+    ensures { result ≡ spec.symbol_at place bytes.now }
 {
     if let Some(kind) = double_symbol(bytes) {
         return Ok(Piece::Token(kind, 2));
@@ -26,8 +24,7 @@ pub(crate) fn symbol_at(place: Place, bytes: &[u8]) -> Result<Piece, LexFault>
 
 #[tactic(auto, unfolding(crate::specs::Pieces::double_symbol))]
 fn double_symbol(bytes: &[u8]) -> Option<TokenKind>
-    ensures value { result ≡ spec.double_symbol (slice_index bytes.now 0) (slice_index bytes.now 1) }
-    ensures ends { IfSome result (λ _. EndsInAscii bytes.now 2) }
+    ensures { result ≡ spec.double_symbol (slice_index bytes.now 0) (slice_index bytes.now 1) }
 {
     match bytes {
         [b':', b':', ..] => Some(TokenKind::DoubleColon),
@@ -38,8 +35,7 @@ fn double_symbol(bytes: &[u8]) -> Option<TokenKind>
 
 #[tactic(auto, unfolding(crate::specs::Pieces::single_symbol))]
 fn single_symbol(bytes: &[u8]) -> Option<TokenKind>
-    ensures value { result ≡ spec.single_symbol (slice_index bytes.now 0) }
-    ensures ends { IfSome result (λ _. EndsInAscii bytes.now 1) }
+    ensures { result ≡ spec.single_symbol (slice_index bytes.now 0) }
 {
     match bytes {
         [b'{', ..] => Some(TokenKind::OpenBrace),

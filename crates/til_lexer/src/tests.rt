@@ -357,3 +357,8 @@ fn four_mebibytes_are_read(rt: HostRuntime) -> Result<(), Fail> {
     assert_eq!(rt; tokens.len(), 65_536 * 17);
     Ok(())
 }
+
+#[test]
+fn the_law_is_called() {
+    tokens_are_of_the_text();
+}

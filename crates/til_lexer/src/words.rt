@@ -1,11 +1,10 @@
 //! Words.
 
-ghost use Rattle.std.specs.Prelude.{◌≡◌, ◌==◌, ◌||◌, true, drop, slice_index, IfOk};
+ghost use Rattle.std.specs.Prelude.{◌≡◌, ◌==◌, ◌||◌, true, drop, slice_index};
 ghost use Rattle.std.specs.Char.{is_ascii_alphabetic};
 ghost use Rattle.std.specs.List.{list_all};
 ghost use Rattle.std.specs.Str.{chars, IsCharBoundary};
 ghost use Rattle.tydi_base.specs.Name as name;
-ghost use Rattle.til_lexer.specs.Cuts.{length_of, CanCut};
 ghost use Rattle.til_lexer.specs.Pieces.{word_token};
 ghost use Rattle.til_lexer.specs.Words as spec;
 
@@ -47,8 +46,7 @@ fn starts_other_word(text: &str) -> bool
 #[tactic(auto, unfolding(crate::specs::Pieces::word_token))]
 pub(crate) fn word_at(place: Place, text: &str) -> Result<Piece, LexFault>
     requires { spec.starts_word (slice_index (chars text.now) 0) ≡ true }
-    ensures value { result ≡ word_token place (spec.word_of (chars text.now)) }
-    ensures cut { IfOk result (λ piece. CanCut text.now (length_of piece)) }
+    ensures { result ≡ word_token place (spec.word_of (chars text.now)) }
 {
     let bytes = text.as_bytes();
     let count = name_bytes_at(bytes);

@@ -11,8 +11,8 @@ continues-requires c =
     let is = c.name_bytes_at-count.ensures.value ∙ ap (prefix_len is_name_byte) c.as_bytes-bytes.ensures.value in
     (name_cut c.args.text.now c.name_bytes_at-count.result c.utf8.text is (omega arith)).boundary
 
-pub returns-then-count-eq0-clause-value : goal.returns-then-count-eq0-clause-value
-returns-then-count-eq0-clause-value c =
+pub returns-then-count-eq0 : goal.returns-then-count-eq0
+returns-then-count-eq0 c =
     let is = c.name_bytes_at-count.ensures.value ∙ ap (prefix_len is_name_byte) c.as_bytes-bytes.ensures.value in
     elim c.then-count-eq0.branch [
       | then-count-eq0-via-then-count-eq0 w ↦ word-none c.args.place c.args.text.now c.name_bytes_at-count.result c.utf8.text is w.if-count-eq0.true c.requires
@@ -24,19 +24,14 @@ returns-then-count-eq0-clause-value c =
 pub has_name_form-requires : goal.has_name_form-requires
 has_name_form-requires c = prefix_names c.as_bytes-bytes.result.now c.name_bytes_at-count.result c.name_bytes_at-count.ensures.value
 
-pub returns-then-has_name_form-clause-value : goal.returns-then-has_name_form-clause-value
-returns-then-has_name_form-clause-value c =
+pub returns-then-has_name_form : goal.returns-then-has_name_form
+returns-then-has_name_form c =
     let is = c.name_bytes_at-count.ensures.value ∙ ap (prefix_len is_name_byte) c.as_bytes-bytes.ensures.value in
     let form = ap (λ bytes. has_name_form (take c.name_bytes_at-count.result bytes)) (sym c.as_bytes-bytes.ensures.value) ∙ sym c.has_name_form.ensures ∙ c.if-has_name_form.true in
     word-name c.args.place c.args.text.now c.name_bytes_at-count.result c.utf8.text is (omega arith) (sym c.continues.ensures ∙ c.if-continues.false) form
 
-pub returns-then-has_name_form-clause-cut : goal.returns-then-has_name_form-clause-cut
-returns-then-has_name_form-clause-cut c =
-    let is = c.name_bytes_at-count.ensures.value ∙ ap (prefix_len is_name_byte) c.as_bytes-bytes.ensures.value in
-    name_cut c.args.text.now c.name_bytes_at-count.result c.utf8.text is (omega arith)
-
-pub returns-else-has_name_form-clause-value : goal.returns-else-has_name_form-clause-value
-returns-else-has_name_form-clause-value c =
+pub returns-else-has_name_form : goal.returns-else-has_name_form
+returns-else-has_name_form c =
     let is = c.name_bytes_at-count.ensures.value ∙ ap (prefix_len is_name_byte) c.as_bytes-bytes.ensures.value in
     let form = ap (λ bytes. has_name_form (take c.name_bytes_at-count.result bytes)) (sym c.as_bytes-bytes.ensures.value) ∙ sym c.has_name_form.ensures ∙ c.if-has_name_form.false in
     word-bad c.args.place c.args.text.now c.name_bytes_at-count.result c.utf8.text is (omega arith) (sym c.continues.ensures ∙ c.if-continues.false) form
