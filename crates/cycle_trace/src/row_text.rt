@@ -2,7 +2,7 @@
 
 ghost use Rattle.std.specs.Prelude.{◌≡◌, ◌≢◌, ◌≤◌, ◌<◌, ◌^◌, ℕ, length, [], ◌∷◌, Ok, option_map, IfSome};
 ghost use Rattle.tydi_base.specs.Bits.{number_of_bits};
-ghost use Rattle.tydi_base.specs.Hex.{bits_of_digits, digit_of};
+ghost use Rattle.tydi_base.specs.Hex.{bits_of_digits};
 ghost use Rattle.tydi_base.specs.Pieces.{words_of};
 ghost use Rattle.tydi_base.specs.Reading.{Gives};
 ghost use Rattle.cycle_trace.specs.Faults.{misspelling_in};
@@ -17,7 +17,7 @@ use crate::row_layout::{RowLayout, WordSignal};
 use crate::words_left::WordsLeft;
 use physical_stream::Transfer;
 use std::alloc::Global;
-use tydi_base::{Bits, read_decimal};
+use tydi_base::{Bits, digit_value, read_decimal};
 
 /// The value of the first word, which is this key, `=` and the value; and the words after it.
 #[inline(never)]
@@ -90,22 +90,6 @@ fn index_field<'a>(
     }
     let (digits, rest) = value_of(key, words)?;
     Ok((index_of(limit, digits)?, rest))
-}
-
-/// The value of a hexadecimal digit.
-#[inline(always)]
-#[tactic(auto, unfolding(tydi_base::specs::Hex::digit_of))]
-fn digit_value(byte: u8) -> Option<u8>
-    ensures value { result ≡ digit_of byte }
-    ensures below { IfSome result (λ value. value < 16) }
-{
-    let letter = (byte >= b'a') as u8;
-    let value = byte.wrapping_sub(b'0' + 39 * letter);
-    if value < 10 + 6 * letter {
-        Some(value)
-    } else {
-        None
-    }
 }
 
 /// The number that hexadecimal digits spell, the highest first.

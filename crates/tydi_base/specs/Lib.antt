@@ -9,3 +9,4 @@ pub mod Pieces
 pub mod Name
 pub mod Path
 pub mod Frac
+pub mod formers

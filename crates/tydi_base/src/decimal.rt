@@ -17,7 +17,7 @@ pub fn read_decimal(digits: &[u8]) -> Option<u64>
     if !is_decimal(digits) {
         return None;
     }
-    value_of(digits)
+    number_of_digits(digits)
 }
 
 /// Whether these are the digits of a number with no leading zero.
@@ -35,8 +35,8 @@ fn are_digits(bytes: &[u8]) -> bool
     bytes.iter().all(|byte| byte.is_ascii_digit())
 }
 
-/// The number of these digits, where it fits.
-fn value_of(digits: &[u8]) -> Option<u64>
+/// The number that these digits spell, which may begin with zeros. None exactly where it is 2 ^ 64 or more.
+pub fn number_of_digits(digits: &[u8]) -> Option<u64>
     requires { IsTrue (list_all chars.is_ascii_digit digits.now) }
     ensures { result ≡ spec.below (2 ^ 64) (Some (spec.read_on 0 digits.now)) }
 {

@@ -12,10 +12,11 @@ pub fn hexadecimal_is_read_as_spelled()
         → (digits ≡ hex_of bits) × (length bits ≡ width) }
 {}
 
-/// The value of a digit, 0 to 15. It branches on nothing but whether the byte is a digit, since that is foreseen and which
-// digit it is is not.
+/// The value of a hexadecimal digit, `0` to `9` or `a` to `f`. None where the byte is none.
+// It branches on nothing but whether the byte is a digit, since that is foreseen, and which digit it is is not.
+#[inline(always)]
 #[tactic(auto, unfolding(crate::specs::Hex::digit_of))]
-pub(crate) fn digit_value(byte: u8) -> Option<u8>
+pub fn digit_value(byte: u8) -> Option<u8>
     ensures value { result ≡ digit_of byte }
     ensures below { IfSome result (λ value. value < 16) }
 {

@@ -3,6 +3,7 @@
 #![tactic(auto)]
 
 mod bits;
+mod boxed;
 mod decimal;
 mod frac;
 #[cfg(test)]
@@ -27,9 +28,10 @@ mod text;
 mod word_tests;
 
 pub use bits::Bits;
-pub use decimal::{decimals_are_read_as_spelled, read_decimal, write_decimal};
+pub use boxed::Boxed;
+pub use decimal::{decimals_are_read_as_spelled, number_of_digits, read_decimal, write_decimal};
 pub use frac::Frac;
-pub use hex::hexadecimal_is_read_as_spelled;
+pub use hex::{digit_value, hexadecimal_is_read_as_spelled};
 pub use hex_word::BitsFault;
 pub use level::Level;
 pub use list::List;

@@ -1,6 +1,6 @@
 use Rattle.std.proofs.Common.{◌≡◌, ◌<◌, ◌^◌, drop}
 use Rattle.tydi_base.specs.Decimal.{read_on}
-use Rattle.tydi_base.proofs.decimal.value_of.Given as goal
+use Rattle.tydi_base.proofs.decimal.number_of_digits.Given as goal
 
 -- the digits that are left go on from the number so far, which fits
 abbrev pub invariant-loop-digit : goal.invariant-loop-digit

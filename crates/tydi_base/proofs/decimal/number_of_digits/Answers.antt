@@ -1,6 +1,6 @@
 use Rattle.std.proofs.Common.{◌+◌, ◌∙◌, drop, sym}
 use Rattle.tydi_base.proofs.DecimalLaws.{below-none, below-some, read_on-drop, read_on-done}
-use Rattle.tydi_base.proofs.decimal.value_of.Goals as goal
+use Rattle.tydi_base.proofs.decimal.number_of_digits.Goals as goal
 
 pub returns-in_err-value : goal.returns-in_err-value
 returns-in_err-value c =
