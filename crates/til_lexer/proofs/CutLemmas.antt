@@ -52,7 +52,7 @@ ends_cut bytes count utf8 ends =
       boundary = subst (λ at. IsCharBoundary bytes at) place (IsCharBoundary-after_ascii bytes (count - 1) utf8 (omega arith) ends.last);
     }
 
-is_space-ascii : (byte : ℕ) → is_space byte ≡ true → byte < 128
+pub is_space-ascii : (byte : ℕ) → is_space byte ≡ true → byte < 128
 is_space-ascii byte is = grind (arith, nat_tests)
 
 pub space_cut : (bytes : List ℕ) → IsUtf8 bytes → 0 < length bytes → is_space (get_or bytes 0 0) ≡ true → CanCut bytes (space_length bytes)
@@ -76,7 +76,7 @@ line_cut bytes is = record {
         let stops = prefix_len_stops (λ byte. not (eqb byte 10)) bytes 0 within in
         IsCharBoundary-before_ascii bytes (line_length bytes) within (grind (arith, nat_tests))
 
-is_ascii_digit-ascii : (byte : ℕ) → is_ascii_digit byte ≡ true → byte < 128
+pub is_ascii_digit-ascii : (byte : ℕ) → is_ascii_digit byte ≡ true → byte < 128
 is_ascii_digit-ascii byte is = grind (arith, nat_tests)
 
 pub digits_end : (bytes : List ℕ) → is_ascii_digit (get_or bytes 0 0) ≡ true → EndsInAscii bytes (digits_at bytes)

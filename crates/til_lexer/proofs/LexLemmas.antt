@@ -40,7 +40,7 @@ taken-first zero place byte bytes some = absurd (omega arith)
 taken-first (suc count) place byte bytes some = let less : suc count - 1 ≡ count = omega arith in rw less (taken count (place_after place byte) bytes)
 
 -- a piece, and then what follows it
-tokens_from-piece : (place : Place) (bytes : List ℕ) (piece : Piece) → 0 < length bytes → Ok piece ≡ piece_at place bytes → 0 < length_of piece → tokens_from 0 place bytes ≡ with_front (tokens_in place piece) (tokens_from 0 (place_past place (take (length_of piece) bytes)) (drop (length_of piece) bytes))
+pub tokens_from-piece : (place : Place) (bytes : List ℕ) (piece : Piece) → 0 < length bytes → Ok piece ≡ piece_at place bytes → 0 < length_of piece → tokens_from 0 place bytes ≡ with_front (tokens_in place piece) (tokens_from 0 (place_past place (take (length_of piece) bytes)) (drop (length_of piece) bytes))
 tokens_from-piece place [] piece some is size = absurd (omega arith)
 tokens_from-piece place (byte ∷ bytes) piece some is size = rw (sym is) (ap (λ read. with_front (tokens_in place piece) read) (taken-first (length_of piece) place byte bytes size))
 

@@ -3,3 +3,7 @@ pub mod WordLemmas
 pub mod LexLemmas
 pub mod PieceCuts
 pub mod SliceLemmas
+pub mod FormLemmas
+pub mod FormBegins
+pub mod SpelledPieces
+pub mod SpelledTokens

@@ -23,7 +23,7 @@ abbrev Found : Type 0
 Found = Result Piece LexFault
 
 -- both ways of a test
-either : (P : Piece → Type 0) (test : Bool) (one other : Found) → (test ≡ true → IfOk one P) → (test ≡ false → IfOk other P) → IfOk (cond test one other) P
+pub either : (P : Piece → Type 0) (test : Bool) (one other : Found) → (test ≡ true → IfOk one P) → (test ≡ false → IfOk other P) → IfOk (cond test one other) P
 either P true one other then else_ = then refl
 either P false one other then else_ = else_ refl
 
@@ -110,7 +110,7 @@ mark_ends place bytes =
 
 -- ---- words
 
-ascii_at : (word : List ℕ) (at : ℕ) → list_all is_ascii word ≡ true → get_or word at 0 < 128
+pub ascii_at : (word : List ℕ) (at : ℕ) → list_all is_ascii word ≡ true → get_or word at 0 < 128
 ascii_at [] at all = omega arith
 ascii_at (byte ∷ bytes) at all = by_cases (is_ascii byte) at refl all (ascii_at bytes)
   where
@@ -124,18 +124,29 @@ front_ends word rest text same some all =
     let last : get_or (word ++ rest) (length word - 1) 0 ≡ get_or word (length word - 1) 0 = get_or_append_left word rest 0 (length word - 1) (omega arith) in
     rw same (record { some = some; within = omega (arith, length-append word rest); last = rw last (ascii_at word (length word - 1) all) })
 
-word_ends : (text characters : List ℕ) → text ≡ encode_utf8_all characters → 0 < length text → list_all is_ascii (word_of characters) ≡ true → EndsInAscii text (length (word_of characters))
+-- a word of ASCII is the front of its text
+pub word_front : (text characters : List ℕ) → text ≡ encode_utf8_all characters → 0 < length text → list_all is_ascii (word_of characters) ≡ true → (rest : List ℕ) × (text ≡ word_of characters ++ rest)
 unfolding word_of
-word_ends text [] same some all = absurd (omega (arith, ap length same))
-word_ends text (character ∷ characters) same some all =
+word_front text [] same some all = absurd (omega (arith, ap length same))
+word_front text (character ∷ characters) same some all =
     let whole : character ∷ characters ≡ (character ∷ take (prefix_len is_xid_continue characters) characters) ++ drop (prefix_len is_xid_continue characters) characters =
     ap (λ (l : List ℕ). character ∷ l) (sym (take-append-drop (prefix_len is_xid_continue characters) characters)) in
     let plain : encode_utf8_all (character ∷ take (prefix_len is_xid_continue characters) characters) ≡ character ∷ take (prefix_len is_xid_continue characters) characters =
-    encodes-IsAscii (character ∷ take (prefix_len is_xid_continue characters) characters) (λ at. ascii_at (character ∷ take (prefix_len is_xid_continue characters) characters) at all) in
-    front_ends (character ∷ take (prefix_len is_xid_continue characters) characters) (encode_utf8_all (drop (prefix_len is_xid_continue characters) characters)) text
-    (same ∙ ap encode_utf8_all whole ∙ encodes-append (character ∷ take (prefix_len is_xid_continue characters) characters) (drop (prefix_len is_xid_continue characters) characters)
-    ∙ ap (λ (l : List ℕ). l ++ encode_utf8_all (drop (prefix_len is_xid_continue characters) characters)) plain)
-    (omega arith) all
+    encodes-IsAscii (character ∷ take (prefix_len is_xid_continue characters) characters) (λ at. ascii_at (character ∷ take (prefix_len is_xid_continue characters) characters) at all) in (
+      encode_utf8_all (drop (prefix_len is_xid_continue characters) characters),
+      same ∙ ap encode_utf8_all whole ∙ encodes-append (character ∷ take (prefix_len is_xid_continue characters) characters) (drop (prefix_len is_xid_continue characters) characters)
+          ∙ ap (λ (l : List ℕ). l ++ encode_utf8_all (drop (prefix_len is_xid_continue characters) characters)) plain,
+    )
+
+word_some : (text characters : List ℕ) → text ≡ encode_utf8_all characters → 0 < length text → 0 < length (word_of characters)
+unfolding word_of
+word_some text [] same some = absurd (omega (arith, ap length same))
+word_some text (character ∷ characters) same some = omega arith
+
+word_ends : (text characters : List ℕ) → text ≡ encode_utf8_all characters → 0 < length text → list_all is_ascii (word_of characters) ≡ true → EndsInAscii text (length (word_of characters))
+word_ends text characters same some all =
+    let front = word_front text characters same some all in
+    front_ends (word_of characters) front.0 text front.1 (word_some text characters same some) all
 
 word_cut : (place : Place) (text : List ℕ) → IsUtf8 text → 0 < length text → IfOk (word_token place (word_of (chars text))) (λ piece. CanCut text (length_of piece))
 unfolding word_token

@@ -27,7 +27,7 @@ offset_after place byte = by_cases (eqb byte 10)
     by_cases true = refl
     by_cases false = refl
 
-offset_past : (place : Place) (bytes : List ℕ) → (place_past place bytes).offset ≡ place.offset + length bytes
+pub offset_past : (place : Place) (bytes : List ℕ) → (place_past place bytes).offset ≡ place.offset + length bytes
 offset_past place [] = omega arith
 offset_past place (byte ∷ bytes) = let next = offset_past (place_after place byte) bytes in let first = offset_after place byte in omega arith
 

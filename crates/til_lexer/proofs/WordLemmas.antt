@@ -26,7 +26,7 @@ cons_encode byte bytes ascii = rw (encode_ascii byte ascii) refl
 pub chars-ascii : (byte : ℕ) (bytes : List ℕ) → IsUtf8 (byte ∷ bytes) → byte < 128 → chars (byte ∷ bytes) ≡ byte ∷ chars bytes
 chars-ascii byte bytes utf8 ascii = chars_past_char (byte ∷ bytes) bytes byte utf8 (cons_encode byte bytes ascii)
 
-IsUtf8-ascii : (byte : ℕ) (bytes : List ℕ) → IsUtf8 (byte ∷ bytes) → byte < 128 → IsUtf8 bytes
+pub IsUtf8-ascii : (byte : ℕ) (bytes : List ℕ) → IsUtf8 (byte ∷ bytes) → byte < 128 → IsUtf8 bytes
 IsUtf8-ascii byte bytes utf8 ascii = IsUtf8-past_char (byte ∷ bytes) bytes byte utf8 (cons_encode byte bytes ascii)
 
 -- a first character that is ASCII is the first byte
@@ -39,11 +39,11 @@ is_name_byte-ascii byte is = grind (arith, nat_tests)
 
 -- ---- whether a word begins a text
 
-first_char : (text : List ℕ) → IsUtf8 text → 0 < length text → get_or text 0 0 < 128 → get_or (chars text) 0 0 ≡ get_or text 0 0
+pub first_char : (text : List ℕ) → IsUtf8 text → 0 < length text → get_or text 0 0 < 128 → get_or (chars text) 0 0 ≡ get_or text 0 0
 first_char [] utf8 some ascii = absurd (omega arith)
 first_char (byte ∷ bytes) utf8 some ascii = rw (chars-ascii byte bytes utf8 ascii) refl
 
-letter_starts : (byte : ℕ) → byte < 128 → starts_word byte ≡ (is_ascii_alphabetic byte || eqb byte 95)
+pub letter_starts : (byte : ℕ) → byte < 128 → starts_word byte ≡ (is_ascii_alphabetic byte || eqb byte 95)
 letter_starts byte ascii = let letter = is_xid_start-ascii byte ascii in grind (arith, nat_tests)
 
 starts-ascii-at : (text : List ℕ) → IsUtf8 text → 1 ≤ length text → true ≡ is_ascii (get_or text 0 0) → (is_ascii_alphabetic (get_or text 0 0) || eqb (get_or text 0 0) 95) ≡ starts_word (get_or (chars text) 0 0)
@@ -176,13 +176,16 @@ prefix_all p (byte ∷ bytes) = by_cases (p byte) refl (prefix_all p bytes)
     by_cases true is further = let next : 1 + prefix_len p bytes ≡ suc (prefix_len p bytes) = omega arith in rw (next, is, further) refl
     by_cases false is further = refl
 
-names_ascii : (word : List ℕ) → list_all is_name_byte word ≡ true → list_all is_ascii word ≡ true
-names_ascii [] all = refl
-names_ascii (byte ∷ bytes) all = by_cases (is_name_byte byte) refl (names_ascii bytes) all
+pub all_ascii : (p : ℕ → Bool) → ((byte : ℕ) → p byte ≡ true → byte < 128) → (bytes : List ℕ) → list_all p bytes ≡ true → list_all is_ascii bytes ≡ true
+all_ascii p ascii [] all = refl
+all_ascii p ascii (byte ∷ bytes) all = by_cases (p byte) refl (all_ascii p ascii bytes) all
   where
-    by_cases : (name : Bool) → is_name_byte byte ≡ name → (list_all is_name_byte bytes ≡ true → list_all is_ascii bytes ≡ true) → (name && list_all is_name_byte bytes) ≡ true → list_all is_ascii (byte ∷ bytes) ≡ true
-    by_cases true is further rest = let ascii = is_name_byte-ascii byte is in let first : ltb byte 128 ≡ true = grind (arith, nat_tests) in rw (first, further rest) refl
+    by_cases : (passes : Bool) → p byte ≡ passes → (list_all p bytes ≡ true → list_all is_ascii bytes ≡ true) → (passes && list_all p bytes) ≡ true → list_all is_ascii (byte ∷ bytes) ≡ true
+    by_cases true is further rest = let below = ascii byte is in let first : ltb byte 128 ≡ true = grind (arith, nat_tests) in rw (first, further rest) refl
     by_cases false is further rest = absurd cc
+
+names_ascii : (word : List ℕ) → list_all is_name_byte word ≡ true → list_all is_ascii word ≡ true
+names_ascii word all = all_ascii is_name_byte is_name_byte-ascii word all
 
 -- ---- what the word at the front of a text is
 

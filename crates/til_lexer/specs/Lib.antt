@@ -5,3 +5,4 @@ pub mod Pieces
 pub mod Faults
 pub mod Tokens
 pub mod Slices
+pub mod Spelling

@@ -359,6 +359,8 @@ fn four_mebibytes_are_read(rt: HostRuntime) -> Result<(), Fail> {
 }
 
 #[test]
-fn the_law_is_called() {
+fn the_laws_are_called() {
     tokens_are_of_the_text();
+    tokens_have_their_form();
+    spelled_tokens_are_read();
 }
