@@ -1,0 +1,61 @@
+-- The tokens that are left.
+use Rattle.std.proofs.Common.{◌≡◌, ◌==◌, ◌+◌, ◌-◌, ◌<◌, ◌≤◌, ◌⊎◌, inl, inr, ℕ, true, List, [], ◌∷◌, length, get_or, slice_index_or, All}
+use Rattle.std.proofs.Common.{length-append, refl, sym, ap, ◌∙◌, subst, rules, arith}
+use Rattle.std.proofs.Math.Seq.{get_or-append_seam}
+use Rattle.std.proofs.lemmas.Str.{IsCharBoundary-after_ascii, IsCharBoundary-before_ascii}
+use Rattle.std.specs.Str.{IsUtf8, IsCharBoundary}
+use denote.Enum.Bare.{same_true}
+use Rattle.til_lexer.specs.Spelling.{HasForm, IsBetween, own_text}
+use Rattle.til_lexer.specs.declared.token.TokenKind.TheVariants as kinds
+use Rattle.til_lexer.specs.contracts.token.TokenKind.{the_type}
+use Rattle.til_lexer.specs.declared.token.Token.{Token}
+use Rattle.til_lexer.specs.declared.token.TokenKind.{TokenKind}
+use Rattle.til_parser.specs.declared.fault.ParseFault.TheVariants as faults
+use Rattle.til_parser.specs.Lexemes.{HasFormIn, lexemes_from}
+use Rattle.til_parser.specs.Reading.{at_end, refusal, same_kind}
+
+-- none is left exactly where there are none
+pub at_end-lexemes : (number : ℕ) (text : List ℕ) (tokens : List Token) → at_end (lexemes_from number text tokens) ≡ (length tokens == 0)
+at_end-lexemes number text [] = refl
+at_end-lexemes number text (token ∷ tokens) = search rules
+
+-- where one is left, it is refused by its number
+pub refusal-lexemes : (number : ℕ) (text : List ℕ) (tokens : List Token) → 1 ≤ length tokens
+    → refusal (lexemes_from number text tokens) ≡ faults.Unexpected number
+refusal-lexemes number text [] some = absurd (omega arith)
+refusal-lexemes number text (token ∷ tokens) some = refl
+
+-- a token of this kind has its form
+pub HasForm-first : (text : List ℕ) (tokens : List Token) (token : Token) (kind : TokenKind) (spelling : List ℕ) → All (HasFormIn text) tokens
+    → 1 ≤ length tokens
+    → same_kind (slice_index_or tokens 0 token).kind kind ≡ true → spelling ≡ own_text text (slice_index_or tokens 0 token) → HasForm kind spelling
+unfolding same_kind
+HasForm-first text tokens token kind spelling formed some same is =
+    let kinds_are : (slice_index_or tokens 0 token).kind ≡ kind = same_true the_type (search rules) _ _ same in
+    let own = formed 0 token (omega arith) in
+    subst (HasForm kind) (sym is) (subst (λ (k : TokenKind). HasForm k (own_text text (slice_index_or tokens 0 token))) kinds_are own)
+
+-- ---- what stands between two marks
+
+-- where a text between two marks is cut
+pub record AreCuts (text : List ℕ) : Type 0 where
+  pub first : IsCharBoundary text 1
+  pub last : IsCharBoundary text (length text - 1)
+
+-- a text between two marks of ASCII may be cut after the first and before the last
+AreCuts-between : (mark : ℕ) (text : List ℕ) → mark < 128 → IsUtf8 text → IsBetween mark text → AreCuts text
+AreCuts-between mark text ascii utf8 between =
+    let size : length text ≡ length between.inside + 2 = ap length between.marked ∙ omega (arith, length-append between.inside (mark ∷ [])) in
+    let first : get_or text 0 0 ≡ mark = ap (λ (l : List ℕ). get_or l 0 0) between.marked in
+    let place : length text - 1 ≡ length (mark ∷ between.inside) = omega arith in
+    let last : get_or text (length text - 1) 0 ≡ mark =
+    ap (λ (i : ℕ). get_or text i 0) place ∙ ap (λ (l : List ℕ). get_or l (length (mark ∷ between.inside)) 0) between.marked
+    ∙ get_or-append_seam (mark ∷ between.inside) mark [] 0 in
+    record {
+      first = IsCharBoundary-after_ascii text 0 utf8 (omega arith) (omega arith);
+      last = IsCharBoundary-before_ascii text (length text - 1) (omega arith) (omega arith);
+    }
+
+pub AreCuts-marked : (text : List ℕ) → IsUtf8 text → HasForm kinds.Quoted text ⊎ HasForm kinds.Doc text → AreCuts text
+AreCuts-marked text utf8 (inl quoted) = AreCuts-between 34 text (omega arith) utf8 quoted
+AreCuts-marked text utf8 (inr doc) = AreCuts-between 35 text (omega arith) utf8 doc

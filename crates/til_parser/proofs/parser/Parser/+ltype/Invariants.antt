@@ -1,0 +1,41 @@
+use Rattle.std.proofs.Common.{◌≡◌, ◌+◌, ◌*◌, length}
+use Rattle.til_parser.specs.Reading.{loop}
+use Rattle.til_parser.specs.ReadTypes.{argument_turn, ltype, part, separated_turn}
+use Rattle.til_parser.proofs.parser.Parser.+ltype.Given as goal
+
+-- a type asks for parts and for a Stream of one level less, and these for a type of as many
+abbrev pub decreases-ltype : goal.decreases-ltype
+decreases-ltype l = 4 * l.levels
+
+abbrev pub decreases-parts : goal.decreases-parts
+decreases-parts l = 4 * l.levels + 3
+
+abbrev pub decreases-stream : goal.decreases-stream
+decreases-stream l = 4 * l.levels + 3
+
+abbrev pub decreases-separated_parts : goal.decreases-separated_parts
+decreases-separated_parts l = 4 * l.levels + 2
+
+abbrev pub decreases-arguments : goal.decreases-arguments
+decreases-arguments l = 4 * l.levels + 2
+
+abbrev pub decreases-part : goal.decreases-part
+decreases-part l = 4 * l.levels + 1
+
+abbrev pub decreases-argument : goal.decreases-argument
+decreases-argument l = 4 * l.levels + 1
+
+-- the parts so far go on as all parts do
+abbrev pub invariant-separated_parts-parts : goal.invariant-separated_parts-parts
+invariant-separated_parts-parts l =
+    loop (separated_turn (part (ltype l.levels))) l.parts l.self ≡ loop (separated_turn (part (ltype l.levels))) l.initial.parts l.initial.self
+
+abbrev pub decreases-separated_parts-parts : goal.decreases-separated_parts-parts
+decreases-separated_parts-parts l = length l.self
+
+-- the arguments so far go on as all arguments do
+abbrev pub invariant-arguments-arguments : goal.invariant-arguments-arguments
+invariant-arguments-arguments l = loop (argument_turn (ltype l.levels)) l.given l.self ≡ loop (argument_turn (ltype l.levels)) l.fn.first l.fn.self
+
+abbrev pub decreases-arguments-arguments : goal.decreases-arguments-arguments
+decreases-arguments-arguments l = length l.self

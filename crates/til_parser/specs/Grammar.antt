@@ -1,0 +1,339 @@
+-- The grammar of the Tydi Intermediate Language: which tokens spell which tree, by recursion on the tree. It is this project's
+-- own, after the published language. No reader is in it.
+use Rattle.std.specs.Prelude.{◌≡◌, ◌≤◌, ◌<◌, ℕ, ◌⊎◌, Bool, true, false, List, [], ◌∷◌, ◌++◌, length, Option, Some, None, IsTrue, Contains, codes}
+use Rattle.std.specs.List.{list_all}
+use Rattle.std.specs.Char.{is_ascii_digit}
+use Rattle.tydi_base.specs.Decimal.{read_on}
+use Rattle.tydi_base.specs.Frac.{Fraction, IsReduced}
+use Rattle.tydi_base.specs.Level.{IsLevel}
+use Rattle.tydi_base.specs.Name.{is_name}
+use Rattle.til_lexer.specs.declared.token.TokenKind.{TokenKind}
+use Rattle.til_lexer.specs.declared.token.TokenKind.TheVariants as kinds
+use Rattle.til_parser.specs.declared.ltype.AstSync.{AstSync}
+use Rattle.til_parser.specs.declared.ltype.AstSync.TheVariants as syncs
+use Rattle.til_parser.specs.declared.tree.Ast.{Ast}
+use Rattle.til_parser.specs.declared.tree.AstBody.{AstBody}
+use Rattle.til_parser.specs.declared.tree.AstBody.TheVariants as bodies
+use Rattle.til_parser.specs.declared.tree.AstDecl.{AstDecl}
+use Rattle.til_parser.specs.declared.tree.AstEnd.{AstEnd}
+use Rattle.til_parser.specs.declared.tree.AstKind.{AstKind}
+use Rattle.til_parser.specs.declared.tree.AstKind.TheVariants as decls
+use Rattle.til_parser.specs.declared.tree.AstName.{AstName}
+use Rattle.til_parser.specs.declared.tree.AstNamespace.{AstNamespace}
+use Rattle.til_parser.specs.declared.tree.AstPort.{AstPort}
+use Rattle.til_parser.specs.declared.tree.AstPorts.{AstPorts}
+use Rattle.til_parser.specs.declared.tree.AstPorts.TheVariants as ports
+use Rattle.til_parser.specs.declared.tree.AstStmt.{AstStmt}
+use Rattle.til_parser.specs.declared.tree.AstStmt.TheVariants as stmts
+use Rattle.til_parser.specs.Lexemes.{Lexeme, between_marks}
+use Rattle.til_parser.specs.Numbers.{numerator_of, denominator_of}
+use Rattle.til_parser.specs.Tree.{Ltype, null, bits, group, union, stream, path, Parts, no_parts, part, Settings, plain, depth}
+
+-- which tokens have a form
+abbrev pub Form : Type 1
+Form = List Lexeme → Type 0
+
+-- ---- one after another
+
+-- tokens of the one form and then tokens of the other
+infixr 6 ◌⋯◌
+pub record ◌⋯◌ (First Second : Form) (ts : List Lexeme) : Type 0 where
+  pub front : List Lexeme
+  pub back : List Lexeme
+  pub all : ts ≡ front ++ back
+  pub begins : First front
+  pub ends : Second back
+
+-- no tokens
+abbrev pub Nothing : Form
+Nothing ts = ts ≡ []
+
+-- one token, which is such a one
+pub record One (Is : Lexeme → Type 0) (ts : List Lexeme) : Type 0 where
+  pub lexeme : Lexeme
+  pub all : ts ≡ lexeme ∷ []
+  pub is : Is lexeme
+
+-- ---- tokens
+
+-- a token of this kind
+abbrev pub Of : TokenKind → Form
+Of kind = One (λ lexeme. lexeme.kind ≡ kind)
+
+-- a token is this word
+pub record IsWord (word : List ℕ) (lexeme : Lexeme) : Type 0 where
+  pub kind : lexeme.kind ≡ kinds.Word
+  pub text : lexeme.spelling ≡ word
+
+-- this word
+abbrev pub Word : List ℕ → Form
+Word word = One (IsWord word)
+
+-- a word that is the name, at its place
+pub record IsNamed (name : AstName) (lexeme : Lexeme) : Type 0 where
+  pub kind : lexeme.kind ≡ kinds.Word
+  pub text : lexeme.spelling ≡ name.name
+  pub place : lexeme.place ≡ name.place
+  pub named : IsTrue (is_name name.name)
+
+-- a name, at its place
+abbrev pub Name : AstName → Form
+Name name = One (IsNamed name)
+
+-- a number without a point, of this value
+pub record IsWhole (whole : ℕ) (lexeme : Lexeme) : Type 0 where
+  pub kind : lexeme.kind ≡ kinds.Number
+  pub digits : IsTrue (list_all is_ascii_digit lexeme.spelling)
+  pub value : whole ≡ read_on 0 lexeme.spelling
+
+-- a whole number
+abbrev pub Whole : ℕ → Form
+Whole whole = One (IsWhole whole)
+
+-- a number that is this fraction in lowest terms
+pub record IsNumber (number : Fraction) (lexeme : Lexeme) : Type 0 where
+  pub kind : lexeme.kind ≡ kinds.Number
+  pub value : IsReduced (numerator_of lexeme.spelling) (denominator_of lexeme.spelling) number
+
+-- a number, with a point or without
+abbrev pub Number : Fraction → Form
+Number number = One (IsNumber number)
+
+-- a token of this kind with this text between its marks
+pub record IsMarked (kind : TokenKind) (text : List ℕ) (lexeme : Lexeme) : Type 0 where
+  pub kind_is : lexeme.kind ≡ kind
+  pub text_is : text ≡ between_marks lexeme.spelling
+
+-- a text between two quotation marks
+abbrev pub Quoted : List ℕ → Form
+Quoted text = One (IsMarked kinds.Quoted text)
+
+-- documentation, if there is any
+abbrev pub Doc : Option (List ℕ) → Form
+Doc None = Nothing
+Doc (Some text) = One (IsMarked kinds.Doc text)
+
+-- ---- lists
+
+-- items, one after another
+abbrev pub Each : {A : Type 0} → (A → Form) → List A → Form
+Each Item [] = Nothing
+Each Item (item ∷ items) = Item item ⋯ Each Item items
+
+-- a comma, or none
+abbrev pub LastComma : Form
+LastComma ts = Nothing ts ⊎ Of kinds.Comma ts
+
+-- items with a comma between each two, and a last comma or none
+abbrev pub Commas : {A : Type 0} → (A → Form) → List A → Form
+Commas Item [] = Nothing
+Commas Item (item ∷ []) = Item item ⋯ LastComma
+Commas Item (item ∷ next ∷ items) = Item item ⋯ Of kinds.Comma ⋯ Commas Item (next ∷ items)
+
+-- names with `::` between each two, one at least
+abbrev pub Path : List AstName → Form
+Path [] = λ _. ⊥
+Path (name ∷ []) = Name name
+Path (name ∷ next ∷ names) = Name name ⋯ Of kinds.DoubleColon ⋯ Path (next ∷ names)
+
+-- in round brackets
+abbrev pub Bracketed : Form → Form
+Bracketed Inside = Of kinds.OpenParen ⋯ Inside ⋯ Of kinds.CloseParen
+
+-- in braces
+abbrev pub Braced : Form → Form
+Braced Inside = Of kinds.OpenBrace ⋯ Inside ⋯ Of kinds.CloseBrace
+
+-- ---- the arguments of a Stream
+
+-- the arguments that a Stream may have
+pub data Argument : Type 0 where
+  data_type : Argument
+  throughput : Argument
+  dimensionality : Argument
+  synchronicity : Argument
+  complexity : Argument
+  direction : Argument
+  user_type : Argument
+  keep : Argument
+
+-- the word of a synchronicity
+abbrev pub sync_word : AstSync → List ℕ
+sync_word syncs.Sync = codes "Sync"
+sync_word syncs.Flatten = codes "Flatten"
+sync_word syncs.Desync = codes "Desync"
+sync_word syncs.FlatDesync = codes "FlatDesync"
+
+-- the word of a direction: true for a Stream that is reversed
+abbrev pub direction_word : Bool → List ℕ
+direction_word true = codes "Reverse"
+direction_word false = codes "Forward"
+
+-- the word of a truth
+abbrev pub truth_word : Bool → List ℕ
+truth_word true = codes "true"
+truth_word false = codes "false"
+
+-- a whole number from 1 to 8
+pub record Level (level : ℕ) (ts : List Lexeme) : Type 0 where
+  pub whole : Whole level ts
+  pub within : IsLevel level
+
+-- the argument of this name, with the value that the Stream has for it
+abbrev pub Given : Form → Form → Settings → Argument → Form
+Given Element User settings data_type = Word (codes "data") ⋯ Of kinds.Colon ⋯ Element
+Given Element User settings throughput = Word (codes "throughput") ⋯ Of kinds.Colon ⋯ Number settings.throughput
+Given Element User settings dimensionality = Word (codes "dimensionality") ⋯ Of kinds.Colon ⋯ Whole settings.dims
+Given Element User settings synchronicity = Word (codes "synchronicity") ⋯ Of kinds.Colon ⋯ Word (sync_word settings.sync)
+Given Element User settings complexity = Word (codes "complexity") ⋯ Of kinds.Colon ⋯ Level settings.level
+Given Element User settings direction = Word (codes "direction") ⋯ Of kinds.Colon ⋯ Word (direction_word settings.reverse)
+Given Element User settings user_type = Word (codes "user") ⋯ Of kinds.Colon ⋯ User
+Given Element User settings keep = Word (codes "keep") ⋯ Of kinds.Colon ⋯ Word (truth_word settings.keep)
+
+-- the Stream has the default of the argument; the data type has none
+abbrev pub IsDefault : Ltype → Settings → Argument → Type 0
+IsDefault user settings data_type = ⊥
+IsDefault user settings throughput = settings.throughput ≡ record { num = 1; den = 1 }
+IsDefault user settings dimensionality = settings.dims ≡ 0
+IsDefault user settings synchronicity = settings.sync ≡ syncs.Sync
+IsDefault user settings complexity = settings.level ≡ 4
+IsDefault user settings direction = settings.reverse ≡ false
+IsDefault user settings user_type = user ≡ null
+IsDefault user settings keep = settings.keep ≡ false
+
+-- each argument is written at most once
+abbrev pub AreApart : List Argument → Type 0
+AreApart [] = Unit {0}
+AreApart (argument ∷ more) = (Contains more argument → ⊥) × AreApart more
+
+-- arguments in some order, each at most once; one that is not written has its default
+pub record Arguments (Element User : Form) (user : Ltype) (settings : Settings) (ts : List Lexeme) : Type 0 where
+  pub order : List Argument
+  pub apart : AreApart order
+  pub others : (argument : Argument) → (Contains order argument → ⊥) → IsDefault user settings argument
+  pub written : Commas (Given Element User settings) order ts
+
+-- ---- types
+
+abbrev mutual
+  -- tokens spell a type
+  pub SpellsType : Ltype → Form
+  SpellsType null = Word (codes "Null")
+  SpellsType (bits width) = Word (codes "Bits") ⋯ Bracketed (Whole width)
+  SpellsType (group parts) = Word (codes "Group") ⋯ Bracketed (SpellsParts parts)
+  SpellsType (union parts) = Word (codes "Union") ⋯ Bracketed (SpellsParts parts)
+  SpellsType (stream element user settings) = Word (codes "Stream") ⋯ Bracketed (Arguments (SpellsType element) (SpellsType user) user settings)
+  SpellsType (path names) = Path names
+
+  -- parts with a comma between each two, and a last comma or none
+  pub SpellsParts : Parts → Form
+  SpellsParts no_parts = Nothing
+  SpellsParts (part name ltype no_parts) = (Name name ⋯ Of kinds.Colon ⋯ SpellsType ltype) ⋯ LastComma
+  SpellsParts (part name ltype (part next other more)) =
+      (Name name ⋯ Of kinds.Colon ⋯ SpellsType ltype) ⋯ Of kinds.Comma ⋯ SpellsParts (part next other more)
+
+-- ---- ports and bodies
+
+-- the word of a way: true for a port that goes in
+abbrev pub way_word : Bool → List ℕ
+way_word true = codes "in"
+way_word false = codes "out"
+
+-- tokens spell a port
+abbrev pub SpellsPort : AstPort → Form
+SpellsPort port = Doc port.doc ⋯ Name port.name ⋯ Of kinds.Colon ⋯ Word (way_word port.inward) ⋯ SpellsType (plain port.ltype)
+
+-- tokens spell a list of ports in brackets
+abbrev pub SpellsPorts : List AstPort → Form
+SpellsPorts all = Bracketed (Commas SpellsPort all)
+
+-- tokens spell an end of a link: one name, or two with a point between
+abbrev pub SpellsEnd : AstEnd → Form
+SpellsEnd end = Name end.first ⋯ Second end.second
+  where
+    Second : Option AstName → Form
+    Second None = Nothing
+    Second (Some name) = Of kinds.Point ⋯ Name name
+
+-- tokens spell a statement: an instance, or a link
+abbrev pub SpellsStmt : AstStmt → Form
+SpellsStmt (stmts.Instance name streamlet) = Name name ⋯ Of kinds.Equals ⋯ Path streamlet.names ⋯ Of kinds.Semicolon
+SpellsStmt (stmts.Link first second) = SpellsEnd first ⋯ Of kinds.DoubleDash ⋯ SpellsEnd second ⋯ Of kinds.Semicolon
+
+-- tokens spell the body of an implementation
+abbrev pub SpellsBody : AstBody → Form
+SpellsBody (bodies.Linked text) = Quoted text
+SpellsBody (bodies.Structural all) = Braced (Each SpellsStmt all)
+
+-- ---- declarations
+
+-- tokens spell the ports of a streamlet: its own, or the path of an interface
+abbrev pub SpellsStreamletPorts : AstPorts → Form
+SpellsStreamletPorts (ports.Own all) = SpellsPorts all
+SpellsStreamletPorts (ports.Named target) = Path target.names
+
+-- tokens spell a declaration of this name, up to its semicolon
+abbrev pub SpellsKind : AstName → AstKind → Form
+SpellsKind name (decls.Alias ltype) = Word (codes "type") ⋯ Name name ⋯ Of kinds.Equals ⋯ SpellsType (plain ltype)
+SpellsKind name (decls.Interface all) = Word (codes "interface") ⋯ Name name ⋯ Of kinds.Equals ⋯ SpellsPorts all
+SpellsKind name (decls.Streamlet all) = Word (codes "streamlet") ⋯ Name name ⋯ Of kinds.Equals ⋯ SpellsStreamletPorts all
+SpellsKind name (decls.Impl target body) =
+    Word (codes "impl") ⋯ Name name ⋯ Word (codes "of") ⋯ Path target.names ⋯ Of kinds.Equals ⋯ SpellsBody body
+SpellsKind name (decls.Test target port value plan) =
+    Word (codes "test") ⋯ Name name ⋯ Word (codes "of") ⋯ Path target.names ⋯ Word (codes "drive") ⋯ Name port
+    ⋯ Of kinds.Equals ⋯ Quoted value ⋯ Word (codes "plan") ⋯ Quoted plan
+
+-- tokens spell a declaration
+abbrev pub SpellsDecl : AstDecl → Form
+SpellsDecl decl = Doc decl.doc ⋯ SpellsKind decl.name decl.kind ⋯ Of kinds.Semicolon
+
+-- tokens spell a namespace
+abbrev pub SpellsNamespace : AstNamespace → Form
+SpellsNamespace namespace = Doc namespace.doc ⋯ Word (codes "namespace") ⋯ Path namespace.path.names ⋯ Braced (Each SpellsDecl namespace.decls)
+
+-- tokens spell a project: its namespaces, one at least
+pub record Spells (ast : Ast) (ts : List Lexeme) : Type 0 where
+  pub some : 0 < length ast.namespaces
+  pub each : Each SpellsNamespace ast.namespaces ts
+
+-- ---- how deep types nest
+
+-- the types of ports nest no deeper than so many levels
+abbrev pub PortsWithin : ℕ → List AstPort → Type 0
+PortsWithin levels [] = Unit {0}
+PortsWithin levels (port ∷ more) = (depth (plain port.ltype) ≤ levels) × PortsWithin levels more
+
+-- the types of a streamlet's own ports nest no deeper than so many levels
+abbrev pub StreamletWithin : ℕ → AstPorts → Type 0
+StreamletWithin levels (ports.Own all) = PortsWithin levels all
+StreamletWithin levels (ports.Named target) = Unit {0}
+
+-- the types of a declaration nest no deeper than so many levels
+abbrev pub KindWithin : ℕ → AstKind → Type 0
+KindWithin levels (decls.Alias ltype) = depth (plain ltype) ≤ levels
+KindWithin levels (decls.Interface all) = PortsWithin levels all
+KindWithin levels (decls.Streamlet all) = StreamletWithin levels all
+KindWithin levels (decls.Impl target body) = Unit {0}
+KindWithin levels (decls.Test target port value plan) = Unit {0}
+
+-- the types of declarations nest no deeper than so many levels
+abbrev pub DeclsWithin : ℕ → List AstDecl → Type 0
+DeclsWithin levels [] = Unit {0}
+DeclsWithin levels (decl ∷ more) = KindWithin levels decl.kind × DeclsWithin levels more
+
+-- the types of namespaces nest no deeper than so many levels
+abbrev pub NamespacesWithin : ℕ → List AstNamespace → Type 0
+NamespacesWithin levels [] = Unit {0}
+NamespacesWithin levels (namespace ∷ more) = DeclsWithin levels namespace.decls × NamespacesWithin levels more
+
+-- no type of the project nests deeper than so many levels
+abbrev pub IsWithin : ℕ → Ast → Type 0
+IsWithin levels ast = NamespacesWithin levels ast.namespaces
+
+-- how deep types may nest
+abbrev pub most_levels : ℕ
+most_levels = 64
+
+-- tokens spell no project whose types nest so deep at most
+abbrev pub SpellNone : List Lexeme → Type 0
+SpellNone ts = (ast : Ast) → Spells ast ts → IsWithin most_levels ast → ⊥

@@ -1,0 +1,12 @@
+pub mod Lexemes
+pub mod Numbers
+pub mod Tree
+pub mod Reading
+pub mod Grammar
+pub mod Faults
+pub mod Canonical
+pub mod Same
+pub mod Laws
+pub mod Cursor
+pub mod ReadTypes
+pub mod ReadDecls

@@ -1,0 +1,196 @@
+//! Names, numbers, quoted text, documentation and paths.
+
+ghost use Rattle.std.specs.Prelude.{◌≡◌, ◌+◌, ◌*◌, ◌^◌, ◌≤◌, ◌⊎◌, length, IsTrue};
+ghost use Rattle.std.specs.Char.{is_ascii_digit};
+ghost use Rattle.std.specs.List.{list_all};
+ghost use Rattle.til_lexer.specs.Spans as spans;
+ghost use Rattle.til_lexer.specs.Spelling.{HasForm};
+ghost use Rattle.til_lexer.specs.declared.token.TokenKind.TheVariants as kinds;
+ghost use Rattle.til_parser.specs.Lexemes.{between_marks};
+ghost use Rattle.til_parser.specs.Numbers.{whole_of, numerator_of, denominator_of, lowest};
+ghost use Rattle.til_parser.specs.ReadTypes as spec;
+ghost use Rattle.til_parser.specs.Reading.{Reads};
+ghost use Rattle.tydi_base.specs.Decimal.{read_on};
+
+use crate::fault::ParseFault;
+use crate::parser::Parser;
+use crate::tree::{AstName, AstPath};
+use til_lexer::TokenKind;
+use tydi_base::{Frac, Level, List, Name, Text, number_of_digits};
+
+impl<'a> Parser<'a> {
+    /// `name`
+    #[tactic(auto, unfolding(crate::specs::Reading::leaf))]
+    pub(crate) fn name(&mut self) -> Result<AstName, ParseFault>
+        ensures { Reads (spec.name self.old) result self.new }
+    {
+        let Some((place, spelling)) = self.next_of(TokenKind::Word) else {
+            return Err(self.refusal());
+        };
+        let Some(name) = Name::read(self.alloc(), spelling.as_bytes())? else {
+            return Err(self.refusal());
+        };
+        self.skip();
+        Ok(AstName { name, place })
+    }
+
+    /// `whole`: a number without a point.
+    #[tactic(auto, unfolding(crate::specs::Reading::leaf))]
+    pub(crate) fn whole(&mut self) -> Result<u64, ParseFault>
+        ensures { Reads (spec.whole self.old) result self.new }
+    {
+        let Some((_, spelling)) = self.next_of(TokenKind::Number) else {
+            return Err(self.refusal());
+        };
+        let Some(whole) = whole_number(spelling) else {
+            return Err(self.refusal());
+        };
+        self.skip();
+        Ok(whole)
+    }
+
+    /// A whole number from 1 to 8.
+    #[tactic(auto, unfolding(crate::specs::Reading::leaf))]
+    pub(crate) fn level(&mut self) -> Result<Level, ParseFault>
+        ensures { Reads (spec.level self.old) result self.new }
+    {
+        let Some((_, spelling)) = self.next_of(TokenKind::Number) else {
+            return Err(self.refusal());
+        };
+        let Some(level) = level_of(whole_number(spelling)) else {
+            return Err(self.refusal());
+        };
+        self.skip();
+        Ok(level)
+    }
+
+    /// `number`, as a fraction in lowest terms.
+    #[tactic(auto, unfolding(crate::specs::Reading::leaf))]
+    pub(crate) fn number(&mut self) -> Result<Frac, ParseFault>
+        ensures { Reads (spec.number self.old) result self.new }
+    {
+        let Some((_, spelling)) = self.next_of(TokenKind::Number) else {
+            return Err(self.refusal());
+        };
+        let number = fraction_of(spelling);
+        self.skip();
+        Ok(number)
+    }
+
+    /// `quoted`: the text between the two `"`.
+    #[tactic(auto, unfolding(crate::specs::Reading::leaf))]
+    pub(crate) fn quoted(&mut self) -> Result<Text, ParseFault>
+        ensures { Reads (spec.quoted self.old) result self.new }
+    {
+        let Some((_, spelling)) = self.next_of(TokenKind::Quoted) else {
+            return Err(self.refusal());
+        };
+        let text = Text::new(self.alloc(), inside(spelling))?;
+        self.skip();
+        Ok(text)
+    }
+
+    /// `[doc]`: the text between the two `#`, where documentation stands next.
+    #[tactic(auto, unfolding(crate::specs::ReadTypes::doc))]
+    pub(crate) fn doc(&mut self) -> Result<Option<Text>, ParseFault>
+        ensures { Reads (spec.doc self.old) result self.new }
+    {
+        let Some((_, spelling)) = self.next_of(TokenKind::Doc) else {
+            return Ok(None);
+        };
+        let text = Text::new(self.alloc(), inside(spelling))?;
+        self.skip();
+        Ok(Some(text))
+    }
+
+    /// `path`
+    #[tactic(auto, unfolding(crate::specs::ReadTypes::path))]
+    pub(crate) fn path(&mut self) -> Result<AstPath, ParseFault>
+        ensures { Reads (spec.path self.old) result self.new }
+    {
+        let mut names = List::new(self.alloc());
+        names.push(self.name()?)?;
+        'names: while self.eat(TokenKind::DoubleColon) {
+            names.push(self.name()?)?;
+        }
+        Ok(AstPath { names })
+    }
+}
+
+/// The whole number that a number spells, if it has no point.
+#[tactic(auto, unfolding(crate::specs::Numbers::whole_of))]
+fn whole_number(spelling: &str) -> Option<u64>
+    ensures { result ≡ whole_of spelling.now }
+{
+    let digits = spelling.as_bytes();
+    if !are_digits(digits) {
+        return None;
+    }
+    number_of_digits(digits)
+}
+
+/// Whether each of these bytes is `0` to `9`.
+fn are_digits(bytes: &[u8]) -> bool
+    ensures { result ≡ list_all is_ascii_digit bytes.now }
+{
+    bytes.iter().all(|byte| byte.is_ascii_digit())
+}
+
+/// The level of a number, if it is 1 to 8.
+fn level_of(whole: Option<u64>) -> Option<Level>
+    ensures { result ≡ spec.level_of whole }
+{
+    match whole {
+        Some(number @ 1..=8) => Level::new(number as u8),
+        _ => None,
+    }
+}
+
+/// The number that a number spells, its point counted, in lowest terms.
+fn fraction_of(spelling: &str) -> Frac
+    requires { HasForm kinds.Number spelling.now }
+    ensures { result ≡ lowest (numerator_of spelling.now) (denominator_of spelling.now) }
+{
+    let bytes = spelling.as_bytes();
+    let point = digits_at(bytes);
+    let whole = with_digits(0, &bytes[..point]);
+    let behind = &bytes[(point + 1).min(bytes.len())..];
+    let numerator = with_digits(whole, behind);
+    Frac::new(numerator, 10u64.pow(behind.len() as u32)).unwrap()
+}
+
+/// How many digits begin a text.
+fn digits_at(bytes: &[u8]) -> usize
+    ensures value { result ≡ spans.digits_at bytes.now }
+    ensures within { result ≤ length bytes.now }
+{
+    let mut count = 0;
+    'bytes: for byte in bytes {
+        if !byte.is_ascii_digit() {
+            return count;
+        }
+        count += 1;
+    }
+    count
+}
+
+/// The number that these digits spell after those of a number, where all that many digits spell fits.
+fn with_digits(number: u64, digits: &[u8]) -> u64
+    requires digits { IsTrue (list_all is_ascii_digit digits.now) }
+    requires fits { (number + 1) * 10 ^ length digits.now ≤ 2 ^ 64 }
+    ensures { result ≡ read_on number digits.now }
+{
+    let mut value = number;
+    'digits: for digit in digits {
+        value = 10 * value + u64::from(*digit - b'0');
+    }
+    value
+}
+
+/// What stands between the two marks of quoted text or documentation.
+fn inside(spelling: &str) -> &str
+    requires { HasForm kinds.Quoted spelling.now ⊎ HasForm kinds.Doc spelling.now }
+    ensures { result.now ≡ between_marks spelling.now }
+{
+    &spelling[1..spelling.len() - 1]
+}

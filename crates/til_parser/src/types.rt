@@ -1,0 +1,228 @@
+//! Types, and the arguments of a Stream.
+
+ghost use Rattle.std.specs.Prelude.{◌≡◌};
+ghost use Rattle.til_parser.specs.ReadTypes as spec;
+ghost use Rattle.til_parser.specs.Reading.{Reads, loop};
+
+use crate::arguments::Arguments;
+use crate::fault::ParseFault;
+use crate::ltype::{AstPart, AstStream, AstSync, AstType};
+use crate::parser::Parser;
+use til_lexer::TokenKind;
+use tydi_base::{Boxed, List};
+
+impl<'a> Parser<'a> {
+    /// `type`, of at most so many levels.
+    #[cycle(ltype)]
+    #[tactic(auto, unfolding(crate::specs::ReadTypes::ltype))]
+    pub(crate) fn ltype(&mut self, levels: usize) -> Result<AstType, ParseFault>
+        ensures { Reads (spec.ltype levels self.old) result self.new }
+    {
+        if levels == 0 {
+            return Err(self.too_deep());
+        }
+        if self.eat_word("Null") {
+            return Ok(AstType::Null);
+        }
+        if self.eat_word("Bits") {
+            return Ok(AstType::Bits(self.bits()?));
+        }
+        if self.eat_word("Group") {
+            return Ok(AstType::Group(self.parts(levels - 1)?));
+        }
+        if self.eat_word("Union") {
+            return Ok(AstType::Union(self.parts(levels - 1)?));
+        }
+        if self.eat_word("Stream") {
+            let stream = self.stream(levels - 1)?;
+            return Ok(AstType::Stream(Boxed::new(self.alloc(), stream)?));
+        }
+        Ok(AstType::Path(self.path()?))
+    }
+
+    /// `"(" [ part { "," part } [ "," ] ] ")"`, of types of at most so many levels.
+    #[cycle(ltype)]
+    #[tactic(auto, unfolding(crate::specs::ReadTypes::bracketed))]
+    fn parts(&mut self, levels: usize) -> Result<List<AstPart>, ParseFault>
+        ensures { Reads (spec.bracketed (spec.part (spec.ltype levels)) self.old) result self.new }
+    {
+        self.expect(TokenKind::OpenParen)?;
+        let parts = self.separated_parts(levels)?;
+        self.expect(TokenKind::CloseParen)?;
+        Ok(parts)
+    }
+
+    /// `[ part { "," part } [ "," ] ]`, up to a closing bracket, of types of at most so many levels.
+    #[cycle(ltype)]
+    fn separated_parts(&mut self, levels: usize) -> Result<List<AstPart>, ParseFault>
+        ensures { Reads (spec.separated (spec.part (spec.ltype levels)) self.old) result self.new }
+    {
+        let mut parts = List::new(self.alloc());
+        'parts: while !self.sees(TokenKind::CloseParen) {
+            parts.push(self.part(levels)?)?;
+            if !self.eat(TokenKind::Comma) {
+                return Ok(parts);
+            }
+        }
+        Ok(parts)
+    }
+
+    /// `part`, of a type of at most so many levels.
+    #[cycle(ltype)]
+    #[tactic(auto, unfolding(crate::specs::ReadTypes::part))]
+    fn part(&mut self, levels: usize) -> Result<AstPart, ParseFault>
+        ensures { Reads (spec.part (spec.ltype levels) self.old) result self.new }
+    {
+        let name = self.name()?;
+        self.expect(TokenKind::Colon)?;
+        let ltype = self.ltype(levels)?;
+        Ok(AstPart { name, ltype })
+    }
+
+    /// `"(" arg { "," arg } [ "," ] ")"`, of types of at most so many levels.
+    #[cycle(ltype)]
+    #[tactic(auto, unfolding(crate::specs::ReadTypes::stream))]
+    fn stream(&mut self, levels: usize) -> Result<AstStream, ParseFault>
+        ensures { Reads (spec.stream (spec.ltype levels) self.old) result self.new }
+    {
+        self.expect(TokenKind::OpenParen)?;
+        let first = self.argument(Arguments::none(), levels)?;
+        let given = self.arguments(first, levels)?;
+        let Some(stream) = given.into_stream() else {
+            return Err(self.refusal());
+        };
+        self.expect(TokenKind::CloseParen)?;
+        Ok(stream)
+    }
+
+    /// `{ "," arg } [ "," ]`, after the first argument, of types of at most so many levels.
+    #[cycle(ltype)]
+    fn arguments(&mut self, first: Arguments, levels: usize) -> Result<Arguments, ParseFault>
+        ensures { Reads (loop (spec.argument_turn (spec.ltype levels)) first self.old) result self.new }
+    {
+        let mut given = first;
+        'arguments: while self.eat(TokenKind::Comma) {
+            if self.sees(TokenKind::CloseParen) {
+                return Ok(given);
+            }
+            given = self.argument(given, levels)?;
+        }
+        Ok(given)
+    }
+
+    /// An argument whose value may hold a type of at most so many levels.
+    #[cycle(ltype)]
+    #[tactic(auto, unfolding(crate::specs::ReadTypes::argument))]
+    fn argument(&mut self, given: Arguments, levels: usize) -> Result<Arguments, ParseFault>
+        ensures { Reads (spec.argument (spec.ltype levels) given self.old) result self.new }
+    {
+        if self.awaits("data", &given.element) {
+            self.label()?;
+            let element = Some(self.ltype(levels)?);
+            return Ok(Arguments { element, ..given });
+        }
+        if self.awaits("throughput", &given.throughput) {
+            self.label()?;
+            let throughput = Some(self.number()?);
+            return Ok(Arguments {
+                throughput,
+                ..given
+            });
+        }
+        if self.awaits("user", &given.user) {
+            self.label()?;
+            let user = Some(self.ltype(levels)?);
+            return Ok(Arguments { user, ..given });
+        }
+        self.setting(given)
+    }
+
+    /// An argument whose value holds no type.
+    #[tactic(auto, unfolding(crate::specs::ReadTypes::setting))]
+    fn setting(&mut self, given: Arguments) -> Result<Arguments, ParseFault>
+        ensures { Reads (spec.setting given self.old) result self.new }
+    {
+        if self.awaits("dimensionality", &given.dims) {
+            self.label()?;
+            let dims = Some(self.whole()?);
+            return Ok(Arguments { dims, ..given });
+        }
+        if self.awaits("synchronicity", &given.sync) {
+            self.label()?;
+            let sync = Some(self.sync()?);
+            return Ok(Arguments { sync, ..given });
+        }
+        if self.awaits("complexity", &given.level) {
+            self.label()?;
+            let level = Some(self.level()?);
+            return Ok(Arguments { level, ..given });
+        }
+        if self.awaits("direction", &given.reverse) {
+            self.label()?;
+            let reverse = Some(self.either_word("Reverse", "Forward")?);
+            return Ok(Arguments { reverse, ..given });
+        }
+        if self.awaits("keep", &given.keep) {
+            self.label()?;
+            let keep = Some(self.either_word("true", "false")?);
+            return Ok(Arguments { keep, ..given });
+        }
+        Err(self.refusal())
+    }
+
+    /// Whether an argument of this name stands next that is not given yet.
+    fn awaits<T>(&self, name: &str, given: &Option<T>) -> bool
+        ensures { result ≡ spec.awaits name.now given.now self.now }
+    {
+        self.sees_word(name) && given.is_none()
+    }
+
+    /// The name of an argument, and the colon after it.
+    #[tactic(auto, unfolding(crate::specs::ReadTypes::label))]
+    fn label(&mut self) -> Result<(), ParseFault>
+        ensures { Reads (spec.label self.old) result self.new }
+    {
+        self.skip();
+        self.expect(TokenKind::Colon)
+    }
+
+    #[tactic(auto, unfolding(crate::specs::ReadTypes::sync))]
+    fn sync(&mut self) -> Result<AstSync, ParseFault>
+        ensures { Reads (spec.sync self.old) result self.new }
+    {
+        if self.eat_word("Sync") {
+            return Ok(AstSync::Sync);
+        }
+        if self.eat_word("Flatten") {
+            return Ok(AstSync::Flatten);
+        }
+        if self.eat_word("Desync") {
+            return Ok(AstSync::Desync);
+        }
+        self.expect_word("FlatDesync")?;
+        Ok(AstSync::FlatDesync)
+    }
+
+    /// Which of two words stands next: true for the first.
+    #[tactic(auto, unfolding(crate::specs::ReadTypes::either_word))]
+    pub(crate) fn either_word(&mut self, first: &str, second: &str) -> Result<bool, ParseFault>
+        ensures { Reads (spec.either_word first.now second.now self.old) result self.new }
+    {
+        if self.eat_word(first) {
+            return Ok(true);
+        }
+        self.expect_word(second)?;
+        Ok(false)
+    }
+
+    /// `"(" whole ")"`
+    #[tactic(auto, unfolding(crate::specs::ReadTypes::bits))]
+    fn bits(&mut self) -> Result<u64, ParseFault>
+        ensures { Reads (spec.bits self.old) result self.new }
+    {
+        self.expect(TokenKind::OpenParen)?;
+        let width = self.whole()?;
+        self.expect(TokenKind::CloseParen)?;
+        Ok(width)
+    }
+}
