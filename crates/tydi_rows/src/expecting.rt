@@ -33,3 +33,19 @@ pub(crate) fn check<'a>(
         err,
     }
 }
+
+/// `read p` of this text.
+pub(crate) fn read<'a>(
+    files: &'a [(&'a str, &'a str)],
+    status: u8,
+    out: &'a str,
+    err: &'a str,
+) -> Row<'a> {
+    Row {
+        words: &["read", "p"],
+        files,
+        status,
+        out,
+        err,
+    }
+}

@@ -7,6 +7,8 @@ mod expecting;
 #[cfg(test)]
 mod fault_tests;
 #[cfg(test)]
+mod project_tests;
+#[cfg(test)]
 mod refusal_tests;
 mod row;
 #[cfg(test)]
@@ -14,4 +16,4 @@ mod stream_tests;
 #[cfg(test)]
 mod trace_tests;
 
-pub use row::{Faults, Row, Seen, see};
+pub use row::{Faults, Row, Seen, see, see_files};

@@ -6,7 +6,7 @@ use std::test::Fail;
 #[test]
 fn words(rt: HostRuntime) -> Result<(), Fail> {
     let usage = "tydi: Usage\n";
-    let rows: [(&[&str], u8, &str); 8] = [
+    let rows: [(&[&str], u8, &str); 12] = [
         (&["check"], 2, usage),
         (&["check", "-x"], 2, usage),
         (&["check", ""], 2, usage),
@@ -15,6 +15,10 @@ fn words(rt: HostRuntime) -> Result<(), Fail> {
         (&["check", "t", "t"], 2, usage),
         (&["decode", "p", "n::s.p", "t"], 2, usage),
         (&["check", "u"], 1, "tydi: NoFile u\n"),
+        (&["read"], 2, usage),
+        (&["read", "-p"], 2, usage),
+        (&["read", "t", "t"], 2, usage),
+        (&["read", "u"], 1, "tydi: NoFile u\n"),
     ];
     for (words, status, err) in rows {
         expect(

@@ -37,10 +37,20 @@ pub struct Seen {
 
 /// Runs the tool on the words and the files of a row.
 pub fn see(alloc: Global, row: &Row<'_>, faults: &Faults<'_>) -> Result<Seen, Memory> {
-    let words = texts(alloc, row.words)?;
+    see_files(alloc, row.words, files_of(alloc, row.files)?, faults)
+}
+
+/// Runs the tool on these words and files.
+pub fn see_files(
+    alloc: Global,
+    words: &[&str],
+    files: List<(Text, List<u8>)>,
+    faults: &Faults<'_>,
+) -> Result<Seen, Memory> {
+    let words = texts(alloc, words)?;
     let most = usize::from(faults.most) + 1;
     let failing = List::from_slice(alloc, faults.store)?;
-    let mut store = MemStore::new(alloc, files_of(alloc, row.files)?, most, failing)?;
+    let mut store = MemStore::new(alloc, files, most, failing)?;
     let mut out = sink(alloc, most, faults.out)?;
     let mut err = sink(alloc, most, faults.err)?;
     let status = run(alloc, words.as_slice(), &mut store, &mut out, &mut err);

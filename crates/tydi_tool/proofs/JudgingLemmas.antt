@@ -14,8 +14,8 @@ use Rattle.tydi_tool.specs.declared.answer.Answer.{Answer}
 use Rattle.tydi_tool.specs.declared.answer.Reply.{Reply}
 use Rattle.tydi_tool.specs.declared.answer.Reply.TheVariants as replies
 use Rattle.tydi_tool.specs.Telling.{IsFoundAmong, TellsFound}
-use Rattle.tydi_tool.specs.Answers.{TellsReading, TellsTrace}
-use Rattle.tydi_tool.specs.Judging.{Judges, JudgesFound}
+use Rattle.tydi_tool.specs.Answers.{TellsReading, TellsTrace, TellsTraceText}
+use Rattle.tydi_tool.specs.Judging.{Judges}
 use Rattle.tydi_tool.proofs.TellingLemmas.{IsFoundAmong-heads}
 
 -- what a survey answers, and how that is told
@@ -34,7 +34,7 @@ module _ (word text : List ℕ) (heads : List Head) (found : Result Counts Surve
   pub surveyed-among : IsFoundAmong (length heads) found
   surveyed-among = subst (λ (hs : List Head). IsFoundAmong (length hs) found) (sym s.same) (IsFoundAmong-heads s.trace found answers)
 
-  pub surveyed-judged : (reply : Reply) → JudgesFound heads found reply → Judges word text reply
+  pub surveyed-judged : (reply : Reply) → Judges (TellsFound heads found) reply → Judges (TellsTraceText word text) reply
   surveyed-judged (replies.Says a) judged =
       subst (λ (read : Result TraceText TraceFault). TellsReading word read a) (sym s.reads)
       (TellsTrace-surveyed s.trace found a answers (subst (λ (hs : List Head). TellsFound hs found a) s.same judged))

@@ -2,6 +2,9 @@ pub mod AnswerLemmas
 pub mod DeliveryLemmas
 pub mod JudgingLemmas
 pub mod LoadingLemmas
+pub mod ProjectLemmas
 pub mod ReplyLemmas
 pub mod RunLemmas
+pub mod StartedLemmas
 pub mod TellingLemmas
+pub mod UsageLemmas

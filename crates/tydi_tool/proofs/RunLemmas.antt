@@ -14,7 +14,7 @@ use Rattle.tydi_tool.specs.Delivery.{Adds, AddsFront, IsTold, OutFails, ErrFails
 use Rattle.tydi_tool.specs.Replies.{Replies}
 use Rattle.tydi_tool.specs.Answers.{Says}
 use Rattle.tydi_tool.specs.Run.{EndsInAnswer, IsAnswered, OutFront, IsRefusal, IsLine, ErrFront}
-use Rattle.tydi_tool.proofs.AnswerLemmas.{Says-one}
+use Rattle.tydi_tool.proofs.AnswerLemmas.{Says-one, same_out}
 
 -- all is a front
 AddsFront-all : (old new : Option (List ℕ)) (whole : List ℕ) → Adds old new whole → AddsFront old new whole
@@ -108,7 +108,8 @@ OutFront-delivered (Some known) request old new rose out_rose err_rose reply sta
 -- where the answer is a refusal, nothing goes to out
 nothing_out : (known : Files) (request : Option Request) (old new : Option (List ℕ × ℕ)) (rose : Type 0) (reply : Reply) (a : Answer) →
     Replies request (Some known) old new rose reply → Says known request a → IsRefusal a → out_of reply ≡ []
-nothing_out known request old new rose (replies.Says b) a r says refusal = ap out_of_answer (Says-one known request b a (says_of known request old new rose b r) says) ∙ no_out a refusal
+nothing_out known request old new rose (replies.Says b) a r says refusal =
+    same_out b a (Says-one known request b a (says_of known request old new rose b r) says) ∙ no_out a refusal
   where
     no_out : (a : Answer) → IsRefusal a → out_of_answer a ≡ []
     no_out answers.Usage h = refl

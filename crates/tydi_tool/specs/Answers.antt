@@ -12,9 +12,10 @@ use Rattle.tydi_tool.specs.declared.answer.Answer.{Answer}
 use Rattle.tydi_tool.specs.declared.answer.Answer.TheVariants as answers
 use Rattle.tydi_tool.specs.declared.refusal.Refusal.{Refusal}
 use Rattle.tydi_tool.specs.declared.refusal.Refusal.TheVariants as refusals
-use Rattle.tydi_tool.specs.Words.{Request, Check, FileWord, trace_limit}
+use Rattle.tydi_tool.specs.Words.{Request, Check, Read, FileWord, trace_file, project_file}
 use Rattle.tydi_tool.specs.Refusals.{refusal_of}
 use Rattle.tydi_tool.specs.Lines.{refusal_line}
+use Rattle.tydi_tool.specs.Projects.{TellsRefusal, TellsProject}
 use Rattle.tydi_tool.specs.Telling.{TellsFound}
 
 -- the bytes of a file, where it is there and not too long
@@ -31,28 +32,28 @@ pub record TellsTrace (trace : TraceText) (a : Answer) : Type 0 where
   pub surveys : Surveys (streams_of trace) found
   pub says : TellsFound trace.heads found a
 
--- the answer on a text that is refused. Reading a text is never refused for want of memory.
-abbrev pub TellsRefusal : List ℕ → Option Refusal → Answer → Type 0
-TellsRefusal word (Some refusal) a = a ≡ answers.Refused (refusal_line refusal word)
-TellsRefusal word None a = ⊥
-
 -- the answer on what was read of a text: its first fault, or what is said of the trace
 abbrev pub TellsReading : List ℕ → Result TraceText TraceFault → Answer → Type 0
 TellsReading word (Ok trace) a = TellsTrace trace a
 TellsReading word (Err fault) a = TellsRefusal word (refusal_of fault) a
 
--- the answer on a file: that it is refused, or what is said of its text
-abbrev pub TellsFile : List ℕ → Result (List ℕ) Refusal → Answer → Type 0
-TellsFile word (Ok bytes) a = TellsReading word (trace_of bytes) a
-TellsFile word (Err refusal) a = a ≡ answers.Refused (refusal_line refusal word)
+-- the answer on the text of a trace
+abbrev pub TellsTraceText : List ℕ → List ℕ → Answer → Type 0
+TellsTraceText word bytes a = TellsReading word (trace_of bytes) a
 
--- `check TRACE`: the file, its text, and then the survey
-abbrev pub CheckSays : Files → List ℕ → Answer → Type 0
-CheckSays told trace a = TellsFile trace (file_of told (record { word = trace; limit = trace_limit })) a
+-- the answer on a file: that it is refused, or what is said of its bytes
+abbrev pub TellsFile : (List ℕ → Answer → Type 0) → List ℕ → Result (List ℕ) Refusal → Answer → Type 0
+TellsFile Tells word (Ok bytes) a = Tells bytes a
+TellsFile Tells word (Err refusal) a = a ≡ answers.Refused (refusal_line refusal word)
+
+-- what a command of one file says
+abbrev pub FileSays : (List ℕ → Answer → Type 0) → Files → FileWord → Answer → Type 0
+FileSays Tells told file a = TellsFile Tells file.word (file_of told file) a
 
 -- what a command says of the files
 abbrev pub RequestSays : Files → Request → Answer → Type 0
-RequestSays told (Check trace) a = CheckSays told trace a
+RequestSays told (Check trace) a = FileSays (TellsTraceText trace) told (trace_file trace) a
+RequestSays told (Read project) a = FileSays (TellsProject project) told (project_file project) a
 
 -- what the tool says: Usage exactly where the words spell no command
 abbrev pub Says : Files → Option Request → Answer → Type 0

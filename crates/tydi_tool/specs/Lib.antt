@@ -5,6 +5,7 @@ pub mod Laws
 pub mod Lines
 pub mod Loading
 pub mod Outcome
+pub mod Projects
 pub mod Refusals
 pub mod Replies
 pub mod Run

@@ -1,5 +1,5 @@
 -- What a run writes, and how it ends (this project's own).
-use Rattle.std.specs.Prelude.{ℕ, List, [], codes}
+use Rattle.std.specs.Prelude.{ℕ, ◌*◌, ◌^◌, nat_lt, if◌then◌else◌, List, [], length, codes}
 use Rattle.tydi_tool.specs.declared.answer.Answer.{Answer}
 use Rattle.tydi_tool.specs.declared.answer.Answer.TheVariants as answers
 use Rattle.tydi_tool.specs.declared.answer.Reply.{Reply}
@@ -24,6 +24,17 @@ memory_line = codes "tydi: Memory\n"
 
 abbrev pub write_fault_line : List ℕ
 write_fault_line = codes "tydi: WriteFault\n"
+
+abbrev pub output_too_long_line : List ℕ
+output_too_long_line = codes "tydi: OutputTooLong\n"
+
+-- 64 MiB
+abbrev pub output_limit : ℕ
+output_limit = 64 * 2 ^ 20
+
+-- the answer that gives a text to out, where it is not too long
+abbrev pub output_answer : List ℕ → Answer
+output_answer text = if nat_lt output_limit (length text) then answers.Refused output_too_long_line else answers.Done text
 
 -- what an answer gives to out, what it gives to err, and how it ends
 abbrev pub out_of_answer : Answer → List ℕ

@@ -56,12 +56,17 @@ abbrev pub IsNoUsage : Answer → Type 0
 IsNoUsage answers.Usage = ⊥
 IsNoUsage a = Unit {0}
 
--- what a command replies, over what the store tells, the file that was started before and after, and that its faults rose
+-- what is replied by what is said of these files, over what the store tells, the file that was started before and after, and that
+-- its faults rose
+abbrev pub RepliesBy : (Files → Answer → Type 0) → List FileWord → Option Files → (old new : Option (List ℕ × ℕ)) → Type 0 → Reply → Type 0
+RepliesBy Tells files told old new rose (replies.Says a) =
+    IsNoUsage a × IfSome told (λ known. Tells known a × IsPulledOut known files new)
+RepliesBy Tells files told old new rose (replies.ReadFault line) = TellsReadFault rose told files old new line
+RepliesBy Tells files told old new rose replies.Memory = IfSome told (λ known. StartsWithin known files old new)
+
+-- what a command replies
 abbrev pub RepliesTo : Request → Option Files → (old new : Option (List ℕ × ℕ)) → Type 0 → Reply → Type 0
-RepliesTo request told old new rose (replies.Says a) =
-    IsNoUsage a × IfSome told (λ known. RequestSays known request a × IsPulledOut known (file_words request) new)
-RepliesTo request told old new rose (replies.ReadFault line) = TellsReadFault rose told (file_words request) old new line
-RepliesTo request told old new rose replies.Memory = IfSome told (λ known. StartsWithin known (file_words request) old new)
+RepliesTo request told old new rose reply = RepliesBy (λ known a. RequestSays known request a) (file_words request) told old new rose reply
 
 -- what the tool replies: where the words spell no command it says so, and starts nothing
 abbrev pub Replies : Option Request → Option Files → (old new : Option (List ℕ × ℕ)) → Type 0 → Reply → Type 0

@@ -8,9 +8,11 @@ use Rattle.tydi_tool.specs.declared.words.Command.TheVariants as commands
 -- a command with its words, apart from where they lie in memory
 pub data Request : Type 0 where
   Check : List ℕ → Request
+  Read : List ℕ → Request
 
 abbrev pub request_from : Command → Request
 request_from (commands.Check trace) = Check trace.now
+request_from (commands.Read project) = Read project.now
 
 -- a word that is not empty and does not begin with `-`
 abbrev pub is_word : List ℕ → Bool
@@ -22,10 +24,18 @@ abbrev pub check_request : List (List ℕ) → Option Request
 check_request (trace ∷ []) = if is_word trace then Some (Check trace) else None
 check_request words = None
 
+-- `read PROJECT`
+abbrev pub read_request : List (List ℕ) → Option Request
+read_request (project ∷ []) = if is_word project then Some (Read project) else None
+read_request words = None
+
 -- the command that the words spell: the command's own word, and then exactly its words
 abbrev pub request_of : List (List ℕ) → Option Request
 request_of [] = None
-request_of (command ∷ words) = if bytes_eq command (codes "check") then check_request words else None
+request_of (command ∷ words) =
+    if bytes_eq command (codes "check") then check_request words
+    else (if bytes_eq command (codes "read") then read_request words
+    else None)
 
 -- a file that a command names, and the most bytes that it may have
 pub record FileWord : Type 0 where
@@ -36,9 +46,20 @@ pub record FileWord : Type 0 where
 abbrev pub trace_limit : ℕ
 trace_limit = 64 * 2 ^ 20
 
+-- 4 MiB
+abbrev pub project_limit : ℕ
+project_limit = 4 * 2 ^ 20
+
+abbrev pub trace_file : List ℕ → FileWord
+trace_file word = record { word = word; limit = trace_limit }
+
+abbrev pub project_file : List ℕ → FileWord
+project_file word = record { word = word; limit = project_limit }
+
 -- the files of a command, in the order in which they are read
 abbrev pub file_words : Request → List FileWord
-file_words (Check trace) = record { word = trace; limit = trace_limit } ∷ []
+file_words (Check trace) = trace_file trace ∷ []
+file_words (Read project) = project_file project ∷ []
 
 -- the store may start each file of the command
 abbrev pub Allows : (List ℕ → Bool) → Option Request → Type 0

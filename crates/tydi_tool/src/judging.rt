@@ -1,8 +1,10 @@
 ghost use Rattle.std.specs.Prelude.{◌≡◌, ◌<◌, ◌-◌, ◌^◌, ◌⊎◌, length};
-ghost use Rattle.tydi_tool.specs.Judging.{Judges, JudgesFound, JudgesRefusal};
+ghost use Rattle.tydi_tool.specs.Answers.{TellsTraceText};
+ghost use Rattle.tydi_tool.specs.Judging.{Judges};
 ghost use Rattle.tydi_tool.specs.Lines.{refusal_line};
+ghost use Rattle.tydi_tool.specs.Projects.{TellsRefusal};
 ghost use Rattle.tydi_tool.specs.Refusals.{refusal_of};
-ghost use Rattle.tydi_tool.specs.Telling.{IsFoundAmong};
+ghost use Rattle.tydi_tool.specs.Telling.{IsFoundAmong, TellsFound};
 ghost use Rattle.tydi_tool.specs.declared.answer.Answer.TheVariants as answers;
 ghost use Rattle.tydi_tool.specs.declared.answer.Reply.TheVariants as replies;
 
@@ -16,7 +18,7 @@ use tydi_base::{Memory, Text};
 /// What is said of the text of a trace.
 pub(crate) fn judge_trace(alloc: Global, word: &Text, text: &[u8]) -> Reply
     requires { length text.now < 2 ^ 32 - 1 }
-    ensures { Judges word.now text.now result }
+    ensures { Judges (TellsTraceText word.now text.now) result }
 {
     match survey_text(alloc, text) {
         Ok(surveyed) => told(alloc, surveyed),
@@ -27,7 +29,7 @@ pub(crate) fn judge_trace(alloc: Global, word: &Text, text: &[u8]) -> Reply
 /// What is said of a trace that was surveyed.
 fn told(alloc: Global, surveyed: Surveyed) -> Reply
     requires { IsFoundAmong (length surveyed.header.heads) surveyed.found }
-    ensures { JudgesFound surveyed.header.heads surveyed.found result }
+    ensures { Judges (TellsFound surveyed.header.heads surveyed.found) result }
 {
     let Surveyed { header, found } = surveyed;
     match tell(alloc, &header, found) {
@@ -38,7 +40,7 @@ fn told(alloc: Global, surveyed: Surveyed) -> Reply
 
 /// What is said of a text with this fault.
 fn faulted(alloc: Global, fault: TraceFault, word: &Text) -> Reply
-    ensures { JudgesRefusal word.now (refusal_of fault) result }
+    ensures { Judges (TellsRefusal word.now (refusal_of fault)) result }
 {
     match Refusal::of_fault(fault) {
         Some(refusal) => refused(alloc, refusal, word),

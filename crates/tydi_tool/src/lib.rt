@@ -7,6 +7,7 @@ mod delivery;
 mod judging;
 mod laws;
 mod loading;
+mod projects;
 mod refusal;
 mod running;
 mod status;

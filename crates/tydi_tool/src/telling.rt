@@ -1,10 +1,7 @@
 //! How a survey, a refusal and a failed read are told.
 
-ghost use Rattle.std.specs.Prelude.{◌≡◌, ◌<◌, ◌++◌, length, IfOk, OnOk};
-ghost use Rattle.std.specs.List.{flat_map};
+ghost use Rattle.std.specs.Prelude.{◌≡◌, ◌<◌, ◌++◌, length, codes, IfOk, OnOk};
 ghost use Rattle.tydi_tool.specs.Lines.{
-  number_text,
-  file_line,
   refusal_line,
   read_fault_line,
   offence_line,
@@ -13,6 +10,7 @@ ghost use Rattle.tydi_tool.specs.Lines.{
   counts_line,
   legal_text,
 };
+ghost use Rattle.tydi_tool.specs.Refusals.{details_text, number_text, place_text};
 ghost use Rattle.tydi_tool.specs.Telling.{TellsFound, TellsEnd, IsFoundAmong, IsUnfinished, path_of_stream};
 
 use crate::answer::Answer;
@@ -20,7 +18,7 @@ use crate::refusal::Refusal;
 use cycle_trace::{Counts, SurveyFault};
 use physical_stream::{End, Head, Header, Rule};
 use std::alloc::Global;
-use tydi_base::{List, Memory, Path, Text, write_decimal};
+use tydi_base::{List, Memory, Path, Place, Text, write_decimal};
 
 /// The answer on what a survey found of a trace with this header.
 pub(crate) fn tell(
@@ -134,45 +132,72 @@ fn unclosed(alloc: Global, path: &Path, dimension: u8) -> Result<List<u8>, Memor
 pub(crate) fn refuse(alloc: Global, refusal: Refusal, word: &Text) -> Result<List<u8>, Memory>
     ensures { IfOk result (λ line. line ≡ refusal_line refusal word.now) }
 {
-    let name = refusal.name();
-    match refusal {
-        Refusal::NoFile | Refusal::TooLong | Refusal::TooManyCycles => {
-            file_line(alloc, name, word, &[])
-        }
-        Refusal::BadHeader(line)
-        | Refusal::BadRow(line)
-        | Refusal::WrongSignals(line)
-        | Refusal::RowsLeft(line) => file_line(alloc, name, word, &[line]),
-        Refusal::RowsMissing { want, got } => file_line(alloc, name, word, &[want, got]),
-    }
+    let mut line = fault_front(alloc, refusal.name(), word)?;
+    push_details(refusal, &mut line)?;
+    line.extend_from_slice(b"\n")?;
+    Ok(line)
 }
 
 /// The line of a failed read of the file of this word.
 pub(crate) fn read_fault(alloc: Global, word: &Text) -> Result<List<u8>, Memory>
     ensures { IfOk result (λ line. line ≡ read_fault_line word.now) }
 {
-    file_line(alloc, "ReadFault", word, &[])
+    let mut line = fault_front(alloc, "ReadFault", word)?;
+    line.extend_from_slice(b"\n")?;
+    Ok(line)
 }
 
-fn file_line(alloc: Global, name: &str, word: &Text, numbers: &[u64]) -> Result<List<u8>, Memory>
-    ensures { IfOk result (λ line. line ≡ file_line name.now word.now numbers.now) }
+/// The line of a fault up to the word of the file.
+fn fault_front(alloc: Global, name: &str, word: &Text) -> Result<List<u8>, Memory>
+    ensures { IfOk result (λ line. line ≡ codes "tydi: " ++ name.now ++ codes " " ++ word.now) }
 {
     let mut line = List::from_slice(alloc, b"tydi: ")?;
     line.extend_from_slice(name.as_bytes())?;
     line.extend_from_slice(b" ")?;
     line.extend_from_slice(word.as_bytes())?;
-    push_numbers(numbers, &mut line)?;
-    line.extend_from_slice(b"\n")?;
     Ok(line)
 }
 
-/// Adds these numbers, each after a space.
-fn push_numbers(numbers: &[u64], line: &mut List<u8>) -> Result<(), Memory>
-    ensures { OnOk result (line.new ≡ line.old ++ flat_map number_text numbers.now) }
+/// Adds what the line of a refusal has after the word of the file.
+fn push_details(refusal: Refusal, line: &mut List<u8>) -> Result<(), Memory>
+    ensures { OnOk result (line.new ≡ line.old ++ details_text refusal) }
 {
-    'numbers: for number in numbers {
-        line.extend_from_slice(b" ")?;
-        write_decimal(*number, line)?;
+    match refusal {
+        Refusal::NoFile | Refusal::TooLong | Refusal::TooManyCycles | Refusal::EndOfText => Ok(()),
+        Refusal::BadHeader(number)
+        | Refusal::BadRow(number)
+        | Refusal::WrongSignals(number)
+        | Refusal::RowsLeft(number)
+        | Refusal::NotUtf8(number) => push_number(number, line),
+        Refusal::RowsMissing { want, got } => {
+            push_number(want, line)?;
+            push_number(got, line)
+        }
+        Refusal::StrayChar(place)
+        | Refusal::OpenString(place)
+        | Refusal::OpenDoc(place)
+        | Refusal::NameNotAscii(place)
+        | Refusal::BadName(place)
+        | Refusal::NumberTooLong(place)
+        | Refusal::Unexpected(place)
+        | Refusal::TooDeep(place) => push_place(place, line),
     }
-    Ok(())
+}
+
+/// Adds a number, after a space.
+fn push_number(number: u64, line: &mut List<u8>) -> Result<(), Memory>
+    ensures { OnOk result (line.new ≡ line.old ++ number_text number) }
+{
+    line.extend_from_slice(b" ")?;
+    write_decimal(number, line)
+}
+
+/// Adds the line and the column of a place, after a space.
+fn push_place(place: Place, line: &mut List<u8>) -> Result<(), Memory>
+    ensures { OnOk result (line.new ≡ line.old ++ place_text place) }
+{
+    line.extend_from_slice(b" ")?;
+    write_decimal(u64::from(place.line), line)?;
+    line.extend_from_slice(b":")?;
+    write_decimal(u64::from(place.column), line)
 }

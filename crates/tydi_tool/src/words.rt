@@ -1,5 +1,5 @@
 ghost use Rattle.std.specs.Prelude.{◌≡◌, option_map};
-ghost use Rattle.tydi_tool.specs.Words.{request_of, request_from, is_word, check_request};
+ghost use Rattle.tydi_tool.specs.Words.{request_of, request_from, is_word, check_request, read_request};
 
 use tydi_base::Text;
 
@@ -10,6 +10,11 @@ pub enum Command<'a> {
         /// The file of the trace.
         trace: &'a Text,
     },
+    /// Write a project in its canonical text.
+    Read {
+        /// The file of the project.
+        project: &'a Text,
+    },
 }
 
 /// The command that the words after the program's name spell. None exactly where they spell none. It takes no memory.
@@ -19,6 +24,8 @@ pub fn words_of<'a>(words: &'a [Text]) -> Option<Command<'a>>
     let (command, rest) = words.split_first()?;
     if command.as_str() == "check" {
         check_of(rest)
+    } else if command.as_str() == "read" {
+        read_of(rest)
     } else {
         None
     }
@@ -29,6 +36,15 @@ fn check_of<'a>(words: &'a [Text]) -> Option<Command<'a>>
 {
     match words {
         [trace] if is_word(trace) => Some(Command::Check { trace }),
+        _ => None,
+    }
+}
+
+fn read_of<'a>(words: &'a [Text]) -> Option<Command<'a>>
+    ensures { option_map request_from result ≡ read_request words.now }
+{
+    match words {
+        [project] if is_word(project) => Some(Command::Read { project }),
         _ => None,
     }
 }
