@@ -15,3 +15,4 @@ pub mod FracLaws
 pub mod HexWordLemmas
 pub mod HexPacking
 pub mod SliceLemmas
+pub mod WritingLemmas

@@ -8,8 +8,9 @@ ghost use Rattle.tydi_base.specs.Hex.{fitted, hex_of, no_ones, word_at};
 ghost use Rattle.tydi_base.specs.HexWords.{hex_fault, hex_word};
 ghost use Rattle.tydi_base.specs.Reading.{Gives};
 ghost use Rattle.tydi_base.specs.Numbers.{number_below, word_of_number};
+ghost use Rattle.tydi_base.specs.Writing.{StandsInFront};
 
-use crate::hex::push_spelling;
+use crate::hex::write_digits;
 use crate::hex_digits::fill_digits;
 use crate::hex_word::{BitsFault, hex_fault_of, packed_digits};
 use crate::list::List;
@@ -17,6 +18,7 @@ use crate::memory::Memory;
 use crate::numbers::{number_of, push_number};
 use crate::slices::push_bits;
 use crate::try_clone::TryClone;
+use crate::writing::Hex;
 use smallvec::SmallVec;
 use std::alloc::Global;
 use std::marker::Model;
@@ -186,16 +188,20 @@ impl Bits {
         Ok(fitted(width, bytes))
     }
 
-    /// Adds its hexadecimal at the end: a digit for each four bits, the highest first, in lower case. After `Memory` the
-    /// list is as before.
-    pub fn write_hex(&self, alloc: Global, out: &mut List<u8>) -> Result<(), Memory>
+    /// Adds its hexadecimal at the end, as `Hex` writes it. After `Memory` the list is as before.
+    pub fn write_hex(&self, _alloc: Global, out: &mut List<u8>) -> Result<(), Memory>
         ensures ok { OnOk result (out.new ≡ out.old ++ hex_of self.now) }
         ensures err { OnErr result (out.new ≡ out.old) }
     {
-        let count = self.len.div_ceil(4);
-        let mut digits = SmallVec::with_capacity(alloc, count)?;
-        push_spelling(self.bytes.as_slice(), count, &mut digits);
-        out.extend_from_slice(digits.as_slice())
+        out.emit(&Hex(self))
+    }
+
+    /// Adds its hexadecimal at the end. After `Memory` a front of it may stand there.
+    pub(crate) fn write_digits(&self, out: &mut List<u8>) -> Result<(), Memory>
+        ensures ok { OnOk result (out.new ≡ out.old ++ hex_of self.now) }
+        ensures err { OnErr result (StandsInFront out.old out.new) }
+    {
+        write_digits(self.bytes.as_slice(), self.len.div_ceil(4), out)
     }
 }
 

@@ -29,6 +29,7 @@ mod text;
 mod try_clone;
 #[cfg(test)]
 mod word_tests;
+mod writing;
 
 pub use bits::Bits;
 pub use boxed::Boxed;
@@ -45,3 +46,4 @@ pub use pieces::{first_piece, pieces_are_parts};
 pub use place::Place;
 pub use text::Text;
 pub use try_clone::TryClone;
+pub use writing::{Colons, Each, Hex, Written};
