@@ -3,7 +3,7 @@ ghost use Rattle.std.proofs.Common.{rules};
 ghost use Rattle.std.proofs.Math.Bool.{beq};
 ghost use Rattle.std.specs.Cmp.Lexicographic.{pointwise};
 ghost use Rattle.std.specs.Cmp.Rules.{comparing};
-ghost use Rattle.tydi_base.specs.Bits.{bits_of, unpack, zero_bits, IsPacked};
+ghost use Rattle.tydi_base.specs.Bits.{bits_of, unpack, written_at, zero_bits, IsPacked};
 ghost use Rattle.tydi_base.specs.Hex.{fitted, hex_of, no_ones, word_at};
 ghost use Rattle.tydi_base.specs.HexWords.{hex_fault, hex_word};
 ghost use Rattle.tydi_base.specs.Reading.{Gives};
@@ -16,7 +16,7 @@ use crate::hex_word::{BitsFault, hex_fault_of, packed_digits};
 use crate::list::List;
 use crate::memory::Memory;
 use crate::numbers::{number_of, push_number};
-use crate::slices::push_bits;
+use crate::slices::copy_bits;
 use crate::try_clone::TryClone;
 use crate::writing::Hex;
 use smallvec::SmallVec;
@@ -139,16 +139,43 @@ impl Bits {
         bytes.copy_from_slice(from.bytes.as_slice());
     }
 
+    /// Becomes the bits of this word from a place on, as many as it has. It takes no memory.
+    pub fn copy_part(&mut self, from: &Bits, offset: usize)
+        requires { offset + length self.old ≤ length from.now }
+        ensures { self.new ≡ take (length self.old) (drop offset from.now) }
+    {
+        let width = self.len();
+        self.copy_bits(0, from, offset, width);
+    }
+
+    /// Writes this word in place of the bits from a place on. It takes no memory.
+    pub fn put_word(&mut self, offset: usize, word: &Bits)
+        requires { offset + length word.now ≤ length self.old }
+        ensures { self.new ≡ take offset self.old ++ word.now ++ drop (offset + length word.now) self.old }
+    {
+        self.copy_bits(offset, word, 0, word.len());
+    }
+
+    // Writes so many bits of another word, from a place on, in place of those from a place of this word on.
+    fn copy_bits(&mut self, at: usize, source: &Bits, from: usize, count: usize)
+        requires room { at + count ≤ length self.old }
+        requires within { from + count ≤ length source.now }
+        ensures { self.new ≡ written_at at (take count (drop from source.now)) self.old }
+    {
+        prove!(count <= source.len - from);
+        let bytes = self.bytes.as_mut_slice();
+        copy_bits(bytes, at, source.bytes.as_slice(), from, count);
+    }
+
     /// The bits from one place up to another, as a word.
     pub fn slice(&self, alloc: Global, from: usize, to: usize) -> Result<Bits, Memory>
         requires order { from ≤ to }
         requires within { to ≤ length self.now }
         ensures { IfOk result (λ bits. bits ≡ take (to - from) (drop from self.now)) }
     {
-        let len = to - from;
-        let mut bytes = SmallVec::with_capacity(alloc, len.div_ceil(8))?;
-        push_bits(&mut bytes, 0, self.bytes.as_slice(), from, len);
-        Ok(Bits { len, bytes })
+        let mut part = Bits::zeros(alloc, to - from)?;
+        part.copy_part(self, from);
+        Ok(part)
     }
 
     /// Adds the bits of another word above its own. After `Memory` it is as before.
@@ -156,15 +183,21 @@ impl Bits {
         ensures ok { OnOk result (self.new ≡ self.old ++ more.now) }
         ensures err { OnErr result (self.new ≡ self.old) }
     {
-        let width = self.len.checked_add(more.len).ok_or(Memory)?;
-        self.bytes.reserve(width.div_ceil(8) - self.bytes.len())?;
-        push_bits(
-            &mut self.bytes,
-            self.len,
-            more.bytes.as_slice(),
-            0,
-            more.len,
-        );
+        let offset = self.len();
+        self.widen(more.len())?;
+        self.put_word(offset, more);
+        Ok(())
+    }
+
+    // Adds so many zeros above its bits. After `Memory` it is as before.
+    fn widen(&mut self, count: usize) -> Result<(), Memory>
+        ensures ok { OnOk result (self.new ≡ self.old ++ zero_bits count) }
+        ensures err { OnErr result (self.new ≡ self.old) }
+    {
+        let Some(width) = self.len.checked_add(count) else {
+            return Err(Memory);
+        };
+        self.bytes.resize(width.div_ceil(8), 0)?;
         self.len = width;
         Ok(())
     }
