@@ -1,0 +1,6 @@
+pub mod PlainLemmas
+mod WidthLemmas
+mod NameLemmas
+mod SeenLemmas
+mod ThroughputLemmas
+mod FaultLemmas
