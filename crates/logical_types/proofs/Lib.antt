@@ -4,3 +4,4 @@ mod NameLemmas
 mod SeenLemmas
 mod ThroughputLemmas
 mod FaultLemmas
+pub mod PlainTypes

@@ -9,6 +9,8 @@ mod fault;
 mod ltype;
 mod names;
 mod streams;
+#[cfg(test)]
+mod tests;
 mod widths;
 
 pub use checking::check;
