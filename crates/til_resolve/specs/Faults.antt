@@ -1,0 +1,121 @@
+-- What is wrong with a tree, each fault at its place, and which is told. This project's own.
+use Rattle.std.specs.Prelude.{◌≡◌, ◌≤◌, ◌<◌, ◌⊎◌, ℕ, Bool, true, false, not, List, [], ◌∷◌, slice_get, Some, Contains, IsTrue}
+use Rattle.std.specs.List.{flat_map}
+use Rattle.tydi_base.specs.declared.place.Place.{Place}
+use Rattle.til_parser.specs.declared.tree.Ast.{Ast}
+use Rattle.til_parser.specs.declared.tree.AstKind.{AstKind}
+use Rattle.til_parser.specs.declared.tree.AstKind.TheVariants as decls
+use Rattle.til_parser.specs.Tree.{plain}
+use Rattle.logical_types.specs.Tree.{Ltype, null, bits, group, union, stream}
+use Rattle.logical_types.specs.Faults.{faults_of}
+use Rattle.til_resolve.specs.declared.fault.ResolveFault.{ResolveFault}
+use Rattle.til_resolve.specs.declared.fault.ResolveFault.TheVariants as faults
+use Rattle.til_resolve.specs.Declarations.{Declaration, PortOf, declarations, place_of, ports_in}
+use Rattle.til_resolve.specs.Types.{type_of, number_of_nodes, depth_of}
+use Rattle.til_resolve.specs.Names.{twice, unknown, wrong_kinds}
+use Rattle.til_resolve.specs.Cycles.{IsCyclicType, IsCyclicImpl}
+
+-- ---- the types that a tree writes: those of type declarations and of ports
+
+-- a type, where it is told of, and whether it is that of a port
+pub record WrittenType : Type 0 where
+  pub place : Place
+  pub ltype : Ltype
+  pub in_port : Bool
+
+-- the type of a port
+abbrev pub port_type : List Declaration → PortOf → WrittenType
+port_type all one = record { place = one.port.name.place; ltype = type_of all one.space (plain one.port.ltype); in_port = true }
+
+-- the types that a declaration writes: its own, or those of its ports
+abbrev pub types_in : List Declaration → Declaration → List WrittenType
+types_in all one = of_kind one.kind
+  where
+    of_ports : List PortOf → List WrittenType
+    of_ports [] = []
+    of_ports (first ∷ more) = port_type all first ∷ of_ports more
+
+    of_kind : AstKind → List WrittenType
+    of_kind (decls.Alias ltype) = record { place = one.name.place; ltype = type_of all one.space (plain ltype); in_port = false } ∷ []
+    of_kind (decls.Interface listed) = of_ports (ports_in one)
+    of_kind (decls.Streamlet listed) = of_ports (ports_in one)
+    of_kind (decls.Impl target body) = []
+    of_kind (decls.Test target port value plan) = []
+
+-- all types that a tree writes
+abbrev pub written_types : List Declaration → List WrittenType
+written_types all = flat_map (types_in all) all
+
+-- a type of over 65,536 nodes, or nested deeper than 64
+abbrev pub IsTooLarge : Ltype → Type 0
+IsTooLarge ltype = (65536 < number_of_nodes ltype) ⊎ (64 < depth_of ltype)
+
+-- a type that is a Stream
+abbrev pub is_stream : Ltype → Bool
+is_stream null = false
+is_stream (bits width) = false
+is_stream (group parts) = false
+is_stream (union parts) = false
+is_stream (stream element user settings) = true
+
+-- an `impl` whose streamlet contains itself, at the path after `of`
+abbrev pub IsCyclicAt : List Declaration → Declaration → Place → Type 0
+IsCyclicAt all one place = of_kind one.kind
+  where
+    of_kind : AstKind → Type 0
+    of_kind (decls.Alias ltype) = ⊥
+    of_kind (decls.Interface listed) = ⊥
+    of_kind (decls.Streamlet listed) = ⊥
+    of_kind (decls.Impl target body) = (place_of target ≡ place) × IsCyclicImpl all one target
+    of_kind (decls.Test target port value plan) = ⊥
+
+-- ---- the faults of a tree, in the order in which they are looked for
+
+-- the tree of these declarations has such a fault
+abbrev pub HasFault : List Declaration → ResolveFault → Type 0
+HasFault all (faults.DeclaredTwice place) = Contains (twice all) place
+HasFault all (faults.UnknownName place) = Contains (unknown all) place
+HasFault all (faults.WrongKind place) = Contains (wrong_kinds all) place
+HasFault all (faults.CyclicType place) = (one : Declaration) × Contains all one × (one.name.place ≡ place) × IsCyclicType all one
+HasFault all (faults.TypeTooLarge place) = (one : WrittenType) × Contains (written_types all) one × (one.place ≡ place) × IsTooLarge one.ltype
+HasFault all (faults.BadType place fault) = (one : WrittenType) × Contains (written_types all) one × (one.place ≡ place) × (slice_get (faults_of one.ltype) 0 ≡ Some fault)
+HasFault all (faults.PortNotStream place) = (one : WrittenType) × Contains (written_types all) one × (one.place ≡ place) × IsTrue one.in_port × IsTrue (not (is_stream one.ltype))
+HasFault all (faults.CyclicInstance place) = (one : Declaration) × Contains all one × IsCyclicAt all one place
+HasFault all faults.Memory = ⊥
+
+-- the order in which faults are looked for; unknown names and wrong kinds together
+abbrev pub order_of : ResolveFault → ℕ
+order_of (faults.DeclaredTwice place) = 1
+order_of (faults.UnknownName place) = 2
+order_of (faults.WrongKind place) = 2
+order_of (faults.CyclicType place) = 3
+order_of (faults.TypeTooLarge place) = 4
+order_of (faults.BadType place fault) = 5
+order_of (faults.PortNotStream place) = 6
+order_of (faults.CyclicInstance place) = 7
+order_of faults.Memory = 8
+
+-- where a fault stands in the text
+abbrev pub offset_of : ResolveFault → ℕ
+offset_of (faults.DeclaredTwice place) = place.offset
+offset_of (faults.UnknownName place) = place.offset
+offset_of (faults.WrongKind place) = place.offset
+offset_of (faults.CyclicType place) = place.offset
+offset_of (faults.TypeTooLarge place) = place.offset
+offset_of (faults.BadType place fault) = place.offset
+offset_of (faults.PortNotStream place) = place.offset
+offset_of (faults.CyclicInstance place) = place.offset
+offset_of faults.Memory = 0
+
+-- one fault is told before another: it is looked for before, or stands no later in the text
+abbrev pub IsToldBefore : ResolveFault → ResolveFault → Type 0
+IsToldBefore one other = (order_of one < order_of other) ⊎ ((order_of one ≡ order_of other) × (offset_of one ≤ offset_of other))
+
+-- the fault that is told of a tree
+pub record IsToldOf (ast : Ast) (fault : ResolveFault) : Type 0 where
+  pub there : HasFault (declarations ast) fault
+  pub first : (other : ResolveFault) → HasFault (declarations ast) other → IsToldBefore fault other
+
+-- a tree has no fault
+abbrev pub IsSound : Ast → Type 0
+IsSound ast = (fault : ResolveFault) → ¬ HasFault (declarations ast) fault

@@ -1,0 +1,127 @@
+-- The project that a tree without faults stands for.
+use Rattle.std.specs.Prelude.{◌≡◌, ℕ, List, [], ◌∷◌, map, filter, position, Option, Some, None, unwrap_or, if◌then◌else◌}
+use Rattle.std.specs.List.{filter_map}
+use Rattle.til_parser.specs.declared.tree.Ast.{Ast}
+use Rattle.til_parser.specs.declared.tree.AstBody.{AstBody}
+use Rattle.til_parser.specs.declared.tree.AstBody.TheVariants as bodies
+use Rattle.til_parser.specs.declared.tree.AstEnd.{AstEnd}
+use Rattle.til_parser.specs.declared.tree.AstKind.{AstKind}
+use Rattle.til_parser.specs.declared.tree.AstKind.TheVariants as decls
+use Rattle.til_parser.specs.declared.tree.AstName.{AstName}
+use Rattle.til_parser.specs.declared.tree.AstPath.{AstPath}
+use Rattle.til_parser.specs.declared.tree.AstStmt.{AstStmt}
+use Rattle.til_parser.specs.declared.tree.AstStmt.TheVariants as stmts
+use Rattle.til_parser.specs.Tree.{plain}
+use Rattle.logical_types.specs.Tree.{plain_of_stream}
+use Rattle.til_resolve.specs.Paths.{is_same_path}
+use Rattle.til_resolve.specs.Declarations.{Declaration, PortOf, declarations, place_of, path_of, named_as, ports_of, is_streamlet}
+use Rattle.til_resolve.specs.Types.{type_of}
+use Rattle.til_resolve.specs.Names.{Implementation, implements, instances_of}
+use Rattle.til_resolve.specs.declared.project.Project.{Project}
+use Rattle.til_resolve.specs.declared.project.Streamlet.{Streamlet}
+use Rattle.til_resolve.specs.declared.project.Port.{Port}
+use Rattle.til_resolve.specs.declared.project.Impl.{Impl}
+use Rattle.til_resolve.specs.declared.project.Impl.TheVariants as impls
+use Rattle.til_resolve.specs.declared.project.Link.{Link}
+use Rattle.til_resolve.specs.declared.project.LinkEnd.{LinkEnd}
+use Rattle.til_resolve.specs.declared.project.Test.{Test}
+
+-- two lists are as long, and their things in order are related
+abbrev pub Pairwise : {A B : Type 0} → (A → B → Type 0) → List A → List B → Type 0
+Pairwise Related [] [] = Unit {0}
+Pairwise Related [] (y ∷ ys) = ⊥
+Pairwise Related (x ∷ xs) [] = ⊥
+Pairwise Related (x ∷ xs) (y ∷ ys) = Related x y × Pairwise Related xs ys
+
+-- ---- streamlets by their numbers
+
+-- the streamlets, in text order
+abbrev pub streamlets_of : List Declaration → List Declaration
+streamlets_of all = filter is_streamlet all
+
+-- the number of the streamlet that a path names; 0 where it names none, which is told before
+abbrev pub number_of : List Declaration → List (List ℕ) → AstPath → ℕ
+number_of all space path = found (named_as is_streamlet all space path)
+  where
+    found : Option Declaration → ℕ
+    found None = 0
+    found (Some streamlet) = unwrap_or (position (λ one. is_same_path (path_of one) (path_of streamlet)) (streamlets_of all)) 0
+
+-- ---- implementations
+
+-- an end of a link: `port`, or `instance.port`
+abbrev pub end_of : AstEnd → LinkEnd
+end_of end = by_second end.second
+  where
+    by_second : Option AstName → LinkEnd
+    by_second None = record { instance = None; port = end.first.name }
+    by_second (Some port) = record { instance = Some end.first.name; port = port.name }
+
+-- the links of a body, each at its first name
+abbrev pub links_of : List AstStmt → List Link
+links_of all = filter_map link_at all
+  where
+    link_at : AstStmt → Option Link
+    link_at (stmts.Instance name streamlet) = None
+    link_at (stmts.Link first second) = Some (record { first = end_of first; second = end_of second; place = first.first.place })
+
+-- the implementation that a body is, behind this path after `of`
+abbrev pub impl_of : List Declaration → List (List ℕ) → AstPath → AstBody → Impl
+impl_of all space target (bodies.Linked text) = impls.Linked text
+impl_of all space target (bodies.Structural written) = impls.Structural (place_of target)
+    (map (λ one. record { name = one.name.name; streamlet = number_of all space one.streamlet }) (instances_of (bodies.Structural written)))
+    (links_of written)
+
+-- the implementation of a streamlet, if a declaration is one
+abbrev pub impl_by : List Declaration → Declaration → Declaration → Option Impl
+impl_by all streamlet one = of_kind one.kind
+  where
+    kept : AstPath → AstBody → Option Implementation → Option Impl
+    kept target body None = None
+    kept target body (Some found) = if is_same_path found.streamlet (path_of streamlet) then Some (impl_of all one.space target body) else None
+
+    of_kind : AstKind → Option Impl
+    of_kind (decls.Alias ltype) = None
+    of_kind (decls.Interface listed) = None
+    of_kind (decls.Streamlet listed) = None
+    of_kind (decls.Impl target body) = kept target body (implements all one)
+    of_kind (decls.Test target port value plan) = None
+
+-- the first of these, if there is one
+abbrev pub first_of : {A : Type 0} → List A → Option A
+first_of [] = None
+first_of (one ∷ more) = Some one
+
+-- the implementation of a streamlet
+abbrev pub body_of : List Declaration → Declaration → Option Impl
+body_of all streamlet = first_of (filter_map (impl_by all streamlet) all)
+
+-- ---- streamlets and tests
+
+-- a port of the project is a written one
+pub record IsPortOf (all : List Declaration) (one : PortOf) (port : Port) : Type 0 where
+  pub name_is : port.name ≡ one.port.name.name
+  pub inward_is : port.inward ≡ one.port.inward
+  pub type_is : plain_of_stream port.ltype ≡ type_of all one.space (plain one.port.ltype)
+
+-- a streamlet of the project is a written one
+pub record IsStreamletOf (all : List Declaration) (one : Declaration) (streamlet : Streamlet) : Type 0 where
+  pub path_is : streamlet.path ≡ path_of one
+  pub ports_are : Pairwise (IsPortOf all) (ports_of all one) streamlet.ports
+  pub body_is : streamlet.body ≡ body_of all one
+
+-- the test that a declaration is, if it is one
+abbrev pub test_of : List Declaration → Declaration → Option Test
+test_of all one = of_kind one.kind
+  where
+    of_kind : AstKind → Option Test
+    of_kind (decls.Alias ltype) = None
+    of_kind (decls.Interface listed) = None
+    of_kind (decls.Streamlet listed) = None
+    of_kind (decls.Impl target body) = None
+    of_kind (decls.Test target port value plan) = Some (record { path = path_of one; streamlet = number_of all one.space target; port = port.name; value = value; plan = plan })
+
+-- a project is that of a tree: its streamlets and its tests, in text order
+pub record IsProjectOf (ast : Ast) (project : Project) : Type 0 where
+  pub streamlets_are : Pairwise (IsStreamletOf (declarations ast)) (streamlets_of (declarations ast)) project.streamlets
+  pub tests_are : project.tests ≡ filter_map (test_of (declarations ast)) (declarations ast)

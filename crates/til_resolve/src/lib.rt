@@ -1,0 +1,11 @@
+//! A project with its names looked up: streamlets with their ports, bodies and instances, and tests. `specs/Project.antt` says
+//! which project a tree stands for, and `specs/Faults.antt` what is wrong with a tree that stands for none, each fault with its
+//! place, over the list of all declarations in text order and without a table. The crate stands on `til_parser` and
+//! `logical_types`.
+#![tactic(auto)]
+
+mod fault;
+mod project;
+
+pub use fault::ResolveFault;
+pub use project::{Impl, Instance, Link, LinkEnd, Port, Project, Streamlet, Test};
