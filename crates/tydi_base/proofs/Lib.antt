@@ -16,3 +16,4 @@ pub mod HexWordLemmas
 pub mod HexPacking
 pub mod SliceLemmas
 pub mod WritingLemmas
+pub mod WidthLaws
