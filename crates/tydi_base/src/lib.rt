@@ -43,7 +43,7 @@ pub use list::List;
 pub use memory::Memory;
 pub use name::{Name, has_name_form, is_name};
 pub use path::{Path, paths_are_read_as_spelled};
-pub use pieces::{first_piece, pieces_are_parts};
+pub use pieces::{LINE_FEED, SPACE, first_piece, pieces_are_parts};
 pub use place::Place;
 pub use text::Text;
 pub use try_clone::TryClone;
