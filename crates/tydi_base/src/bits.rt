@@ -204,7 +204,7 @@ impl Bits {
 
     /// The number that it spells. None exactly where a one stands at index 128 or above.
     pub fn number(&self) -> Option<u128>
-        ensures { result ≡ number_below 128 self.now }
+        ensures { result ≡ number_below u128.BITS self.now }
     {
         number_of(self.bytes.as_slice())
     }
