@@ -100,5 +100,7 @@ fn marked_values(digits: u8x16) -> u8x16
     let letters = digits.simd_ge(u8x16::splat(LETTER_A));
     let values = digits - letters.select(u8x16::splat(LETTER_A - 10), u8x16::splat(ZERO));
     let limits = letters.select(u8x16::splat(16), u8x16::splat(10));
-    values.simd_lt(limits).select(values, u8x16::splat(NO_DIGIT))
+    values
+        .simd_lt(limits)
+        .select(values, u8x16::splat(NO_DIGIT))
 }

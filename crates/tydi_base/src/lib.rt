@@ -23,8 +23,6 @@ mod place;
 #[cfg(test)]
 mod reading_tests;
 mod slices;
-#[cfg(test)]
-mod tests;
 mod text;
 mod try_clone;
 mod width;
