@@ -1,11 +1,13 @@
 -- Hexadecimal digits packed two to a byte, and the word of a width that bytes keep.
-use Rattle.std.proofs.Common.{◌≡◌, ◌∙◌, sym, ℕ, zero, suc, ◌+◌, ◌-◌, ◌*◌, ◌/◌, ◌%◌, ◌^◌, ◌<◌, ◌≤◌, Bool, true, false, not, ◌&&◌, eqb, List, [], ◌∷◌, ◌++◌, length, get_or, take, drop, Option, Some, None, option_map, option_and_then, refl, ap, arith, append_assoc}
+use Rattle.std.proofs.Common.{◌≡◌, ◌∙◌, sym, ℕ, zero, suc, ◌+◌, ◌-◌, ◌*◌, ◌/◌, ◌%◌, ◌^◌, ◌<◌, ◌≤◌, Bool, true, false, not, ◌&&◌, eqb, List, [], ◌∷◌, ◌++◌, length, get_or, set, take, drop, Option, Some, None, option_map, option_and_then, refl, ap, arith, append_assoc}
 use Rattle.std.proofs.lemmas.Bool.{eq-eqb, ne_eqb}
 use Rattle.std.proofs.lemmas.Bool.Decides.{nat_tests}
 use Rattle.std.proofs.Math.Nat.{pow-succ', zero-add, suc-add, le_refl}
 use Rattle.std.proofs.Math.Numerals.{one-add}
 use Rattle.std.proofs.lemmas.Nat.{shr-shr, shr_below}
-use Rattle.std.proofs.lemmas.List.{drop-drop, drop-append-le, take-append-le, drop_more, drop_all, length-take, length-drop, append-nil, take-append-drop, drop_at}
+use Rattle.std.proofs.lemmas.List.{drop-drop, drop-append-le, take-append-le, drop_more, drop_all, length-take, length-drop, append-nil, take-append-drop, take_all, drop_at}
+use Rattle.std.proofs.lemmas.Grind.{drop-set_at}
+use Rattle.std.specs.Prelude.{MatchBool}
 use Rattle.tydi_base.specs.Bits.{bits_of, zero_bits, unpack, IsPacked}
 use Rattle.tydi_base.specs.Hex.{byte_of_digits, whole_bytes, digit_of, digits_for, bits_of_digits, no_ones, fitted, word_at}
 use Rattle.tydi_base.proofs.BitsLemmas.{bits_of-add, unpack-push, unpack-nil, length-unpack, bits_of-zero}
@@ -42,7 +44,7 @@ pair_of high low byte is_byte = pair_by high low byte (digit_of high) (digit_of 
 bits_of-pair : (above below : ℕ) → below < 16 → bits_of 8 (16 * above + below) ≡ bits_of 4 below ++ bits_of 4 above
 bits_of-pair above below small = bits_of-add 4 4 below above small
 
-bits_of_digits-pair : (high low byte : ℕ) (digits : List ℕ) (bits : List Bool)
+pub bits_of_digits-pair : (high low byte : ℕ) (digits : List ℕ) (bits : List Bool)
     → bits_of_digits digits ≡ Some bits
     → byte_of_digits high low ≡ Some byte
     → bits_of_digits (high ∷ low ∷ digits) ≡ Some (bits ++ bits_of 8 byte)
@@ -153,6 +155,33 @@ whole_odd (digit ∷ digits) bytes at value first lengths are_bits is_value =
     ap (bits_of 8) (sym (zero-add value)) ∙ bits_of-add 4 4 value 0 small.1 ∙ ap (λ (high : List Bool). bits_of 4 value ++ high) (bits_of-zero 4)
     in rw (all, odd, unpack-push, byte)
     (ap (λ (bits : List Bool). Some bits) (append_assoc (unpack bytes) (bits_of 4 value) (zero_bits 4)))
+
+-- an even number of digits
+pub whole_by_even : (digits bytes : List ℕ) (whole : Bool)
+    → 2 * length bytes ≡ length digits
+    → MatchBool whole (bits_of_digits digits ≡ Some (unpack bytes)) (bits_of_digits digits ≡ None)
+    → MatchBool whole (whole_bytes digits ≡ Some (unpack bytes)) (bits_of_digits digits ≡ None)
+whole_by_even digits bytes false even told = told
+whole_by_even digits bytes true even told = whole_even digits bytes 0 refl (omega arith) told
+
+-- an odd number of digits, the first of them in the last byte
+pub whole_by_odd : (digits bytes old : List ℕ) (half value : ℕ) (whole : Bool)
+    → half ≡ length bytes
+    → 1 + 2 * half ≡ length digits
+    → length old ≡ half + 1
+    → digit_of (get_or digits 0 0) ≡ Some value
+    → MatchBool whole (bits_of_digits (take (length digits - 1) (drop 1 digits)) ≡ Some (unpack bytes)) (bits_of_digits (take (length digits - 1) (drop 1 digits)) ≡ None)
+    → MatchBool whole (whole_bytes digits ≡ Some (unpack (bytes ++ drop half (set old half value)))) (bits_of_digits digits ≡ None)
+whole_by_odd digits bytes old half value false half_is odd room is_value told =
+    none_from_end digits 1 (sym (ap bits_of_digits (take_all (length digits - 1) (drop 1 digits) (omega (arith, length-drop 1 digits)))) ∙ told)
+whole_by_odd digits bytes old half value true half_is odd room is_value told =
+    let last : drop half (set old half value) ≡ value ∷ [] =
+    drop-set_at old half half value refl (omega arith)
+    ∙ ap (λ (rest : List ℕ). value ∷ rest) (drop_all (half + 1) old (omega arith))
+    in let rest : bits_of_digits (drop 1 digits) ≡ Some (unpack bytes) =
+    sym (ap bits_of_digits (take_all (length digits - 1) (drop 1 digits) (omega (arith, length-drop 1 digits)))) ∙ told
+    in whole_odd digits bytes 1 value refl (omega arith) rest is_value
+    ∙ ap (λ (last : List ℕ). Some (unpack (bytes ++ last))) (sym last)
 
 pub none_packed : (digits bytes : List ℕ) → bytes ≡ [] → bits_of_digits (drop (length digits) digits) ≡ Some (unpack bytes)
 none_packed digits bytes none =
