@@ -16,3 +16,4 @@ pub mod TraceText
 pub mod TraceView
 pub mod WordsLeft
 pub mod Writing
+pub mod RowSink

@@ -1,5 +1,8 @@
+ghost use Rattle.std.specs.Prelude.{◌≡◌, ◌≤◌, IfOk};
+
 use crate::params::Params;
-use tydi_base::{List, Path};
+use std::alloc::Global;
+use tydi_base::{List, Memory, Path};
 
 /// What a trace says of one of its streams.
 #[derive(Debug, Drop)]
@@ -15,4 +18,13 @@ pub struct Head {
 pub struct Header {
     pub cycles: u32,
     pub heads: List<Head>,
+}
+
+impl Header {
+    /// A copy.
+    pub fn try_clone(&self, _alloc: Global) -> Result<Header, Memory>
+        ensures { IfOk result (λ copy. copy ≡ self.now) }
+    {
+        Err(Memory)
+    }
 }
