@@ -17,11 +17,11 @@ pub mod SignalSpelling
 pub mod SizedLemmas
 pub mod StreamsLemmas
 pub mod StrobeLemmas
-pub mod SurveyLemmas
-pub mod SurveyRows
 pub mod TextSetLemmas
-pub mod TextSurveyLemmas
 pub mod TraceSpelling
 pub mod ViewLemmas
 pub mod WordFieldLemmas
 pub mod WritingLemmas
+pub mod StreamLemmas
+pub mod RowAdded
+pub mod SurveyorLemmas

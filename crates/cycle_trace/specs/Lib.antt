@@ -10,10 +10,10 @@ pub mod Spelling
 pub mod Survey
 pub mod Surveying
 pub mod TextSet
-pub mod TextSurvey
 pub mod Trace
 pub mod TraceText
 pub mod TraceView
 pub mod WordsLeft
 pub mod Writing
 pub mod RowSink
+pub mod SurveyorView

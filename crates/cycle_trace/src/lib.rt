@@ -18,13 +18,15 @@ mod row_text;
 mod rows;
 mod rows_text;
 #[cfg(test)]
-mod survey_tests;
+
 mod surveyed;
 mod surveying;
 #[cfg(test)]
 mod tests;
-mod text_survey;
+mod survey_run;
+mod surveyor;
 mod trace;
+mod turn;
 mod words_left;
 mod writing;
 #[cfg(test)]
@@ -37,7 +39,6 @@ pub use own_row::OwnRow;
 pub use reading::read;
 pub use row_sink::RowSink;
 pub use surveyed::Surveyed;
-pub use surveying::survey;
-pub use text_survey::survey_text;
+pub use surveyor::Surveyor;
 pub use trace::Trace;
 pub use writing::{write_header, write_row};
