@@ -8,6 +8,7 @@ pub mod BitsLemmas
 pub mod BitPlaces
 pub mod HexLemmas
 pub mod HexBytes
+pub mod HexLanes
 pub mod NumberLemmas
 pub mod SpellingLemmas
 pub mod FracLaws

@@ -1,15 +1,16 @@
-ghost use Rattle.std.specs.Prelude.{◌≡◌, ◌↔◌, ◌+◌, ◌*◌, ◌/◌, ◌<◌, not, false, get_or, set, drop, length, IsTrue, IfOk, OnOk, OnErr, ◌++◌, ◌-◌, ◌≤◌, take};
+ghost use Rattle.std.specs.Prelude.{◌≡◌, ◌↔◌, ◌+◌, ◌*◌, ◌/◌, ◌<◌, not, false, Some, None, get_or, set, drop, length, IsTrue, IfOk, MatchBool, OnOk, OnErr, ◌++◌, ◌-◌, ◌≤◌, take};
 ghost use Rattle.std.proofs.Common.{rules};
 ghost use Rattle.std.proofs.Math.Bool.{beq};
 ghost use Rattle.std.specs.Cmp.Lexicographic.{pointwise};
 ghost use Rattle.std.specs.Cmp.Rules.{comparing};
-ghost use Rattle.tydi_base.specs.Bits.{bits_of, unpack, zero_bits};
+ghost use Rattle.tydi_base.specs.Bits.{bits_of, unpack, zero_bits, IsPacked};
 ghost use Rattle.tydi_base.specs.Hex.{fitted, hex_of, no_ones, word_at};
 ghost use Rattle.tydi_base.specs.HexWords.{hex_fault, hex_word};
 ghost use Rattle.tydi_base.specs.Reading.{Gives};
 ghost use Rattle.tydi_base.specs.Numbers.{number_below, word_of_number};
 
-use crate::hex::{push_digits, push_spelling};
+use crate::hex::push_spelling;
+use crate::hex_digits::fill_digits;
 use crate::hex_word::{BitsFault, hex_fault_of, packed_digits};
 use crate::list::List;
 use crate::memory::Memory;
@@ -51,7 +52,7 @@ impl Bits {
 
     /// The word of this width that these hexadecimal digits spell, the highest first. None exactly where they are not as many
     /// as spell such a word, one of them is no digit, or a one stands at or above the width.
-    pub fn from_hexadecimal(
+    pub fn from_exact_hex(
         alloc: Global,
         width: usize,
         digits: &[u8],
@@ -61,11 +62,33 @@ impl Bits {
         if digits.len() != width.div_ceil(4) {
             return Ok(None);
         }
-        let mut bytes = SmallVec::with_capacity(alloc, width.div_ceil(8))?;
-        if !push_digits(digits, &mut bytes) {
-            return Ok(None);
+        let mut word = Bits::zeros(alloc, width)?;
+        if word.read_exact_hex(digits) {
+            Ok(Some(word))
+        } else {
+            Ok(None)
         }
-        Ok(fitted(width, bytes))
+    }
+
+    /// As `from_exact_hex`.
+    pub fn from_hexadecimal(
+        alloc: Global,
+        width: usize,
+        digits: &[u8],
+    ) -> Result<Option<Bits>, Memory>
+        ensures { IfOk result (λ read. read ≡ word_at width digits.now) }
+    {
+        Bits::from_exact_hex(alloc, width, digits)
+    }
+
+    /// Becomes the word of its width that these hexadecimal digits spell, the highest first. False exactly where they spell
+    /// none, as `from_exact_hex` says; then only its width is as before. It takes no memory.
+    pub fn read_exact_hex(&mut self, digits: &[u8]) -> bool
+        ensures read { IsTrue result → word_at (length self.old) digits.now ≡ Some self.new }
+        ensures none { result ≡ false → word_at (length self.old) digits.now ≡ None }
+        ensures width { length self.new ≡ length self.old }
+    {
+        fill_or_clear(self.len, digits, self.bytes.as_mut_slice())
     }
 
     /// The word of this width that these hexadecimal digits spell, the highest first: any number of them, and none are zero.
@@ -214,6 +237,34 @@ fn has_ones_from(width: usize, bytes: &[u8]) -> bool
     }
     let above = bytes[width / 8] >> used;
     above != 0
+}
+
+// Fills the bytes of a word of this width with the word that these digits spell, or with zeros. False where they spell none.
+fn fill_or_clear(width: usize, digits: &[u8], bytes: &mut [u8]) -> bool
+    requires { length bytes.old ≡ (width + 7) / 8 }
+    ensures packed { IsPacked width bytes.new }
+    ensures word { MatchBool result (word_at width digits.now ≡ Some (take width (unpack bytes.new))) (word_at width digits.now ≡ None) }
+{
+    let spelled = fill_word(width, digits, bytes);
+    if !spelled {
+        bytes.fill(0);
+    }
+    spelled
+}
+
+// Fills the bytes of a word of this width with the word that these digits spell. False where they spell none.
+fn fill_word(width: usize, digits: &[u8], bytes: &mut [u8]) -> bool
+    requires { length bytes.old ≡ (width + 7) / 8 }
+    ensures packed { IsTrue result → IsPacked width bytes.new }
+    ensures word { MatchBool result (word_at width digits.now ≡ Some (take width (unpack bytes.new))) (word_at width digits.now ≡ None) }
+{
+    if digits.len() != width.div_ceil(4) {
+        return false;
+    }
+    if !fill_digits(digits, bytes) {
+        return false;
+    }
+    !has_ones_from(width, bytes)
 }
 
 // These bytes as a word of this width. None where a one stands at or above the width.

@@ -31,39 +31,13 @@ pub fn digit_value(byte: u8) -> Option<u8>
 
 // The value of two digits, the first of them the higher.
 #[tactic(auto, unfolding(crate::specs::Hex::byte_of_digits))]
-fn byte_value(high: u8, low: u8) -> Option<u8>
+#[inline(always)]
+pub(crate) fn byte_value(high: u8, low: u8) -> Option<u8>
     ensures { result ≡ byte_of_digits high low }
 {
     let below = digit_value(low)?;
     let above = digit_value(high)?;
     Some(16 * above + below)
-}
-
-/// Packs these digits, two to a byte, the last of them lowest. False where one is no digit.
-pub(crate) fn push_digits(digits: &[u8], bytes: &mut SmallVec<u8, 16>) -> bool
-    requires empty { bytes.old.items ≡ [] }
-    requires room { HasRoomFor bytes.old ((length digits.now + 1) / 2) }
-    ensures bits { MatchBool result (whole_bytes digits.now ≡ Some (unpack bytes.new.items)) (bits_of_digits digits.now ≡ None) }
-    ensures len { IsTrue result → length bytes.new.items ≡ (length digits.now + 1) / 2 }
-{
-    let mut at = digits.len();
-    'pairs: while at > 1 {
-        at -= 2;
-        match byte_value(digits[at], digits[at + 1]) {
-            Some(byte) => bytes.push_reserved(byte),
-            None => return false,
-        }
-    }
-    if at == 0 {
-        return true;
-    }
-    match digit_value(digits[0]) {
-        Some(value) => {
-            bytes.push_reserved(value);
-            true
-        }
-        None => false,
-    }
 }
 
 // The digit of this value, lower case.

@@ -1,11 +1,12 @@
 //! A word of a width from any number of hexadecimal digits, the highest first.
 
-ghost use Rattle.std.specs.Prelude.{◌≡◌, ◌<◌, ◌++◌, ℕ, List, Bool, true, None, Some, Ok, Err, drop, take, length, option_map, IfOk, MatchOption, MatchResult};
-ghost use Rattle.tydi_base.specs.Bits.{bits_of, unpack, IsPacked};
+ghost use Rattle.std.specs.Prelude.{◌≡◌, ◌+◌, ◌-◌, ◌*◌, ◌/◌, ◌<◌, ◌≤◌, ◌++◌, ℕ, List, Bool, true, None, Some, Ok, Err, drop, take, length, replicate, option_map, IfOk, MatchOption, MatchResult};
+ghost use Rattle.tydi_base.specs.Bits.{bits_of, unpack, zero_bits, IsPacked};
 ghost use Rattle.tydi_base.specs.Hex.{bits_of_digits, no_ones};
 ghost use Rattle.tydi_base.specs.HexWords.{counted, first_not_hex, hex_bits, hex_fault, hex_word, highest_one, resized};
 
-use crate::hex::{digit_value, push_digits};
+use crate::hex::digit_value;
+use crate::hex_digits::fill_digits;
 use crate::memory::Memory;
 use smallvec::SmallVec;
 use std::alloc::Global;
@@ -99,8 +100,16 @@ pub(crate) fn packed_digits(
 {
     let count = width.div_ceil(8);
     let used = width.div_ceil(4).min(digits.len());
-    let mut bytes = SmallVec::with_capacity(alloc, count)?;
-    push_digits(&digits[digits.len() - used..], &mut bytes);
-    bytes.resize(count, 0)?;
+    let mut bytes = SmallVec::from_elem(alloc, 0, count)?;
+    fill_low(&digits[digits.len() - used..], bytes.as_mut_slice());
     Ok(bytes)
+}
+
+// Fills bytes of zeros with these digits, the last two in the first byte. The bytes past them stay zeros.
+fn fill_low(digits: &[u8], bytes: &mut [u8])
+    requires room { (length digits.now + 1) / 2 ≤ length bytes.old }
+    requires zeros { bytes.old ≡ replicate (length bytes.old) 0 }
+    ensures { (bits : List Bool) → bits_of_digits digits.now ≡ Some bits → unpack bytes.new ≡ bits ++ zero_bits (8 * length bytes.old - 4 * length digits.now) }
+{
+    fill_digits(digits, &mut bytes[..digits.len().div_ceil(2)]);
 }

@@ -9,6 +9,7 @@ mod frac;
 #[cfg(test)]
 mod frac_tests;
 mod hex;
+mod hex_digits;
 mod hex_word;
 mod level;
 mod list;
