@@ -20,6 +20,7 @@ use Rattle.cycle_trace.specs.Trace.{TraceText, cycles_of_stream, row_in, streams
 use Rattle.cycle_trace.specs.Survey.{Answers, Surveys, counts_of, first_unfinished, or_unfinished}
 use Rattle.cycle_trace.specs.Surveying.{AreChecked, HaveCheckers}
 use Rattle.std.specs.Option.{option_to_list}
+use Rattle.physical_stream.specs.Items.{parts_below}
 use Rattle.cycle_trace.proofs.PartsLemmas.{slice_get-front, slice_get-next, parts_below-tail}
 use Rattle.cycle_trace.proofs.RowAdded.{breaks_in}
 use Rattle.cycle_trace.proofs.StreamLemmas.{stream_at, stream_with, length-streams}
@@ -47,7 +48,9 @@ HaveCheckers-more heads n checkers checker head have within is params stands = r
 
 -- no cycle stands in a trace without rows
 cycles-none : (t : TraceText) (stream : ℕ) → t.rows ≡ [] → cycles_of_stream t stream ≡ []
-cycles-none t stream none = parts_below-tail (row_in t stream) 0 t.cycles (λ i more. ap (λ (rows : List Cycle). option_to_list (slice_get rows (i * length t.heads + stream))) none)
+cycles-none t stream none =
+    let all : t.cycles ≡ 0 + t.cycles = omega arith in
+    ap (parts_below (row_in t stream)) all ∙ parts_below-tail (row_in t stream) 0 t.cycles (λ i more. ap (λ (rows : List Cycle). option_to_list (slice_get rows (i * length t.heads + stream))) none)
 
 pub AreChecked-none : (t : TraceText) (checkers : List Checker) → t.rows ≡ [] → HaveCheckers t.heads (length t.heads) checkers → AreChecked t checkers
 AreChecked-none t checkers none have = record {

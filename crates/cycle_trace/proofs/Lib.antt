@@ -25,3 +25,7 @@ pub mod WritingLemmas
 pub mod StreamLemmas
 pub mod RowAdded
 pub mod SurveyorLemmas
+pub mod BeginningLemmas
+pub mod KeepLemmas
+pub mod RowsReadLemmas
+pub mod ReaderLemmas

@@ -122,13 +122,13 @@ module _ (t : TraceText) (cycle at : ℕ) (place : length t.rows ≡ cycle * len
   few_cycles : (s : ℕ) → (length (cycles_of_stream t s) ≤ cycle) ⊎ ((s < at) × (length (cycles_of_stream t s) ≤ cycle + 1))
   few_cycles s = by_cases (cases_lt s at)
     where
-      by_cases : (s < at) ⊎ (at ≤ s) → (length (cycles_of_stream t s) ≤ cycle) ⊎ ((s < at) × (length (cycles_of_stream t s) ≤ cycle + 1))
-      by_cases (inl less) = inr (less, subst (λ (xs : List Cycle). length xs ≤ cycle + 1) (sym (cycles_end s (cycle + 1) (omega arith) (λ i more. past_next s i more))) (most s (cycle + 1)))
-      by_cases (inr more) = inl (subst (λ (xs : List Cycle). length xs ≤ cycle) (sym (cycles_end s cycle (omega arith) (λ i above. past_here s i more above))) (most s cycle))
-
       most : (s n : ℕ) → length (parts_below (row_in t s) n) ≤ n
       most s zero = omega arith
       most s (suc n) = omega (arith, most s n, length-append (parts_below (row_in t s) n) (row_in t s n), single_at_most (slice_get t.rows (n * length t.heads + s)))
+
+      by_cases : (s < at) ⊎ (at ≤ s) → (length (cycles_of_stream t s) ≤ cycle) ⊎ ((s < at) × (length (cycles_of_stream t s) ≤ cycle + 1))
+      by_cases (inl less) = inr (less, subst (λ (xs : List Cycle). length xs ≤ cycle + 1) (sym (cycles_end s (cycle + 1) (omega arith) (λ i more. past_next s i more))) (most s (cycle + 1)))
+      by_cases (inr more) = inl (subst (λ (xs : List Cycle). length xs ≤ cycle) (sym (cycles_end s cycle (omega arith) (λ i above. past_here s i more above))) (most s cycle))
 
   -- an offence so far stands before the next row
   pub earlier : (o : Offence) → Offends (streams_of t) o → (o.cycle < cycle) ⊎ ((o.cycle ≡ cycle) × (o.stream < at))

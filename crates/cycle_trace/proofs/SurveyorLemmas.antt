@@ -90,7 +90,7 @@ has_turn t cycle stream next p turn =
 -- ---- one row
 
 module _ (t : TraceText) (cycle stream : ℕ) (next : IsNextRow t cycle stream) (row : Cycle) (can : CanTake t row) where
-  turn : HasTurn t cycle stream can.params
+  pub turn : HasTurn t cycle stream can.params
   turn = has_turn t cycle stream next can.params can.turn
 
   -- what the survey so far says stays so where an offence was found

@@ -1,6 +1,5 @@
 pub mod Faults
 pub mod HeaderText
-pub mod OpeningView
 pub mod RowLayout
 pub mod RowStart
 pub mod RowText
@@ -17,3 +16,8 @@ pub mod WordsLeft
 pub mod Writing
 pub mod RowSink
 pub mod SurveyorView
+pub mod Widths
+pub mod RowKept
+pub mod Beginnings
+pub mod ReaderView
+pub mod KeepView

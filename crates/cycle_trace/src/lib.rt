@@ -8,7 +8,9 @@
 mod counts;
 mod fault;
 mod header_text;
+mod keep;
 mod laws;
+mod line_taking;
 mod own_row;
 mod reading;
 mod row_form;
@@ -16,24 +18,22 @@ mod row_layout;
 mod row_sink;
 mod row_text;
 mod rows;
-mod rows_text;
-#[cfg(test)]
-
+mod rows_read;
+mod stream_rows;
+mod survey_run;
 mod surveyed;
 mod surveying;
-#[cfg(test)]
-mod tests;
-mod survey_run;
 mod surveyor;
+mod text_read;
 mod trace;
+mod trace_reader;
 mod turn;
 mod words_left;
 mod writing;
-#[cfg(test)]
-mod writing_tests;
 
 pub use counts::{Counts, SurveyFault};
 pub use fault::TraceFault;
+pub use keep::Keep;
 pub use laws::traces_are_read_as_spelled;
 pub use own_row::OwnRow;
 pub use reading::read;
@@ -41,4 +41,5 @@ pub use row_sink::RowSink;
 pub use surveyed::Surveyed;
 pub use surveyor::Surveyor;
 pub use trace::Trace;
+pub use trace_reader::TraceReader;
 pub use writing::{write_header, write_row};

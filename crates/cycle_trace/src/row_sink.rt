@@ -9,7 +9,7 @@ use tydi_base::Memory;
 
 /// What takes the rows of a trace as they come, by cycle and in each cycle by stream. After `Memory` it is spent: what it
 /// stands for is not known.
-pub trait RowSink {
+pub trait RowSink: Drop {
     /// What it stands for: nothing, or a header and the rows so far.
     ghost stands_for: { Self → Option TraceText → Type 0 };
 

@@ -5,7 +5,7 @@ ghost use Rattle.cycle_trace.specs.SurveyorView.{AnswersTrace, RunStands};
 ghost use Rattle.cycle_trace.specs.Trace.{TraceText};
 
 use crate::surveyed::Surveyed;
-use crate::surveying::{Found, checkers_of, count, found_or};
+use crate::surveying::{Found, checkers_of, found_or, outcome_of};
 use crate::turn::{next_cycle, next_stream};
 use complexity_rules::Checker;
 use physical_stream::{Header, Row};
@@ -56,10 +56,7 @@ impl SurveyRun {
     pub(crate) fn surveyed(self, alloc: Global) -> Surveyed
         ensures { (t : TraceText) → RunStands self t → AnswersTrace t result }
     {
-        let found = match self.found {
-            Some(found) => Err(found.fault()),
-            None => count(alloc, self.checkers.as_slice()),
-        };
+        let found = outcome_of(alloc, self.found, self.checkers.as_slice());
         Surveyed {
             header: self.header,
             found,

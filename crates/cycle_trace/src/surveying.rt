@@ -81,8 +81,22 @@ fn offence_in(checkers: &mut [Checker], cycle: u32, stream: usize, row: Row<'_>)
     }
 }
 
+/// What the rows so far say: the first offence; else the counts, or the first stream that does not end whole.
+pub(crate) fn outcome_of(
+    alloc: Global,
+    found: Option<Found>,
+    checkers: &[Checker],
+) -> Result<Counts, SurveyFault>
+    ensures { (t : TraceText) → RowsSay t checkers.now found → Answers (streams_of t) result }
+{
+    match found {
+        Some(found) => Err(found.fault()),
+        None => count(alloc, checkers),
+    }
+}
+
 /// The counts of all streams, or the first one that does not end whole, where no row breaks a rule.
-pub(crate) fn count(alloc: Global, checkers: &[Checker]) -> Result<Counts, SurveyFault>
+fn count(alloc: Global, checkers: &[Checker]) -> Result<Counts, SurveyFault>
     ensures { (t : TraceText) → AreChecked t checkers.now → IsFirst (Offends (streams_of t)) None → Answers (streams_of t) result }
 {
     if let Some(fault) = unfinished(checkers) {

@@ -72,6 +72,23 @@ impl Transfer {
         self.user.copy_from(&from.user);
     }
 
+    /// A copy.
+    pub fn try_clone(&self, alloc: Global) -> Result<Transfer, Memory>
+        ensures { IfOk result (λ copy. copy ≡ self.now) }
+    {
+        let content = self.content.slice(alloc, 0, self.content.len())?;
+        let last = self.last.slice(alloc, 0, self.last.len())?;
+        let user = self.user.slice(alloc, 0, self.user.len())?;
+        Ok(Transfer {
+            content,
+            last,
+            stai: self.stai,
+            endi: self.endi,
+            strb: self.strb,
+            user,
+        })
+    }
+
     /// Whether it is the same in every signal.
     pub fn equals(&self, other: &Transfer) -> bool
         ensures { IsTrue result ↔ (self.now ≡ other.now) }

@@ -1,0 +1,68 @@
+-- A trace that is kept, row by row.
+use Rattle.std.proofs.Common.{◌≡◌, ◌∙◌, ℕ, ◌+◌, ◌*◌, ◌<◌, ◌≤◌, inl, inr, ◌⊎◌, true, List, [], ◌∷◌, ◌++◌, length, map, Option, Some, None, IfSome, Result, Ok, Err, OnOk, refl, sym, ap, subst, arith}
+use Rattle.std.specs.List.{slice_get}
+use Rattle.std.proofs.lemmas.Bool.{cases_lt}
+use Rattle.std.proofs.lemmas.List.{length-append, length-map, map-append}
+use Rattle.std.proofs.lemmas.Option.{slice_get_within}
+use Rattle.physical_stream.specs.Params.{Parameters}
+use Rattle.physical_stream.specs.Signals.{Shows}
+use Rattle.physical_stream.specs.Cycles.{Cycle}
+use Rattle.physical_stream.specs.declared.transfer.Transfer.{Transfer}
+use Rattle.physical_stream.specs.declared.head.Head.{Head}
+use Rattle.physical_stream.specs.declared.head.Header.{Header}
+use Rattle.cycle_trace.specs.Trace.{TraceText, IsTrace, cycle_of, cycles_of, owed, params_of_heads, text_of}
+use Rattle.cycle_trace.specs.KeepView.{IsBegun}
+use Rattle.cycle_trace.specs.RowSink.{CanTake, IsHeader, begun_by, with_row}
+use Rattle.cycle_trace.specs.declared.own_row.OwnRow.{OwnRow}
+use Rattle.cycle_trace.proofs.PartsLemmas.{slice_get-front, slice_get-next}
+use Rattle.cycle_trace.proofs.RowsLemmas.{length-owed}
+
+-- how many rows a header asks for
+pub length-owed_heads : (t : TraceText) → length (owed (params_of_heads t.heads) t.cycles) ≡ t.cycles * length t.heads
+length-owed_heads t = length-owed (params_of_heads t.heads) t.cycles ∙ ap (λ (n : ℕ). t.cycles * n) (length-map t.heads (λ (head : Head). head.params))
+
+pub IsBegun-none : (header : Header) → IsHeader header → IsBegun (begun_by header)
+IsBegun-none header h = record { few_cycles = h.few_cycles; streams = h.streams; within = omega arith; each = λ i p row shown turn here is. absurd cc }
+
+pub IsBegun-more : (t : TraceText) (row : Cycle) → IsBegun t → CanTake t row → IsBegun (with_row t row)
+IsBegun-more t row h can = record {
+  few_cycles = h.few_cycles;
+  streams = h.streams;
+  within = omega (arith, length-append t.rows (row ∷ []), slice_get_within (owed (params_of_heads t.heads) t.cycles) (length t.rows) can.params can.turn);
+  each = λ i p now shown turn here is. by_cases i p now shown turn here is (cases_lt i (length t.rows));
+}
+  where
+    shows : (said : Option Transfer) (shown : Transfer) → said ≡ Some shown → IfSome said (Shows can.params) → Shows can.params shown
+    shows None shown is h = absurd cc
+    shows (Some x) shown is h = let same : x ≡ shown = cc in subst (Shows can.params) same h
+
+    by_cases : (i : ℕ) (p : Parameters) (now : Cycle) (shown : Transfer) → slice_get (owed (params_of_heads t.heads) t.cycles) i ≡ Some p → slice_get (t.rows ++ row ∷ []) i ≡ Some now → now.shown ≡ Some shown →
+        (i < length t.rows) ⊎ (length t.rows ≤ i) → Shows p shown
+    by_cases i p now shown turn here is (inl less) = h.each i p now shown turn (sym (slice_get-front t.rows (row ∷ []) i less) ∙ here) is
+    by_cases i p now shown turn here is (inr more) =
+        let last : i ≡ length t.rows = omega (arith, slice_get_within (t.rows ++ row ∷ []) i now here, length-append t.rows (row ∷ [])) in
+        let same_row : row ≡ now = let e = sym (slice_get-next t.rows row i last) ∙ here in cc in
+        let same : can.params ≡ p = let e = sym can.turn ∙ ap (slice_get (owed (params_of_heads t.heads) t.cycles)) (sym last) ∙ turn in cc in
+        subst (λ (q : Parameters). Shows q shown) same (shows row.shown shown (ap (λ (c : Cycle). c.shown) same_row ∙ is) can.shown)
+
+pub IsTrace-whole : (t : TraceText) → IsBegun t → length t.rows ≡ t.cycles * length t.heads → IsTrace t
+IsTrace-whole t h all = record { few_cycles = h.few_cycles; streams = h.streams; shown = record { many = all ∙ sym (length-owed_heads t); each = h.each } }
+
+pub IsTrace-many : (t : TraceText) → IsTrace t → length t.rows ≡ t.cycles * length t.heads
+IsTrace-many t whole = whole.shown.many ∙ length-owed_heads t
+
+-- the rows that are kept, and one more
+pub text_of-more : (header : Header) (rows : List OwnRow) (row : OwnRow) (t : TraceText) (now : Cycle) → text_of header rows ≡ t → cycle_of row ≡ now → text_of header (rows ++ row ∷ []) ≡ with_row t now
+text_of-more header rows row t now same is =
+    ap (λ (xs : List Cycle). let text : TraceText = record { cycles = header.cycles; heads = header.heads; rows = xs } in text) (map-append cycle_of rows (row ∷ []))
+    ∙ ap (λ (c : Cycle). with_row (text_of header rows) c) is ∙ ap (λ (x : TraceText). with_row x now) same
+
+pub text-many : (header : Header) (rows : List OwnRow) (t : TraceText) → text_of header rows ≡ t → IsTrace t → length rows ≡ header.cycles * length header.heads
+text-many header rows t same whole = sym (length-map rows cycle_of) ∙ IsTrace-many (text_of header rows) (subst IsTrace (sym same) whole)
+
+pub text-whole : (header : Header) (rows : List OwnRow) (t : TraceText) → text_of header rows ≡ t → IsBegun t → length rows ≡ header.cycles * length header.heads → IsTrace (text_of header rows)
+text-whole header rows t same begun all = IsTrace-whole (text_of header rows) (subst IsBegun (sym same) begun) (length-map rows cycle_of ∙ all)
+
+pub on_ok : {A E : Type 0} (r : Result A E) (P Q : Type 0) → (P → Q) → OnOk r P → OnOk r Q
+on_ok (Ok x) P Q f h = f h
+on_ok (Err e) P Q f h = tt
