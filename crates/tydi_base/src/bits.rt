@@ -16,6 +16,7 @@ use crate::list::List;
 use crate::memory::Memory;
 use crate::numbers::{number_of, push_number};
 use crate::slices::push_bits;
+use crate::try_clone::TryClone;
 use smallvec::SmallVec;
 use std::alloc::Global;
 use std::marker::Model;
@@ -276,6 +277,15 @@ fn fitted(width: usize, bytes: SmallVec<u8, 16>) -> Option<Bits>
         None
     } else {
         Some(Bits { len: width, bytes })
+    }
+}
+
+impl TryClone for Bits {
+    fn try_clone(&self, alloc: Global) -> Result<Bits, Memory> {
+        Ok(Bits {
+            len: self.len,
+            bytes: SmallVec::from_slice(alloc, self.bytes.as_slice())?,
+        })
     }
 }
 

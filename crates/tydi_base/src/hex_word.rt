@@ -3,13 +3,15 @@
 ghost use Rattle.std.specs.Prelude.{◌≡◌, ◌+◌, ◌-◌, ◌*◌, ◌/◌, ◌<◌, ◌≤◌, ◌++◌, ℕ, List, Bool, true, None, Some, Ok, Err, drop, take, length, replicate, option_map, IfOk, MatchOption, MatchResult};
 ghost use Rattle.tydi_base.specs.Bits.{bits_of, unpack, zero_bits, IsPacked};
 ghost use Rattle.tydi_base.specs.Hex.{bits_of_digits, no_ones};
-ghost use Rattle.tydi_base.specs.HexWords.{counted, first_not_hex, hex_bits, hex_fault, hex_word, highest_one, resized};
+ghost use Rattle.tydi_base.specs.HexWords.{counted, fault_text, first_not_hex, hex_bits, hex_fault, hex_word, highest_one, resized};
 
 use crate::hex::digit_value;
 use crate::hex_digits::fill_digits;
 use crate::memory::Memory;
 use smallvec::SmallVec;
 use std::alloc::Global;
+use std::error::Error;
+use std::fmt;
 
 /// Why digits are no word of a width.
 #[derive(Clone, Copy, Debug, PartialEq, Eq)]
@@ -22,6 +24,20 @@ pub enum BitsFault {
     /// There was no memory.
     Memory,
 }
+
+impl fmt::Display for BitsFault {
+    ghost output = { λ fault. Some (fault_text fault) };
+
+    fn fmt<W: fmt::Write>(&self, f: &mut fmt::Formatter<W>) -> fmt::Result {
+        match self {
+            BitsFault::NotHex(index) => write!(f, "no hexadecimal digit at {index}"),
+            BitsFault::TooWide(index) => write!(f, "a one above the width, at {index}"),
+            BitsFault::Memory => f.write_str("out of memory"),
+        }
+    }
+}
+
+impl Error for BitsFault {}
 
 /// What keeps digits from being a word of this width.
 pub(crate) fn hex_fault_of(width: usize, digits: &[u8]) -> Option<BitsFault>

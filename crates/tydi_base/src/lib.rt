@@ -4,6 +4,7 @@
 
 mod bits;
 mod boxed;
+mod compared;
 mod decimal;
 mod frac;
 #[cfg(test)]
@@ -25,6 +26,7 @@ mod slices;
 #[cfg(test)]
 mod tests;
 mod text;
+mod try_clone;
 #[cfg(test)]
 mod word_tests;
 
@@ -42,3 +44,4 @@ pub use path::{Path, paths_are_read_as_spelled};
 pub use pieces::{first_piece, pieces_are_parts};
 pub use place::Place;
 pub use text::Text;
+pub use try_clone::TryClone;

@@ -6,6 +6,7 @@ ghost use Rattle.tydi_base.specs.Name as spec;
 
 use crate::list::List;
 use crate::memory::Memory;
+use crate::try_clone::TryClone;
 use std::alloc::Global;
 use std::marker::Model;
 
@@ -46,6 +47,14 @@ impl Name {
         ensures name { IsTrue (spec.is_name self.now) }
     {
         self.bytes.as_slice()
+    }
+}
+
+impl TryClone for Name {
+    fn try_clone(&self, alloc: Global) -> Result<Name, Memory> {
+        Ok(Name {
+            bytes: List::from_slice(alloc, self.bytes.as_slice())?,
+        })
     }
 }
 
