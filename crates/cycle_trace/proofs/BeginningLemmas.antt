@@ -7,7 +7,7 @@ use Rattle.std.proofs.Math.ListN.{drop_of_length-le}
 use Rattle.std.proofs.Math.Seq.{drop-cons}
 use Rattle.std.proofs.lemmas.Bool.Decides.{nat_tests}
 use Rattle.std.proofs.lemmas.List.{append-nil}
-use Rattle.std.proofs.lemmas.Option.{slice_get_within, get_or_from_slice_get}
+use Rattle.std.proofs.lemmas.Option.{slice_get_within, slice_get-get_or, get_or_from_slice_get}
 use Rattle.tydi_base.specs.Path.{path_text}
 use Rattle.tydi_base.specs.Pieces.{Lacks, lines_of}
 use Rattle.tydi_base.specs.Reading.{◌>>=◌}
@@ -27,6 +27,7 @@ use Rattle.cycle_trace.specs.TextSet.{AddsText, HasTexts}
 use Rattle.cycle_trace.specs.Trace.{TraceText, are_heads, most_cycles, owed, params_of_heads}
 use Rattle.cycle_trace.specs.TraceText.{rows_after, rows_from, trace_from, trace_of}
 use Rattle.cycle_trace.proofs.HeaderLemmas.{after_cycles, heads_from-head, heads_from-other, of_title, opening_after-one, opening_of-one, some_lines}
+use Rattle.cycle_trace.proofs.KeepLemmas.{length-owed_heads}
 use Rattle.cycle_trace.proofs.RowsLemmas.{rows_from-cons, rows_from-cut, rows_from-left, some_line}
 use Rattle.cycle_trace.proofs.StreamsLemmas.{opening_of-are_heads}
 use Rattle.cycle_trace.proofs.TextSetLemmas.{HasTexts-more}
@@ -125,14 +126,10 @@ module _ (bytes line : List ℕ) (plain : Lacks 10 line) where
 
 -- one head more in front
 front-more : (cycles : ℕ) (heads : List Head) (head : Head) (read : Result (List Head × List (List ℕ)) TraceFault)
-    → ◌≡◌ {A = Result Opening TraceFault} ((read >>= λ rest. Ok (head ∷ rest.0, rest.1)) >>= λ found. Ok (record { cycles = cycles; heads = heads ++ found.0; lines = found.1 }))
-    (read >>= λ found. Ok (record { cycles = cycles; heads = (heads ++ head ∷ []) ++ found.0; lines = found.1 }))
+    → ◌≡◌ {A = Result Opening TraceFault} (◌>>=◌ {A = List Head × List (List ℕ)} (◌>>=◌ {A = List Head × List (List ℕ)} {B = List Head × List (List ℕ)} read (λ rest. Ok (head ∷ rest.0, rest.1))) (λ found. Ok (record { cycles = cycles; heads = heads ++ found.0; lines = found.1 })))
+    (◌>>=◌ {A = List Head × List (List ℕ)} read (λ found. Ok (record { cycles = cycles; heads = (heads ++ head ∷ []) ++ found.0; lines = found.1 })))
 front-more cycles heads head (Ok found) = rw (append_assoc heads (head ∷ []) found.0) refl
 front-more cycles heads head (Err d) = refl
-
-bind-assoc : {A B C F : Type 0} (x : Result A F) (f : A → Result B F) (g : B → Result C F) → ((x >>= f) >>= g) ≡ (x >>= λ a. f a >>= g)
-bind-assoc (Ok a) f g = refl
-bind-assoc (Err e) f g = refl
 
 heads_on-head : (cycles : ℕ) (heads : List Head) (paths : List (List ℕ)) (line : List ℕ) (lines : List (List ℕ)) (head : Head) → 0 < length lines → is_head_line line ≡ true
     → in_header (3 + length heads) (head_after paths line) ≡ Ok head → heads_on cycles heads paths (line ∷ lines) ≡ heads_on cycles (heads ++ head ∷ []) (path_text head.path ∷ paths) lines
@@ -316,6 +313,26 @@ module _ (t : TraceText) where
         ap (λ (l : List ℕ). rows_on t (l ∷ [])) none
         ∙ ap (λ (ps : List Parameters). rows_from (t.cycles * length t.heads) (length t.rows) (3 + length t.heads + length t.rows) ps ([] ∷ []) >>= λ rows. Ok (record { cycles = t.cycles; heads = t.heads; rows = t.rows ++ rows })) none_owed
         ∙ ap (λ (rows : List Cycle). Ok (record { cycles = t.cycles; heads = t.heads; rows = rows })) (append-nil t.rows)
+
+-- the end of a text where a row is wanted, and where none is
+pub rows_on-cut_at : (t : TraceText) (line : List ℕ) → length t.rows < t.cycles * length t.heads → rows_on t (line ∷ []) ≡ Err (cut_row line (t.cycles * length t.heads) (length t.rows) (3 + length t.heads + length t.rows))
+rows_on-cut_at t line less =
+    let none : Parameters = record { lanes = 0; dims = 0; level = 0; element = 0; user = 0 } in
+    let within : length t.rows < length (owed (params_of_heads t.heads) t.cycles) = omega (arith, length-owed_heads t) in
+    rows_on-cut t (get_or (owed (params_of_heads t.heads) t.cycles) (length t.rows) none) (slice_get-get_or (owed (params_of_heads t.heads) t.cycles) (length t.rows) none within) line
+
+pub rows_on-rest_at : (t : TraceText) (line : List ℕ) → t.cycles * length t.heads ≤ length t.rows → (line ≡ [] → ⊥) → rows_on t (line ∷ []) ≡ Err (RowsLeft (3 + length t.heads + length t.rows))
+rows_on-rest_at t line all other = rows_on-rest t (omega (arith, length-owed_heads t)) line other
+
+pub rows_on-end_at : (t : TraceText) (line : List ℕ) → t.cycles * length t.heads ≤ length t.rows → line ≡ [] → rows_on t (line ∷ []) ≡ Ok t
+rows_on-end_at t line all none = rows_on-end t (omega (arith, length-owed_heads t)) line none
+
+pub IsFault-cut : {A : Type 0} (read : Result A TraceFault) (e : TraceFault) (line : List ℕ) (want got number : ℕ) → e ≡ cut_row line want got number → read ≡ Err (cut_row line want got number) → IsFault read e
+IsFault-cut read e line want got number same is = subst (λ (f : TraceFault). IsFault read f) (sym same) (by_line line is)
+  where
+    by_line : (line : List ℕ) → read ≡ Err (cut_row line want got number) → IsFault read (cut_row line want got number)
+    by_line [] h = h
+    by_line (byte ∷ more) h = h
 
 -- a whole line of a row
 pub GoesOn-line : (bytes line : List ℕ) (t : TraceText) → Lacks 10 line → GoesOn bytes line t → GoesOnLine bytes line t

@@ -1,9 +1,10 @@
 -- A trace that is kept, row by row.
-use Rattle.std.proofs.Common.{◌≡◌, ◌∙◌, ℕ, ◌+◌, ◌*◌, ◌<◌, ◌≤◌, inl, inr, ◌⊎◌, true, List, [], ◌∷◌, ◌++◌, length, map, Option, Some, None, IfSome, Result, Ok, Err, OnOk, refl, sym, ap, subst, arith}
+use Rattle.std.proofs.Common.{◌≡◌, ◌∙◌, ℕ, zero, suc, take, get_or, ◌+◌, ◌*◌, ◌<◌, ◌≤◌, inl, inr, ◌⊎◌, true, List, [], ◌∷◌, ◌++◌, length, map, Option, Some, None, IfSome, Result, Ok, Err, OnOk, refl, sym, ap, subst, arith}
 use Rattle.std.specs.List.{slice_get}
+use Rattle.std.specs.Option.{option_map}
 use Rattle.std.proofs.lemmas.Bool.{cases_lt}
-use Rattle.std.proofs.lemmas.List.{length-append, length-map, map-append}
-use Rattle.std.proofs.lemmas.Option.{slice_get_within}
+use Rattle.std.proofs.lemmas.List.{length-append, length-map, length-take-le, map-append, map_more}
+use Rattle.std.proofs.lemmas.Option.{slice_get_within, slice_get-get_or, slice_get-map}
 use Rattle.physical_stream.specs.Params.{Parameters}
 use Rattle.physical_stream.specs.Signals.{Shows}
 use Rattle.physical_stream.specs.Cycles.{Cycle}
@@ -66,3 +67,33 @@ text-whole header rows t same begun all = IsTrace-whole (text_of header rows) (s
 pub on_ok : {A E : Type 0} (r : Result A E) (P Q : Type 0) → (P → Q) → OnOk r P → OnOk r Q
 on_ok (Ok x) P Q f h = f h
 on_ok (Err e) P Q f h = tt
+
+-- ---- a trace, row by row
+
+there : {A : Type 0} (xs : List A) (i : ℕ) → i < length xs → (x : A) × (slice_get xs i ≡ Some x)
+there [] i within = absurd (omega arith)
+there (x ∷ xs) zero within = (x, refl)
+there (x ∷ xs) (suc i) within = there xs i (omega arith)
+
+-- the header and the first rows, so many
+abbrev pub first_rows : Header → List OwnRow → ℕ → TraceText
+first_rows header rows i = record { cycles = header.cycles; heads = header.heads; rows = cycles_of (take i rows) }
+
+module _ (header : Header) (rows : List OwnRow) (whole : IsTrace (text_of header rows)) (i : ℕ) (within : i < length rows) (row : OwnRow) (is : row ≡ get_or rows i row) where
+  shown_by : (p : Parameters) → slice_get (owed (params_of_heads header.heads) header.cycles) i ≡ Some p → (shown : Option Transfer) → row.shown ≡ shown → IfSome shown (Shows p)
+  shown_by p turn None same = tt
+  shown_by p turn (Some t) same =
+      let here : slice_get (cycles_of rows) i ≡ Some (cycle_of row) = slice_get-map cycle_of rows i ∙ ap (option_map cycle_of) (slice_get-get_or rows i row within ∙ ap Some (sym is)) in
+      whole.shown.each i p (cycle_of row) t turn here same
+
+  pub replay_can : CanTake (first_rows header rows i) (cycle_of row)
+  replay_can =
+      let long : length (cycles_of (take i rows)) ≡ i = length-map (take i rows) cycle_of ∙ length-take-le i rows (omega arith) in
+      let inside : i < length (owed (params_of_heads header.heads) header.cycles) = omega (arith, whole.shown.many, length-map rows cycle_of) in
+      let turn = there (owed (params_of_heads header.heads) header.cycles) i inside in
+      record { params = turn.0; turn = ap (slice_get (owed (params_of_heads header.heads) header.cycles)) long ∙ turn.1; shown = shown_by turn.0 turn.1 row.shown refl }
+
+  pub replay_next : with_row (first_rows header rows i) (cycle_of row) ≡ first_rows header rows (i + 1)
+  replay_next =
+      ap (λ (cycles : List Cycle). let text : TraceText = record { cycles = header.cycles; heads = header.heads; rows = cycles } in text)
+      (ap (λ (x : OwnRow). cycles_of (take i rows) ++ cycle_of x ∷ []) is ∙ sym (map_more cycle_of rows i row within))

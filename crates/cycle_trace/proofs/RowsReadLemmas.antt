@@ -1,5 +1,5 @@
 -- How far the rows of a text are read.
-use Rattle.std.proofs.Common.{◌≡◌, ◌∙◌, ℕ, zero, suc, ◌+◌, ◌*◌, ◌<◌, ◌≤◌, Bool, true, false, ◌==◌, ◌&&◌, if◌then◌else◌, nat_le, List, [], ◌∷◌, ◌++◌, length, map, get_or, Option, Some, None, IfSome, Result, Ok, Err, MatchOption, refl, sym, ap, subst, arith}
+use Rattle.std.proofs.Common.{◌≡◌, ◌≢◌, ◌↔◌, IsTrue, ◌∙◌, ℕ, zero, suc, ◌+◌, ◌*◌, ◌<◌, ◌≤◌, Bool, true, false, ◌==◌, ◌&&◌, if◌then◌else◌, nat_le, List, [], ◌∷◌, ◌++◌, length, map, get_or, Option, Some, None, IfSome, Result, Ok, Err, MatchOption, refl, sym, ap, subst, arith}
 use Rattle.std.specs.List.{slice_get}
 use Rattle.std.specs.Option.{option_map}
 use Rattle.std.proofs.Math.ListN.{set}
@@ -11,6 +11,7 @@ use Rattle.physical_stream.specs.Params.{Parameters}
 use Rattle.physical_stream.specs.Cycles.{Cycle}
 use Rattle.physical_stream.specs.Signals.{Shows}
 use Rattle.physical_stream.specs.declared.head.Head.{Head}
+use Rattle.physical_stream.specs.declared.transfer.Transfer.{Transfer}
 use Rattle.cycle_trace.specs.declared.fault.TraceFault.{TraceFault}
 use Rattle.cycle_trace.specs.declared.row_text.RowBits.{RowBits}
 use Rattle.cycle_trace.specs.declared.rows_read.RowsRead.{RowsRead}
@@ -53,6 +54,12 @@ kept-set streams i new within = ap (option_map (λ (rows : StreamRows). rows.kep
 module _ (rows : RowsRead) (t : TraceText) (h : ReadsRows rows t) where
   pub many_streams : length rows.streams.items ≡ length t.heads
   many_streams = sym (length-map rows.streams.items (λ (r : StreamRows). r.layout.params)) ∙ ap length h.params ∙ length-map t.heads (λ (head : Head). head.params)
+
+  pub less_of : (rows.got ≡ rows.want → ⊥) → rows.got < rows.want
+  less_of other = let ne : rows.got ≢ rows.want = other in omega (arith, h.got, h.want, h.within)
+
+  pub wants : (row : Cycle) → CanTake t row → rows.got < rows.want
+  wants row can = omega (arith, h.got, h.want, length-owed_heads t, slice_get_within (owed (params_of_heads t.heads) t.cycles) (length t.rows) can.params can.turn)
 
   -- a row is wanted of some stream
   pub turn_params : rows.got < rows.want → (p : Parameters) × (slice_get (owed (params_of_heads t.heads) t.cycles) (length t.rows) ≡ Some p)
@@ -100,3 +107,35 @@ pub gives_here : (p q : Parameters) (number : ℕ) (line : List ℕ) (view : Row
     → Gives fault_in view result (row_at number p line) → Gives fault_in other result (row_at number q line)
 gives_here p q number line view other (Ok bits) same views h = sym (ap (λ (x : Parameters). row_at number x line) same) ∙ h ∙ ap Ok (views bits)
 gives_here p q number line view other (Err e) same views h = subst (λ (x : Parameters). MatchOption (fault_in e) (Unit {0}) (λ f. row_at number x line ≡ Err f)) same h
+
+-- the stream whose turn it is reads a row
+module _ (rows next : RowsRead) (t : TraceText) (h : ReadsRows rows t) (less : rows.got < rows.want) (old new : StreamRows) (there : slice_get rows.streams.items rows.stream ≡ Some old) (same : new.layout ≡ old.layout)
+    (streams : next.streams.items ≡ set rows.streams.items rows.stream new) (want : next.want ≡ rows.want) (got : next.got ≡ rows.got) (stream : next.stream ≡ rows.stream) where
+  pub ReadsRows-read : ReadsRows next t
+  ReadsRows-read = record {
+    params = ap params_of_rows streams ∙ params-set rows.streams.items rows.stream old new there (ap (λ l. l.params) same) ∙ h.params;
+    few_cycles = h.few_cycles;
+    few_streams = h.few_streams;
+    want = want ∙ h.want;
+    got = got ∙ h.got;
+    within = h.within;
+    turn = h.turn;
+    next = record { place = ap (λ (n : ℕ). n) h.next.place ∙ ap (λ (s : ℕ). h.turn * length t.heads + s) (sym stream); within = λ some. subst (λ (s : ℕ). s < length t.heads) (sym stream) (h.next.within some) };
+  }
+
+-- so does what it reads
+pub gives-read : (rows : RowsRead) (t : TraceText) → ReadsRows rows t → rows.got < rows.want → (old new : StreamRows) → slice_get rows.streams.items rows.stream ≡ Some old
+    → (p : Parameters) → slice_get (owed (params_of_heads t.heads) t.cycles) (length t.rows) ≡ Some p → (number : ℕ) (line : List ℕ) (result : Result RowBits TraceFault) → number ≡ 3 + length t.heads + length t.rows
+    → Gives fault_in (cycle_in new.kept) result (row_at number old.layout.params line)
+    → Gives fault_in (λ bits. record { ready = bits.ready; shown = if bits.valid then kept_of (set rows.streams.items rows.stream new) rows.stream else None }) result (row_at (3 + length t.heads + length t.rows) p line)
+gives-read rows t h less old new there p turn number line result is gives =
+    gives_here old.layout.params p (3 + length t.heads + length t.rows) line (cycle_in new.kept) (λ bits. record { ready = bits.ready; shown = if bits.valid then kept_of (set rows.streams.items rows.stream new) rows.stream else None }) result
+    (params_here rows t h p turn old there) views (subst (λ (n : ℕ). Gives fault_in (cycle_in new.kept) result (row_at n old.layout.params line)) is gives)
+  where
+    views : (bits : RowBits) → ◌≡◌ {A = Cycle} (cycle_in new.kept bits) (record { ready = bits.ready; shown = if bits.valid then kept_of (set rows.streams.items rows.stream new) rows.stream else None })
+    views bits =
+        ap (λ (shown : Option Transfer). let cycle : Cycle = record { ready = bits.ready; shown = if bits.valid then shown else None } in cycle) (sym (kept-set rows.streams.items rows.stream new (stream_in rows t h less)))
+
+-- a test that fails
+pub not_whole : (p : Type 0) → IsTrue false ↔ p → p → ⊥
+not_whole p same h = let e = same.1 h in absurd cc

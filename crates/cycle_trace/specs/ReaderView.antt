@@ -7,6 +7,7 @@ use Rattle.physical_stream.specs.declared.transfer.Transfer.{Transfer}
 use Rattle.cycle_trace.specs.Beginnings.{Fails, GoesOn, IsFault, Opens, OpensWith}
 use Rattle.cycle_trace.specs.HeaderText.{Opening, opening_of, opening_after}
 use Rattle.cycle_trace.specs.Surveying.{IsNextRow}
+use Rattle.cycle_trace.specs.TextSet.{HasTexts}
 use Rattle.cycle_trace.specs.Trace.{TraceText, most_cycles, params_of_heads}
 use Rattle.cycle_trace.specs.declared.fault.TraceFault.{TraceFault}
 use Rattle.cycle_trace.specs.declared.row_text.RowBits.{RowBits}
@@ -36,10 +37,15 @@ kept_of streams stream = option_map (λ rows. rows.kept) (slice_get streams stre
 abbrev pub cycle_read : RowsRead → RowBits → Cycle
 cycle_read rows bits = record { ready = bits.ready; shown = if bits.valid then kept_of rows.streams.items rows.stream else None }
 
+-- no stream line is read
+pub record HasNoHeads (text : TextRead) : Type 0 where
+  pub heads : text.heads ≡ []
+  pub paths : HasTexts text.paths []
+
 -- what is known where the line that is begun is this
 abbrev pub StandsAt : {K : Type 0} → (K → Option TraceText → Type 0) → K → TextRead → Stage → (line bytes : List ℕ) → Type 0
-StandsAt stands sink text stages.Title line bytes = stands sink None × Lacks 10 line × Opens bytes line opening_of
-StandsAt stands sink text stages.Cycles line bytes = stands sink None × Lacks 10 line × Opens bytes line opening_after
+StandsAt stands sink text stages.Title line bytes = stands sink None × Lacks 10 line × HasNoHeads text × Opens bytes line opening_of
+StandsAt stands sink text stages.Cycles line bytes = stands sink None × Lacks 10 line × HasNoHeads text × Opens bytes line opening_after
 StandsAt stands sink text stages.Heads line bytes = stands sink None × Lacks 10 line × OpensWith bytes line text.cycles text.heads text.paths
 StandsAt stands sink text stages.Rows line bytes = (t : TraceText) × (stands sink (Some t) × Lacks 10 line × ReadsRows text.rows t × GoesOn bytes line t)
 StandsAt stands sink text (stages.Failed fault) line bytes = Fails bytes fault

@@ -13,7 +13,7 @@ use crate::row_sink::RowSink;
 use crate::trace::Trace;
 use physical_stream::{Header, Row, Transfer};
 use std::alloc::Global;
-use tydi_base::{List, Memory};
+use tydi_base::{List, Memory, TryClone};
 
 /// Keeps a trace. It is not a fixed sink: it takes memory for each row.
 #[derive(Debug, Drop)]

@@ -1,10 +1,11 @@
 //! One line more of a trace text.
 
-ghost use Rattle.std.specs.Prelude.{◌≡◌, ◌++◌, ◌∷◌, [], ◌<◌, ◌≤◌, length, ℕ, List, true, OnOk, Some, None};
+ghost use Rattle.std.specs.Prelude.{◌≡◌, ◌++◌, ◌∷◌, [], ◌<◌, ◌≤◌, length, ℕ, List, true, false, OnOk, Some, None};
 ghost use Rattle.tydi_base.specs.Pieces.{Lacks};
 ghost use Rattle.tydi_base.specs.Reading.{Gives};
 ghost use Rattle.cycle_trace.specs.Beginnings.{GoesOnLine, OpensWith, begun, rows_on};
 ghost use Rattle.cycle_trace.specs.Faults.{fault_in};
+ghost use Rattle.cycle_trace.specs.HeaderText.{is_head_line};
 ghost use Rattle.cycle_trace.specs.ReaderView.{AfterLine, AfterRow, Finishes, ReadsRows, Stands};
 ghost use Rattle.cycle_trace.specs.RowsText.{cut_row};
 ghost use Rattle.cycle_trace.specs.Trace.{TraceText, are_heads, most_cycles};
@@ -168,6 +169,7 @@ fn end_of_header(text: &TextRead, line: &[u8]) -> Result<(), TraceFault>
     requires plain { Lacks 10 line.now }
     ensures gives { (bytes : List ℕ) → OpensWith bytes line.now text.now.cycles text.now.heads text.now.paths → Gives fault_in (λ _. begun text.now.cycles text.now.heads) result (trace_of bytes) }
     ensures few { OnOk result (text.now.cycles ≤ most_cycles) }
+    ensures other { OnOk result (is_head_line line.now ≡ false) }
 {
     let number = 3 + text.heads.len() as u64;
     if is_head_line(line) {

@@ -10,7 +10,7 @@ use crate::turn::{next_cycle, next_stream};
 use complexity_rules::Checker;
 use physical_stream::{Header, Row};
 use std::alloc::Global;
-use tydi_base::Memory;
+use tydi_base::{Memory, TryClone};
 
 /// A survey that has begun.
 #[derive(Debug, Drop)]

@@ -36,9 +36,12 @@ pub(crate) struct TextRead {
 }
 
 impl TextRead {
+    ghost use Rattle.cycle_trace.specs.ReaderView.{HasNoHeads};
+
     /// A text of which nothing is read.
     pub(crate) fn new(alloc: Global) -> TextRead
-        ensures { result.stage ≡ stages.Title }
+        ensures stage { result.stage ≡ stages.Title }
+        ensures heads { HasNoHeads result }
     {
         TextRead {
             stage: Stage::Title,

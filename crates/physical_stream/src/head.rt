@@ -1,8 +1,6 @@
-ghost use Rattle.std.specs.Prelude.{◌≡◌, ◌≤◌, IfOk};
-
 use crate::params::Params;
 use std::alloc::Global;
-use tydi_base::{List, Memory, Path};
+use tydi_base::{List, Memory, Path, TryClone};
 
 /// What a trace says of one of its streams.
 #[derive(Debug, Drop)]
@@ -20,11 +18,21 @@ pub struct Header {
     pub heads: List<Head>,
 }
 
-impl Header {
-    /// A copy.
-    pub fn try_clone(&self, _alloc: Global) -> Result<Header, Memory>
-        ensures { IfOk result (λ copy. copy ≡ self.now) }
-    {
-        Err(Memory)
+impl TryClone for Head {
+    fn try_clone(&self, alloc: Global) -> Result<Head, Memory> {
+        Ok(Head {
+            path: self.path.try_clone(alloc)?,
+            params: self.params,
+            reversed: self.reversed,
+        })
+    }
+}
+
+impl TryClone for Header {
+    fn try_clone(&self, alloc: Global) -> Result<Header, Memory> {
+        Ok(Header {
+            cycles: self.cycles,
+            heads: self.heads.try_clone(alloc)?,
+        })
     }
 }

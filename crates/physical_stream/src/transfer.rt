@@ -5,7 +5,7 @@ ghost use Rattle.tydi_base.specs.Bits.{zero_bits};
 use crate::params::Params;
 use crate::width::{is_index, is_strobe};
 use std::alloc::Global;
-use tydi_base::{Bits, Memory};
+use tydi_base::{Bits, Memory, TryClone};
 
 /// The payload of one transfer: every signal of a stream but valid and ready (Tydi specification, physical streams).
 /// A signal that the stream lacks stands at its default.
@@ -72,27 +72,23 @@ impl Transfer {
         self.user.copy_from(&from.user);
     }
 
-    /// A copy.
-    pub fn try_clone(&self, alloc: Global) -> Result<Transfer, Memory>
-        ensures { IfOk result (λ copy. copy ≡ self.now) }
-    {
-        let content = self.content.slice(alloc, 0, self.content.len())?;
-        let last = self.last.slice(alloc, 0, self.last.len())?;
-        let user = self.user.slice(alloc, 0, self.user.len())?;
-        Ok(Transfer {
-            content,
-            last,
-            stai: self.stai,
-            endi: self.endi,
-            strb: self.strb,
-            user,
-        })
-    }
-
     /// Whether it is the same in every signal.
     pub fn equals(&self, other: &Transfer) -> bool
         ensures { IsTrue result ↔ (self.now ≡ other.now) }
     {
         self == other
+    }
+}
+
+impl TryClone for Transfer {
+    fn try_clone(&self, alloc: Global) -> Result<Transfer, Memory> {
+        Ok(Transfer {
+            content: self.content.try_clone(alloc)?,
+            last: self.last.try_clone(alloc)?,
+            stai: self.stai,
+            endi: self.endi,
+            strb: self.strb,
+            user: self.user.try_clone(alloc)?,
+        })
     }
 }
