@@ -8,7 +8,7 @@ use Rattle.tydi_base.proofs.PieceLaws.{pieces_of-each_lacks}
 use Rattle.tydi_base.specs.Pieces.{Lacks, lines_of}
 use Rattle.cycle_trace.specs.Beginnings.{Fails, GoesOn, GoesOnLine, IsFault, Opens, OpensWith, begun, rows_on}
 use Rattle.cycle_trace.specs.HeaderText.{opening_of, opening_after}
-use Rattle.cycle_trace.specs.ReaderView.{AfterLine, AfterRow, Finishes, ReadsRows, Stands, StandsAt}
+use Rattle.cycle_trace.specs.ReaderView.{AfterLine, AfterRow, StandsAt, StaysFailed}
 use Rattle.cycle_trace.specs.Trace.{TraceText}
 use Rattle.cycle_trace.specs.TraceText.{trace_of}
 use Rattle.cycle_trace.specs.declared.fault.TraceFault.{TraceFault}
@@ -62,3 +62,8 @@ no_line (byte ∷ line) len long none = let zero_long : len ≡ 0 = eqb-true len
 -- a line has no LF
 pub plain-first : (text front : List ℕ) (others : List (List ℕ)) → lines_of text ≡ front ∷ others → Lacks 10 front
 plain-first text front others is = All-head (Lacks 10) front others (subst (λ (lines : List (List ℕ)). All (Lacks 10) lines) is (pieces_of-each_lacks 10 text))
+
+-- what is known within a piece
+pub record Feeds (old new : Stage) (So : Type 0) : Type 0 where
+  pub so_far : So
+  pub spent : StaysFailed old new

@@ -10,6 +10,7 @@ use Rattle.cycle_trace.specs.Surveying.{IsNextRow}
 use Rattle.cycle_trace.specs.TextSet.{HasTexts}
 use Rattle.cycle_trace.specs.Trace.{TraceText, most_cycles, params_of_heads}
 use Rattle.cycle_trace.specs.declared.fault.TraceFault.{TraceFault}
+use Rattle.cycle_trace.specs.declared.fault.TraceFault.TheVariants.{Memory}
 use Rattle.cycle_trace.specs.declared.row_text.RowBits.{RowBits}
 use Rattle.cycle_trace.specs.declared.rows_read.RowsRead.{RowsRead}
 use Rattle.cycle_trace.specs.declared.stream_rows.StreamRows.{StreamRows}
@@ -56,6 +57,14 @@ Stands stands sink text line bytes = StandsAt stands sink text text.stage line b
 -- a reader stands for the bytes that it was fed
 abbrev pub StandsFor : {K : Type 0} → (K → Option TraceText → Type 0) → TraceReader K → List ℕ → Type 0
 StandsFor stands reader bytes = Stands stands reader.sink reader.text reader.line.items bytes
+
+-- memory ran out
+abbrev pub IsSpent : {K : Type 0} → TraceReader K → Type 0
+IsSpent reader = reader.text.stage ≡ stages.Failed Memory
+
+-- a text that has failed stays so
+abbrev pub StaysFailed : (old new : Stage) → Type 0
+StaysFailed old new = (fault : TraceFault) → old ≡ stages.Failed fault → new ≡ stages.Failed fault
 
 -- after a line: what is known where the next one begins, or the fault of every text that begins so
 abbrev pub AfterLine : {K : Type 0} → (K → Option TraceText → Type 0) → K → TextRead → List ℕ → Result (Unit {0}) TraceFault → Type 0

@@ -25,12 +25,16 @@ mod survey_run;
 mod surveyed;
 mod surveying;
 mod surveyor;
+#[cfg(test)]
+mod tests;
 mod text_read;
 mod trace;
 mod trace_reader;
 mod turn;
 mod words_left;
 mod writing;
+#[cfg(test)]
+mod writing_tests;
 
 pub use counts::{Counts, SurveyFault};
 pub use fault::TraceFault;

@@ -1,15 +1,16 @@
 //! One line more of a trace text.
 
-ghost use Rattle.std.specs.Prelude.{◌≡◌, ◌++◌, ◌∷◌, [], ◌<◌, ◌≤◌, length, ℕ, List, true, false, OnOk, Some, None};
+ghost use Rattle.std.specs.Prelude.{◌≡◌, ◌++◌, ◌∷◌, [], ◌<◌, ◌≤◌, length, ℕ, List, true, false, OnOk, Some, None, Err};
 ghost use Rattle.tydi_base.specs.Pieces.{Lacks};
 ghost use Rattle.tydi_base.specs.Reading.{Gives};
 ghost use Rattle.cycle_trace.specs.Beginnings.{GoesOnLine, OpensWith, begun, rows_on};
 ghost use Rattle.cycle_trace.specs.Faults.{fault_in};
 ghost use Rattle.cycle_trace.specs.HeaderText.{is_head_line};
-ghost use Rattle.cycle_trace.specs.ReaderView.{AfterLine, AfterRow, Finishes, ReadsRows, Stands};
+ghost use Rattle.cycle_trace.specs.ReaderView.{AfterLine, AfterRow, Finishes, ReadsRows, Stands, StaysFailed};
 ghost use Rattle.cycle_trace.specs.RowsText.{cut_row};
 ghost use Rattle.cycle_trace.specs.Trace.{TraceText, are_heads, most_cycles};
 ghost use Rattle.cycle_trace.specs.TraceText.{trace_of};
+ghost use Rattle.cycle_trace.specs.declared.fault.TraceFault.{TraceFault};
 ghost use Rattle.cycle_trace.specs.declared.text_read.Stage.TheVariants as stages;
 
 use crate::fault::TraceFault;
@@ -33,7 +34,8 @@ pub(crate) fn take_line<K: RowSink>(
     line: &[u8],
 )
     requires { (bytes : List ℕ) × Stands K.stands_for sink.old text.old line.now bytes }
-    ensures { (bytes : List ℕ) → Stands K.stands_for sink.old text.old line.now bytes → Stands K.stands_for sink.new text.new [] (bytes ++ 10 ∷ []) }
+    ensures stands { (bytes : List ℕ) → Stands K.stands_for sink.old text.old line.now bytes → Stands K.stands_for sink.new text.new [] (bytes ++ 10 ∷ []) }
+    ensures failed { StaysFailed text.old.stage text.new.stage }
 {
     if let Err(fault) = after_line(alloc, sink, text, line) {
         text.stage = Stage::Failed(fault);
@@ -48,7 +50,8 @@ fn after_line<K: RowSink>(
     line: &[u8],
 ) -> Result<(), TraceFault>
     requires { (bytes : List ℕ) × Stands K.stands_for sink.old text.old line.now bytes }
-    ensures { (bytes : List ℕ) → Stands K.stands_for sink.old text.old line.now bytes → AfterLine K.stands_for sink.new text.new bytes result }
+    ensures stands { (bytes : List ℕ) → Stands K.stands_for sink.old text.old line.now bytes → AfterLine K.stands_for sink.new text.new bytes result }
+    ensures failed { (fault : TraceFault) → text.old.stage ≡ stages.Failed fault → result ≡ Err fault }
 {
     match text.stage {
         Stage::Title => {
@@ -134,7 +137,8 @@ pub(crate) fn finish_text<K: RowSink>(
     line: &[u8],
 ) -> Result<K, TraceFault>
     requires { (bytes : List ℕ) × Stands K.stands_for sink text line.now bytes }
-    ensures { (bytes : List ℕ) → Stands K.stands_for sink text line.now bytes → Finishes K.stands_for (trace_of bytes) result }
+    ensures finishes { (bytes : List ℕ) → Stands K.stands_for sink text line.now bytes → Finishes K.stands_for (trace_of bytes) result }
+    ensures failed { (fault : TraceFault) → text.stage ≡ stages.Failed fault → result ≡ Err fault }
 {
     match text.stage {
         Stage::Title => Err(TraceFault::BadHeader(1)),

@@ -1,10 +1,10 @@
 //! Traces whose text comes in pieces.
 
-ghost use Rattle.std.specs.Prelude.{◌≡◌, ◌++◌, ◌∷◌, [], ◌<◌, ◌≤◌, length, ℕ, List, Bool, true, IfOk, IfErr, IsErr, MatchResult, Some, None};
+ghost use Rattle.std.specs.Prelude.{◌≡◌, ◌++◌, ◌∷◌, [], ℕ, List, IfOk, IsErr, ◌↔◌, Err, None};
 ghost use Rattle.tydi_base.specs.Pieces.{Lacks};
-ghost use Rattle.cycle_trace.specs.Beginnings.{Fails, IsFault};
-ghost use Rattle.cycle_trace.specs.ReaderView.{Finishes, Stands, StandsFor};
+ghost use Rattle.cycle_trace.specs.ReaderView.{Finishes, IsSpent, StandsFor, StaysFailed};
 ghost use Rattle.cycle_trace.specs.TraceText.{trace_of};
+ghost use Rattle.cycle_trace.specs.declared.fault.TraceFault.TheVariants as faults;
 
 use crate::fault::TraceFault;
 use crate::line_taking::{finish_text, take_line};
@@ -39,6 +39,8 @@ impl<K: RowSink> TraceReader<K> {
     pub fn feed(&mut self, alloc: Global, piece: &[u8]) -> Result<(), Memory>
         requires { (bytes : List ℕ) × StandsFor K.stands_for self.old bytes }
         ensures stands { (bytes : List ℕ) → StandsFor K.stands_for self.old bytes → StandsFor K.stands_for self.new (bytes ++ piece.now) }
+        ensures memory { IsErr result ↔ IsSpent self.new }
+        ensures spent { IsSpent self.old → IsSpent self.new }
     {
         let mut rest = piece;
         'lines: while let Some((front, after)) = first_piece(rest, b'\n') {
@@ -52,7 +54,8 @@ impl<K: RowSink> TraceReader<K> {
     /// The sink with the whole trace, or the fault of the text.
     pub fn finish(self, alloc: Global) -> Result<K, TraceFault>
         requires { (bytes : List ℕ) × StandsFor K.stands_for self bytes }
-        ensures { (bytes : List ℕ) → StandsFor K.stands_for self bytes → Finishes K.stands_for (trace_of bytes) result }
+        ensures finishes { (bytes : List ℕ) → StandsFor K.stands_for self bytes → Finishes K.stands_for (trace_of bytes) result }
+        ensures spent { IsSpent self → result ≡ Err faults.Memory }
     {
         let TraceReader { sink, text, line } = self;
         finish_text(alloc, sink, text, line.as_slice())
@@ -62,7 +65,8 @@ impl<K: RowSink> TraceReader<K> {
     fn end_line(&mut self, alloc: Global, front: &[u8])
         requires stands { (bytes : List ℕ) × StandsFor K.stands_for self.old bytes }
         requires plain { Lacks 10 front.now }
-        ensures { (bytes : List ℕ) → StandsFor K.stands_for self.old bytes → StandsFor K.stands_for self.new (bytes ++ front.now ++ 10 ∷ []) }
+        ensures stands { (bytes : List ℕ) → StandsFor K.stands_for self.old bytes → StandsFor K.stands_for self.new (bytes ++ front.now ++ 10 ∷ []) }
+        ensures failed { StaysFailed self.old.text.stage self.new.text.stage }
     {
         if self.line.is_empty() {
             take_line(alloc, &mut self.sink, &mut self.text, front);
@@ -81,7 +85,8 @@ impl<K: RowSink> TraceReader<K> {
     /// The line that is begun goes on with these bytes.
     fn begin_line(&mut self, rest: &[u8])
         requires plain { Lacks 10 rest.now }
-        ensures { (bytes : List ℕ) → StandsFor K.stands_for self.old bytes → StandsFor K.stands_for self.new (bytes ++ rest.now) }
+        ensures stands { (bytes : List ℕ) → StandsFor K.stands_for self.old bytes → StandsFor K.stands_for self.new (bytes ++ rest.now) }
+        ensures failed { StaysFailed self.old.text.stage self.new.text.stage }
     {
         if let Stage::Failed(_) = self.text.stage {
             return;
@@ -92,11 +97,12 @@ impl<K: RowSink> TraceReader<K> {
     }
 
     /// Whether memory ran out.
-    fn outcome(&self) -> Result<(), Memory> {
-        if self.text.stage == Stage::Failed(TraceFault::Memory) {
-            Err(Memory)
-        } else {
-            Ok(())
+    fn outcome(&self) -> Result<(), Memory>
+        ensures { IsErr result ↔ IsSpent self.now }
+    {
+        match self.text.stage {
+            Stage::Failed(TraceFault::Memory) => Err(Memory),
+            _ => Ok(()),
         }
     }
 }

@@ -3,8 +3,8 @@ use Rattle.cycle_trace.specs.ReaderView.{Stands}
 use Rattle.cycle_trace.proofs.ReaderLemmas.{StandsAt-more}
 use Rattle.cycle_trace.proofs.trace_reader.TraceReader.begin_line.Goals as goal
 
-pub returns-else-is_err : goal.returns-else-is_err
-returns-else-is_err g c bytes stands =
+pub returns-else-is_err-clause-stands : goal.returns-else-is_err-clause-stands
+returns-else-is_err-clause-stands g c bytes stands =
     let old = c.args.self.now in
     let ok = c.is_err.ensures.negation ∙ ap not c.if-is_err.false in
     let items = c.extend_from_slice.ensures.items ∙ ap (λ (b : Bool). if b then old.line.items ++ c.args.rest.now else old.line.items) ok in

@@ -1,0 +1,144 @@
+ghost use Rattle.std.specs.Prelude.{◌<◌, ◌≤◌, length};
+
+use super::*;
+use physical_stream::{End, Rule};
+use std::alloc::Global;
+use std::test::Fail;
+
+/// A text, and what a survey of it finds, by hand: the counts of the last stream, or the fault.
+struct Case {
+    text: &'static str,
+    found: Result<(u64, u64), SurveyFault>,
+}
+
+/// A text, and its first fault, by hand.
+struct Faulty {
+    text: &'static str,
+    fault: TraceFault,
+}
+
+const FAULTY: [Faulty; 8] = [
+    Faulty {
+        text: "tydi-trace 1\ncycles 02\n",
+        fault: TraceFault::BadHeader(2),
+    },
+    Faulty {
+        text: "tydi-trace 1\ncycles 1000001\nstream a",
+        fault: TraceFault::BadHeader(3),
+    },
+    Faulty {
+        text: "tydi-trace 1\ncycles 1000001\nstream a lanes 1 dims 0 level 1 element 4 user 0 forward\n1 1 d=g\n",
+        fault: TraceFault::TooManyCycles,
+    },
+    Faulty {
+        text: "tydi-trace 1\ncycles 2\nstream a lanes 1 dims 0 level 1 element 4 user 0 forward\n1 1 d=f\n0 1 -",
+        fault: TraceFault::BadRow(5),
+    },
+    Faulty {
+        text: "tydi-trace 1\ncycles 1\nstream a lanes 2 dims 0 level 6 element 4 user 0 forward\n1 1 d=ff s=0\n",
+        fault: TraceFault::WrongSignals(4),
+    },
+    Faulty {
+        text: "tydi-trace 1\ncycles 1\nstream a lanes 2 dims 0 level 6 element 4 user 0 forward\n1 1 d=ff e=1\n",
+        fault: TraceFault::WrongSignals(4),
+    },
+    Faulty {
+        text: "tydi-trace 1\ncycles 1000000\nstream a lanes 1 dims 0 level 1 element 4 user 0 forward\n1 1 d=f\n",
+        fault: TraceFault::RowsMissing {
+            want: 1_000_000,
+            got: 1,
+        },
+    },
+    Faulty {
+        text: "tydi-trace 1\ncycles 1\nstream a lanes 1 dims 0 level 1 element 4 user 0 forward\n1 1 d=f\n0 1 -\n",
+        fault: TraceFault::RowsLeft(5),
+    },
+];
+
+const CASES: [Case; 4] = [
+    Case {
+        text: "tydi-trace 1\ncycles 2\nstream a lanes 1 dims 0 level 1 element 4 user 0 forward\n1 1 d=f\n1 1 d=0\n",
+        found: Ok((2, 2)),
+    },
+    Case {
+        text: "tydi-trace 1\ncycles 0\nstream a lanes 1 dims 0 level 1 element 4 user 0 forward\n",
+        found: Ok((0, 0)),
+    },
+    Case {
+        text: "tydi-trace 1\ncycles 2\nstream a lanes 1 dims 0 level 1 element 4 user 0 forward\nstream b lanes 1 dims 1 level 1 element 4 user 0 forward\n0 1 -\n1 1 d=f l=0 b=1\n0 1 -\n0 1 -\n",
+        found: Err(SurveyFault::Offence {
+            cycle: 1,
+            stream: 1,
+            rule: Rule::InnerPause,
+        }),
+    },
+    Case {
+        text: "tydi-trace 1\ncycles 1\nstream a lanes 1 dims 0 level 1 element 4 user 0 forward\nstream b lanes 128 dims 1 level 1 element 0 user 0 forward\n1 1 d=f\n1 1 l=00000000000000000000000000000000 e=127 b=ffffffffffffffffffffffffffffffff\n",
+        found: Err(SurveyFault::Unfinished {
+            stream: 1,
+            end: End::Unclosed(0),
+        }),
+    },
+];
+
+const SIZES: [usize; 5] = [1, 2, 3, 7, 1000];
+
+/// The survey of a text that comes in pieces of this size.
+fn surveyed(alloc: Global, text: &[u8], size: usize) -> Result<Surveyed, TraceFault>
+    requires { 0 < size }
+{
+    let mut reader = TraceReader::new(alloc, Surveyor::new())?;
+    'pieces: for piece in text.chunks(size) {
+        reader.feed(alloc, piece)?;
+    }
+    Ok(reader.finish(alloc)?.surveyed(alloc))
+}
+
+/// The counts of the last stream, or the fault.
+fn last_of(found: Result<Counts, SurveyFault>) -> Option<Result<(u64, u64), SurveyFault>> {
+    match found {
+        Ok(counts) => Some(Ok(*counts.streams.as_slice().last()?)),
+        Err(fault) => Some(Err(fault)),
+    }
+}
+
+fn fault_of(alloc: Global, text: &str, size: usize) -> Option<TraceFault>
+    requires { 0 < size }
+{
+    surveyed(alloc, text.as_bytes(), size).err()
+}
+
+fn found_in(alloc: Global, text: &str, size: usize) -> Option<Result<(u64, u64), SurveyFault>>
+    requires { 0 < size }
+{
+    last_of(surveyed(alloc, text.as_bytes(), size).ok()?.found)
+}
+
+fn found_of_trace(alloc: Global, text: &str) -> Option<Result<(u64, u64), SurveyFault>> {
+    let trace = read(alloc, text.as_bytes()).ok()?;
+    last_of(survey(alloc, &trace))
+}
+
+#[test]
+fn a_text_in_pieces_has_one_fault(rt: HostRuntime) -> Result<(), Fail> {
+    for case in &FAULTY {
+        for size in SIZES {
+            assert!(rt; size > 0);
+            assert_eq!(rt; fault_of(rt.alloc(), case.text, size), Some(case.fault));
+        }
+        assert_eq!(rt; read(rt.alloc(), case.text.as_bytes()).err(), Some(case.fault));
+    }
+    Ok(())
+}
+
+#[test]
+fn a_text_in_pieces_is_surveyed(rt: HostRuntime) -> Result<(), Fail> {
+    for case in &CASES {
+        for size in SIZES {
+            assert!(rt; size > 0);
+            assert!(rt; found_in(rt.alloc(), case.text, size) == Some(case.found));
+        }
+        assert!(rt; found_of_trace(rt.alloc(), case.text) == Some(case.found));
+    }
+    Ok(())
+}
