@@ -25,3 +25,9 @@ pub record AnswersTrace (t : TraceText) (surveyed : Surveyed) : Type 0 where
   pub cycles : surveyed.header.cycles ≡ t.cycles
   pub heads : surveyed.header.heads ≡ t.heads
   pub found : Answers (streams_of t) surveyed.found
+
+-- all but the checkers and the offence is as before
+pub record IsSameBut (old new : SurveyRun) : Type 0 where
+  pub header : new.header ≡ old.header
+  pub cycle : new.cycle ≡ old.cycle
+  pub stream : new.stream ≡ old.stream

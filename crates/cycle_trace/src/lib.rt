@@ -39,7 +39,7 @@ mod writing_tests;
 pub use counts::{Counts, SurveyFault};
 pub use fault::TraceFault;
 pub use keep::Keep;
-pub use laws::traces_are_read_as_spelled;
+pub use laws::{heads_are_in_form, traces_are_read_as_spelled};
 pub use own_row::OwnRow;
 pub use reading::read;
 pub use replaying::survey;

@@ -1,11 +1,12 @@
-ghost use Rattle.std.specs.Prelude.{◌≡◌, ◌<◌, ◌≤◌, IfOk};
+ghost use Rattle.std.specs.Prelude.{◌≡◌, IfOk, None};
 ghost use Rattle.physical_stream.specs.Cycles.{Cycle, cycle_in};
 ghost use Rattle.cycle_trace.specs.RowSink.{CanTake, IsHeader, begun_by, with_row};
-ghost use Rattle.cycle_trace.specs.SurveyorView.{AnswersTrace, RunStands};
+ghost use Rattle.cycle_trace.specs.Surveying.{RowsSay};
+ghost use Rattle.cycle_trace.specs.SurveyorView.{AnswersTrace, IsSameBut, RunStands};
 ghost use Rattle.cycle_trace.specs.Trace.{TraceText};
 
 use crate::surveyed::Surveyed;
-use crate::surveying::{Found, checkers_of, found_or, outcome_of};
+use crate::surveying::{Found, checkers_of, outcome_of};
 use crate::turn::{next_cycle, next_stream};
 use complexity_rules::Checker;
 use physical_stream::{Header, Row};
@@ -42,14 +43,44 @@ impl SurveyRun {
     }
 
     /// Sees the next row.
+    #[inline(always)]
     pub(crate) fn see(&mut self, row: Row<'_>)
         requires { (t : TraceText) × (RunStands self.old t × CanTake t (cycle_in row)) }
         ensures { (t : TraceText) → RunStands self.old t → CanTake t (cycle_in row.entry) → RunStands self.new (with_row t (cycle_in row.entry)) }
     {
-        let checkers = self.checkers.as_mut_slice();
-        self.found = found_or(self.found, checkers, self.cycle, self.stream, row);
+        self.judge(row);
         self.stream = next_stream(self.stream, self.header.heads.len());
         self.cycle = next_cycle(self.cycle, self.stream);
+    }
+
+    /// Looks for an offence in the next row, where none was found before.
+    #[inline(always)]
+    fn judge(&mut self, row: Row<'_>)
+        requires { (t : TraceText) × (RunStands self.old t × CanTake t (cycle_in row)) }
+        ensures says { (t : TraceText) → RunStands self.old t → CanTake t (cycle_in row.entry) → RowsSay (with_row t (cycle_in row.entry)) self.new.checkers.items self.new.found }
+        ensures same { IsSameBut self.old self.new }
+    {
+        match self.found {
+            Some(_) => {}
+            None => self.judge_first(row),
+        }
+    }
+
+    /// Looks for the first offence in the next row.
+    #[inline(always)]
+    fn judge_first(&mut self, row: Row<'_>)
+        requires none { self.old.found ≡ None }
+        requires stands { (t : TraceText) × (RunStands self.old t × CanTake t (cycle_in row)) }
+        ensures says { (t : TraceText) → RunStands self.old t → CanTake t (cycle_in row.entry) → RowsSay (with_row t (cycle_in row.entry)) self.new.checkers.items self.new.found }
+        ensures same { IsSameBut self.old self.new }
+    {
+        if let Some(rule) = self.checkers[self.stream].step(row) {
+            self.found = Some(Found {
+                cycle: self.cycle,
+                stream: self.stream,
+                rule,
+            });
+        }
     }
 
     /// The header, and what the survey finds.

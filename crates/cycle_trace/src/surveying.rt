@@ -2,18 +2,16 @@
 
 ghost use Rattle.std.specs.Prelude.{◌≡◌, ◌<◌, ◌≤◌, [], ◌+◌, length, map, slice_get, IfOk, MatchOption, Result, Option, Some, None, Ok, Err, IfSome, if◌then◌else◌, ◌==◌};
 ghost use Rattle.physical_stream.specs.First.{Offends, IsFirst};
-ghost use Rattle.physical_stream.specs.Cycles.{Cycle, cycle_in};
 ghost use Rattle.cycle_trace.specs.Survey.{Answers, counts_of, first_unfinished};
 ghost use Rattle.cycle_trace.specs.declared.counts.Counts.{Counts};
 ghost use Rattle.cycle_trace.specs.declared.counts.SurveyFault.{SurveyFault};
 ghost use Rattle.cycle_trace.specs.declared.counts.SurveyFault.TheVariants as faults;
-ghost use Rattle.cycle_trace.specs.RowSink.{CanTake, with_row};
-ghost use Rattle.cycle_trace.specs.Surveying.{AreChecked, HaveCheckers, IsNextRow, RowsSay};
-ghost use Rattle.cycle_trace.specs.Trace.{TraceText, most_cycles, streams_of};
+ghost use Rattle.cycle_trace.specs.Surveying.{AreChecked, HaveCheckers, RowsSay};
+ghost use Rattle.cycle_trace.specs.Trace.{TraceText, streams_of};
 
 use crate::counts::{Counts, SurveyFault};
 use complexity_rules::Checker;
-use physical_stream::{End, Head, Row, Rule};
+use physical_stream::{End, Head, Rule};
 use std::alloc::Global;
 use tydi_base::{List, Memory};
 
@@ -47,38 +45,6 @@ pub(crate) fn checkers_of(alloc: Global, heads: &[Head]) -> Result<Vec<Checker>,
         checkers.push(Checker::new(alloc, head.params)?)?;
     }
     Ok(checkers)
-}
-
-/// The first offence: the one found before this row, or the one in it.
-pub(crate) fn found_or(
-    found: Option<Found>,
-    checkers: &mut [Checker],
-    cycle: u32,
-    stream: usize,
-    row: Row<'_>,
-) -> Option<Found>
-    requires { (t : TraceText) × ((t.cycles ≤ most_cycles) × (IsNextRow t cycle stream × (RowsSay t checkers.old found × CanTake t (cycle_in row)))) }
-    ensures { (t : TraceText) → IsNextRow t cycle stream → RowsSay t checkers.old found → CanTake t (cycle_in row.entry) → RowsSay (with_row t (cycle_in row.entry)) checkers.new result }
-{
-    match found {
-        Some(_) => found,
-        None => offence_in(checkers, cycle, stream, row),
-    }
-}
-
-/// The offence in this row, where there is none before it.
-fn offence_in(checkers: &mut [Checker], cycle: u32, stream: usize, row: Row<'_>) -> Option<Found>
-    requires { (t : TraceText) × ((t.cycles ≤ most_cycles) × (IsNextRow t cycle stream × (RowsSay t checkers.old None × CanTake t (cycle_in row)))) }
-    ensures { (t : TraceText) → IsNextRow t cycle stream → RowsSay t checkers.old None → CanTake t (cycle_in row.entry) → RowsSay (with_row t (cycle_in row.entry)) checkers.new result }
-{
-    match checkers[stream].step(row) {
-        Some(rule) => Some(Found {
-            cycle,
-            stream,
-            rule,
-        }),
-        None => None,
-    }
 }
 
 /// What the rows so far say: the first offence; else the counts, or the first stream that does not end whole.
