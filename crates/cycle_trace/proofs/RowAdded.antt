@@ -192,9 +192,15 @@ module _ (t : TraceText) (cycle at : ℕ) (place : length t.rows ≡ cycle * len
             split : Breaks o.rule found.0.params (cycles_of_stream t at) o.cycle ⊎ ((o.cycle ≡ length (cycles_of_stream t at)) × BreaksAfter o.rule found.0.params (cycles_of_stream t at) row) → Offends (streams_of t) o
                 ⊎ ((o.cycle ≡ cycle) × ((o.stream ≡ at) × ((head : Head) → slice_get t.heads at ≡ Some head → BreaksAfter o.rule head.params (cycles_of_stream t at) row)))
             split (inl before) = inl (offends_by t o found.0 found.1.0 (subst (λ (n : ℕ). Breaks o.rule found.0.params (cycles_of_stream t n) o.cycle) (sym same) before))
-            split (inr last) = inr (last.0 ∙ length-cycles_here, (same, λ head there.
-                let one : found.0 ≡ head = let e = sym found.1.0 ∙ ap (slice_get t.heads) same ∙ there in cc in
-                subst (λ (h : Head). BreaksAfter o.rule h.params (cycles_of_stream t at) row) one last.1))
+            split (inr last) = inr (
+              last.0 ∙ length-cycles_here,
+              (
+                same,
+                λ head there.
+                    let one : found.0 ≡ head = let e = sym found.1.0 ∙ ap (slice_get t.heads) same ∙ there in cc in
+                    subst (λ (h : Head). BreaksAfter o.rule h.params (cycles_of_stream t at) row) one last.1,
+              ),
+            )
 
         by_cases : (o.stream < at) ⊎ (at ≤ o.stream) → (at < o.stream) ⊎ (o.stream ≤ at) → Offends (streams_of t) o
             ⊎ ((o.cycle ≡ cycle) × ((o.stream ≡ at) × ((head : Head) → slice_get t.heads at ≡ Some head → BreaksAfter o.rule head.params (cycles_of_stream t at) row)))

@@ -129,9 +129,10 @@ module _ (t : TraceText) (cycle stream : ℕ) (next : IsNextRow t cycle stream) 
 
       pub RowsSay-unbroken : (new : Checker) → params_in new ≡ params_in old → ((cycles : List Cycle) → StandsFor old cycles → Steps old new cycles row None) → RowsSay (with_row t row) (set checkers stream new) None
       RowsSay-unbroken new same steps =
-          let step = steps_of new None steps in
-          (record { many = length-set checkers stream new ∙ says.0.many; each = λ s checker head here h. each s checker head here h (same_or_other stream s) },
-          IsFirst-none t cycle stream next.place turn.in_streams turn.in_cycles row turn.head turn.there says.1 (λ rule b. step.0 rule (by_head rule b)))
+          let step = steps_of new None steps in (
+            record { many = length-set checkers stream new ∙ says.0.many; each = λ s checker head here h. each s checker head here h (same_or_other stream s) },
+            IsFirst-none t cycle stream next.place turn.in_streams turn.in_cycles row turn.head turn.there says.1 (λ rule b. step.0 rule (by_head rule b)),
+          )
         where
           each : (s : ℕ) (checker : Checker) (head : Head) → slice_get (set checkers stream new) s ≡ Some checker → slice_get t.heads s ≡ Some head → (stream ≡ s) ⊎ (stream ≡ s → ⊥) → IsChecked (with_row t row) s checker head
           each s checker head here h (inl is) =

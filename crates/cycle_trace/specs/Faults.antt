@@ -4,7 +4,6 @@ use Rattle.cycle_trace.specs.declared.fault.TraceFault.{TraceFault}
 use Rattle.cycle_trace.specs.declared.fault.TraceFault.TheVariants as faults
 use Rattle.cycle_trace.specs.declared.fault.Misspelling.{Misspelling}
 use Rattle.cycle_trace.specs.declared.fault.Misspelling.TheVariants as misspellings
-
 use Rattle.cycle_trace.specs.declared.fault.Unspelled.{Unspelled}
 
 -- the fault that an error stands for; want of memory is none

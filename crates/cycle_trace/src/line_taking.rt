@@ -27,12 +27,7 @@ use tydi_base::{List, Memory};
 const MOST_CYCLES: u64 = 1_000_000;
 
 /// Takes a line without its LF.
-pub(crate) fn take_line<K: RowSink>(
-    alloc: Global,
-    sink: &mut K,
-    text: &mut TextRead,
-    line: &[u8],
-)
+pub(crate) fn take_line<K: RowSink>(alloc: Global, sink: &mut K, text: &mut TextRead, line: &[u8])
     requires { (bytes : List ℕ) × Stands K.stands_for sink.old text.old line.now bytes }
     ensures stands { (bytes : List ℕ) → Stands K.stands_for sink.old text.old line.now bytes → Stands K.stands_for sink.new text.new [] (bytes ++ 10 ∷ []) }
     ensures failed { StaysFailed text.old.stage text.new.stage }

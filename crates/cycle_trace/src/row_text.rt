@@ -149,11 +149,7 @@ fn no_more(words: WordsLeft) -> Result<(), Unspelled>
 
 /// Reads the transfer that the words of a payload spell. Only the widths of its words are as before where they spell none.
 #[tactic(auto, unfolding(crate::specs::RowText::transfer_of))]
-fn read_transfer(
-    layout: &RowLayout,
-    kept: &mut Transfer,
-    words: WordsLeft,
-) -> Result<(), Unspelled>
+fn read_transfer(layout: &RowLayout, kept: &mut Transfer, words: WordsLeft) -> Result<(), Unspelled>
     requires { HasWidths layout.now.params kept.old }
     ensures read { Gives unspelled_in (λ _. kept.new) result (spec.transfer_of layout.now.params (words_left words.entry)) }
     ensures widths { HasWidths layout.now.params kept.new }
@@ -270,9 +266,7 @@ fn start_of(line: &[u8]) -> Result<(bool, bool, WordsLeft<'_>), Unspelled>
     if let Some((valid, ready, payload)) = two_bits(line) {
         return Ok((valid, ready, WordsLeft::of(payload)));
     }
-    let (valid, words) = WordsLeft::of(line)
-        .next_word()
-        .ok_or(Unspelled)?;
+    let (valid, words) = WordsLeft::of(line).next_word().ok_or(Unspelled)?;
     let (ready, payload) = words.next_word().ok_or(Unspelled)?;
     let valid = bit_of(valid)?;
     let ready = bit_of(ready)?;

@@ -126,7 +126,10 @@ fn a_text_in_pieces_has_one_fault(rt: HostRuntime) -> Result<(), Fail> {
             assert!(rt; size > 0);
             assert_eq!(rt; fault_of(rt.alloc(), case.text, size), Some(case.fault));
         }
-        assert_eq!(rt; read(rt.alloc(), case.text.as_bytes()).err(), Some(case.fault));
+        assert_eq!(rt;
+            read(rt.alloc(), case.text.as_bytes()).err(),
+            Some(case.fault)
+        );
     }
     Ok(())
 }

@@ -73,12 +73,7 @@ impl<K: RowSink> TraceReader<K> {
             return;
         }
         self.begin_line(front);
-        take_line(
-            alloc,
-            &mut self.sink,
-            &mut self.text,
-            self.line.as_slice(),
-        );
+        take_line(alloc, &mut self.sink, &mut self.text, self.line.as_slice());
         self.line.clear();
     }
 

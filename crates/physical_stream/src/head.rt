@@ -3,7 +3,7 @@ use std::alloc::Global;
 use tydi_base::{List, Memory, Path, TryClone};
 
 /// What a trace says of one of its streams.
-#[derive(Debug, Drop)]
+#[derive(Debug, PartialEq, Eq, Drop)]
 pub struct Head {
     pub path: Path,
     pub params: Params,
@@ -12,7 +12,7 @@ pub struct Head {
 }
 
 /// What a trace says before its first row.
-#[derive(Debug, Drop)]
+#[derive(Debug, PartialEq, Eq, Drop)]
 pub struct Header {
     pub cycles: u32,
     pub heads: List<Head>,

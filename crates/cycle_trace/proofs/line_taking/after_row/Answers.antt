@@ -48,9 +48,11 @@ pub returns : goal.returns
 returns g c t bytes stands h goes =
     let turn = turn_params c.args.rows.now t h (less_of c.args.rows.now t h (not_whole _ c.if-is_whole.ensures)) in
     let read = c.in_ok-bits.ensures.gives t turn.0 h turn.1 ∙ ap Ok (sym c.row.ensures) in
-    let can = can_take t (3 + length t.heads + length t.rows) turn.0 c.args.line.now (cycle_in c.row.result) turn.1 read in
-    (with_row t (cycle_in c.row.result), (
-      c.in_ok-row.ensures.taken t stands can,
-      c.advance.ensures t (cycle_in c.row.result) (c.read_row.ensures.reads t h) can,
-      row-ok t turn.0 turn.1 bytes c.args.line.now (cycle_in c.row.result) goes read,
-    ))
+    let can = can_take t (3 + length t.heads + length t.rows) turn.0 c.args.line.now (cycle_in c.row.result) turn.1 read in (
+      with_row t (cycle_in c.row.result),
+      (
+        c.in_ok-row.ensures.taken t stands can,
+        c.advance.ensures t (cycle_in c.row.result) (c.read_row.ensures.reads t h) can,
+        row-ok t turn.0 turn.1 bytes c.args.line.now (cycle_in c.row.result) goes read,
+      ),
+    )
