@@ -1,10 +1,12 @@
 pub mod AnswerLemmas
+pub mod AskLemmas
 pub mod DeliveryLemmas
-pub mod JudgingLemmas
+pub mod FaultLemmas
+pub mod FileLemmas
+pub mod FirstOfAll
 pub mod LoadingLemmas
-pub mod ProjectLemmas
-pub mod ReplyLemmas
+pub mod ReadingLemmas
+pub mod ReportLemmas
 pub mod RunLemmas
+pub mod SomeLemmas
 pub mod StartedLemmas
-pub mod TellingLemmas
-pub mod UsageLemmas
