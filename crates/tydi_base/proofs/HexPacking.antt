@@ -1,10 +1,9 @@
 -- The bytes of a word of a width from digits whose ones stand below the width.
 use Rattle.std.proofs.Common.{inl, inr, ◌≡◌, ◌∙◌, sym, ℕ, zero, suc, ◌+◌, ◌-◌, ◌*◌, ◌/◌, ◌%◌, ◌^◌, ◌<◌, ◌≤◌, min, Bool, true, false, List, [], ◌∷◌, ◌++◌, length, take, drop, replicate, Option, Some, None, option_map, refl, ap, arith, length-append, append_assoc}
-use Rattle.std.specs.Prelude.{IsTrue, MatchBool}
-use Rattle.std.specs.List.{AllClonesOf, AppendsClonesOf}
+use Rattle.std.specs.Prelude.{MatchBool}
 use Rattle.std.proofs.lemmas.Bool.{cases_lt, lt-ltb, ltb-true}
 use Rattle.std.proofs.Math.Seq.{take-append-add}
-use Rattle.std.proofs.lemmas.List.{length-take, length-drop, replicate-append-replicate, take-append-drop, take-append-le, take-replicate, take-take, take_all}
+use Rattle.std.proofs.lemmas.List.{length-take, length-drop, drop-replicate, replicate-append-replicate, take-append-drop, take-append-le, take-replicate, take-take, take_all}
 use Rattle.tydi_base.specs.Bits.{bits_of, number_of_bits, zero_bits, unpack, IsPacked}
 use Rattle.tydi_base.specs.Hex.{bits_of_digits, no_ones, whole_bytes}
 use Rattle.tydi_base.specs.HexWords.{resized}
@@ -12,31 +11,6 @@ use Rattle.tydi_base.proofs.BitsLemmas.{unpack-append, unpack-replicate_zero}
 use Rattle.tydi_base.proofs.HexLemmas.{hex_of-digits, parts}
 use Rattle.tydi_base.proofs.HexBytes.{packed_fitted}
 use Rattle.tydi_base.proofs.NumberLemmas.{no_ones-drop, number_of_bits-append, number_of_bits-zeros}
-
--- ---- zeros above bytes
-
-all_zeros : (ys : List ℕ) → AllClonesOf (λ (x y : ℕ). y ≡ x) 0 ys → ys ≡ replicate (length ys) 0
-all_zeros [] all = refl
-all_zeros (y ∷ ys) all =
-    let first : y ≡ 0 = elim all.0 [ inl same ↦ same | inr same ↦ same ]
-    in let rest = all_zeros ys all.1
-    in cc
-
-pub zeros_above : (bytes new : List ℕ) (count : ℕ)
-    → length bytes ≤ count
-    → AppendsClonesOf (λ (x y : ℕ). y ≡ x) (take count bytes) new 0
-    → length new ≡ count
-    → unpack new ≡ unpack bytes ++ zero_bits (8 * (count - length bytes))
-zeros_above bytes new count within appends long =
-    let whole : take count bytes ≡ bytes = take_all count bytes within
-    in let added = appends.0
-    in let new_is : new ≡ bytes ++ added = appends.1 ∙ ap (λ (front : List ℕ). front ++ added) whole
-    in let many : length added ≡ count - length bytes = omega (arith, ap length new_is, length-append bytes added)
-    in let zeros : added ≡ replicate (count - length bytes) 0 =
-    all_zeros added appends.2 ∙ ap (λ (count : ℕ). replicate count 0) many
-    in ap unpack new_is
-    ∙ unpack-append bytes added
-    ∙ ap (λ (rest : List Bool). unpack bytes ++ rest) (ap unpack zeros ∙ unpack-replicate_zero (count - length bytes))
 
 -- ---- the lowest digits
 
@@ -67,21 +41,27 @@ packed_by : (low : List ℕ) (bits bytes : List Bool) (read : Option (List Bool)
 packed_by low bits bytes None is_read whole = cc
 packed_by low bits bytes (Some read) is_read whole = cc
 
-record Pushed (low bytes : List ℕ) (bits : List Bool) : Type 0 where
-  bits_are : unpack bytes ≡ bits ++ zero_bits (4 * (length low % 2))
-  long : length bytes ≡ (length low + 1) / 2
-
-pushed : (low bytes : List ℕ) (bits : List Bool) (whole : Bool)
-    → bits_of_digits low ≡ Some bits
-    → MatchBool whole (whole_bytes low ≡ Some (unpack bytes)) (bits_of_digits low ≡ None)
-    → (IsTrue whole → length bytes ≡ (length low + 1) / 2)
-    → Pushed low bytes bits
+-- digits in the first of bytes of zeros
+pub filled_low : (digits filled old : List ℕ) (whole : Bool) (bits : List Bool) (count : ℕ)
+    → count ≡ length digits / 2 + min 1 (length digits % 2)
+    → length filled ≡ count
+    → count ≤ length old
+    → old ≡ replicate (length old) 0
+    → MatchBool whole (whole_bytes digits ≡ Some (unpack filled)) (bits_of_digits digits ≡ None)
+    → bits_of_digits digits ≡ Some bits
+    → unpack (filled ++ drop count old) ≡ bits ++ zero_bits (8 * length old - 4 * length digits)
 unfolding whole_bytes
-pushed low bytes bits false are told long = cc
-pushed low bytes bits true are told long = record {
-  bits_are = packed_by low bits (unpack bytes) (bits_of_digits low) are told;
-  long = long refl;
-}
+filled_low digits filled old false bits count is_count long room zeros told are = cc
+filled_low digits filled old true bits count is_count long room zeros told are =
+    let rest : drop count old ≡ replicate (length old - count) 0 =
+    ap (drop count) zeros ∙ drop-replicate count (length old) 0
+    in let more : 4 * (length digits % 2) + 8 * (length old - count) ≡ 8 * length old - 4 * length digits = omega arith
+    in unpack-append filled (drop count old)
+    ∙ ap (λ (front : List Bool). front ++ unpack (drop count old)) (packed_by digits bits (unpack filled) (bits_of_digits digits) are told)
+    ∙ ap (λ (rest : List Bool). (bits ++ zero_bits (4 * (length digits % 2))) ++ rest) (ap unpack rest ∙ unpack-replicate_zero (length old - count))
+    ∙ append_assoc bits (zero_bits (4 * (length digits % 2))) (zero_bits (8 * (length old - count)))
+    ∙ ap (λ (zeros : List Bool). bits ++ zeros)
+    (replicate-append-replicate (4 * (length digits % 2)) (8 * (length old - count)) false ∙ ap zero_bits more)
 
 -- ---- the word
 
@@ -93,37 +73,31 @@ pub record Packing (width used count : ℕ) (digits new : List ℕ) (bits : List
   pub long : length new ≡ count
   pub bits_are : unpack new ≡ take (4 * used) bits ++ zero_bits (8 * count - 4 * used)
 
-pub packing : (width used count : ℕ) (digits low bytes new : List ℕ) (bits : List Bool) (whole : Bool)
+pub packing : (width used count size : ℕ) (digits low new : List ℕ) (bits : List Bool)
     → used ≡ min (width / 4 + min 1 (width % 4)) (length digits)
     → count ≡ width / 8 + min 1 (width % 8)
     → bits_of_digits digits ≡ Some bits
     → low ≡ drop (length digits - used) digits
-    → MatchBool whole (whole_bytes low ≡ Some (unpack bytes)) (bits_of_digits low ≡ None)
-    → (IsTrue whole → length bytes ≡ (length low + 1) / 2)
-    → AppendsClonesOf (λ (x y : ℕ). y ≡ x) (take count bytes) new 0
-    → length new ≡ count
+    → ((read : List Bool) → bits_of_digits low ≡ Some read → unpack new ≡ read ++ zero_bits (8 * size - 4 * length low))
+    → length new ≡ size
+    → size ≡ count
     → Packing width used count digits new bits
-packing width used count digits low bytes new bits whole is_used is_count are low_is told told_length appends long =
+packing width used count size digits low new bits is_used is_count are low_is told long size_is =
     let rest : length digits - (length digits - used) ≡ used = omega arith
     in let low_are : bits_of_digits low ≡ Some (take (4 * used) bits) =
     ap bits_of_digits low_is
     ∙ bits_of_digits-drop digits bits (length digits - used) are (omega arith)
     ∙ ap (λ (count : ℕ). Some (take (4 * count) bits)) rest
     in let many : length low ≡ used = ap length low_is ∙ length-drop (length digits - used) digits ∙ rest
-    in let p = pushed low bytes (take (4 * used) bits) whole low_are told told_length
-    in let within : length bytes ≤ count = omega (arith, p.long)
-    in let zeros : 4 * (length low % 2) + 8 * (count - length bytes) ≡ 8 * count - 4 * used = omega (arith, p.long)
     in record {
       is_used = is_used;
       is_count = is_count;
       wide = (hex_of-digits digits bits are).0;
-      long = long;
+      long = long ∙ size_is;
       bits_are =
-          zeros_above bytes new count within appends long
-          ∙ ap (λ (front : List Bool). front ++ zero_bits (8 * (count - length bytes))) p.bits_are
-          ∙ append_assoc (take (4 * used) bits) (zero_bits (4 * (length low % 2))) (zero_bits (8 * (count - length bytes)))
-          ∙ ap (λ (zeros : List Bool). take (4 * used) bits ++ zeros)
-          (replicate-append-replicate (4 * (length low % 2)) (8 * (count - length bytes)) false ∙ ap zero_bits zeros);
+          told (take (4 * used) bits) low_are
+          ∙ ap (λ (many : ℕ). take (4 * used) bits ++ zero_bits (8 * size - 4 * many)) many
+          ∙ ap (λ (size : ℕ). take (4 * used) bits ++ zero_bits (8 * size - 4 * used)) size_is;
     }
 
 number_of_bits-take : (bits : List Bool) (count : ℕ) → number_of_bits (take count bits) ≤ number_of_bits bits

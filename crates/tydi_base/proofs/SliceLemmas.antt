@@ -1,22 +1,450 @@
--- Bits added at the end of a word that bytes keep.
-use Rattle.std.proofs.Common.{◌≡◌, ◌∙◌, sym, ℕ, suc, ◌+◌, ◌-◌, ◌*◌, ◌%◌, ◌<◌, ◌≤◌, Bool, false, cond, List, [], ◌∷◌, ◌++◌, length, get_or, set, take, drop, refl, ap, arith, length-append, append_assoc}
-use Rattle.std.specs.List.{refill}
-use Rattle.std.proofs.lemmas.List.{drop-take, drop_at, get_or-drop, length_push, length-take, length-drop, length-replicate, set_at, take-take, take_all, take_at, take_more}
-use Rattle.tydi_base.specs.Bits.{bits_of, zero_bits, unpack, IsPacked}
-use Rattle.tydi_base.proofs.BitsLemmas.{bits_of-zero, length-unpack, length_packed, packed_whole, refill_whole, unpack-nil, unpack-push}
-use Rattle.tydi_base.proofs.BitPlaces.{bits_of-odd, length-put}
+-- Parts of words copied, byte by byte.
+use Rattle.std.proofs.Common.{inl, inr, false, replicate, ◌≡◌, ◌∙◌, sym, subst, ℕ, zero, suc, ◌+◌, ◌-◌, ◌*◌, ◌/◌, ◌%◌, ◌^◌, ◌<◌, ◌≤◌, min, Bool, List, [], ◌∷◌, ◌++◌, length, get_or, set, take, drop, refl, ap, arith, length-append, append_assoc}
+use Rattle.std.proofs.Math.Nat.{mul_comm, pow-le-pow_right}
+use Rattle.std.proofs.Math.Seq.{take-add, take-append-add, drop-append-add}
+use Rattle.std.proofs.lemmas.List.{append-nil, drop-append-le, drop-drop, drop_all, drop_at, drop_more, length-take, length-drop, length-replicate, replicate-append-replicate, set_split, take-append-le, take-append-drop, take_all, take_at}
+use Rattle.std.proofs.lemmas.Nat.{mod_below, mul-add-lt, pow-add, pow_pos, shr_below, shr_split}
+use Rattle.std.specs.List.{AllClonesOf, AppendsClonesOf, refill}
+use Rattle.tydi_base.specs.Bits.{bits_of, unpack, written_at, zero_bits, IsPacked}
+use Rattle.tydi_base.proofs.BitsLemmas.{bits_of-add, length-bits_of, length-unpack, length_packed, packed_whole, refill_whole, unpack-append, unpack-cons, unpack-nil, unpack-replicate_zero}
+use Rattle.tydi_base.proofs.NumberLemmas.{bits_of-parts}
 
--- a word, and the zeros above it in bytes
-pub record Keeps (width : ℕ) (bytes : List ℕ) (word : List Bool) : Type 0 where
+-- ---- some bits of a number
+
+bits_of-none : (bits : List Bool) (number : ℕ) → bits ++ bits_of 0 number ≡ bits
+unfolding bits_of
+bits_of-none bits number = append-nil bits
+
+-- the bits of a number are those of its rest by that power
+bits_of-mod : (count number : ℕ) → bits_of count (number % 2 ^ count) ≡ bits_of count number
+bits_of-mod count number =
+    let split : 2 ^ count * (number / 2 ^ count) + number % 2 ^ count ≡ number =
+    ap (λ (high : ℕ). high + number % 2 ^ count) (mul_comm (2 ^ count) (number / 2 ^ count)) ∙ shr_split number count
+    in sym
+    (sym (ap (bits_of count) split)
+    ∙ ap (λ (width : ℕ). bits_of width (2 ^ count * (number / 2 ^ count) + number % 2 ^ count)) (same count)
+    ∙ bits_of-add count 0 (number % 2 ^ count) (number / 2 ^ count) (mod_below number (2 ^ count) (pow_pos count))
+    ∙ bits_of-none _ _)
+  where
+    same : (count : ℕ) → count ≡ count + 0
+    same count = omega arith
+
+take-bits_of : (count more number : ℕ) → take count (bits_of (count + more) number) ≡ bits_of count number
+take-bits_of count more number =
+    ap (take count) (bits_of-parts count more number)
+    ∙ take_at (bits_of count number) (bits_of more (number / 2 ^ count)) count (length-bits_of count number)
+
+drop-bits_of : (skip count number : ℕ) → drop skip (bits_of (skip + count) number) ≡ bits_of count (number / 2 ^ skip)
+drop-bits_of skip count number =
+    ap (drop skip) (bits_of-parts skip count number)
+    ∙ drop_at (bits_of skip number) (bits_of count (number / 2 ^ skip)) skip (length-bits_of skip number)
+
+-- so many bits of a number from a place on, with others above them
+part-bits_of : (width skip count more number : ℕ) (rest : List Bool)
+    → width ≡ skip + (count + more)
+    → take count (drop skip (bits_of width number ++ rest)) ≡ bits_of count (number / 2 ^ skip)
+part-bits_of width skip count more number rest is_width =
+    let long = length-bits_of width number
+    in let long_rest = length-bits_of (count + more) (number / 2 ^ skip)
+    in ap (take count) (drop-append-le skip (bits_of width number) rest (omega arith))
+    ∙ ap (λ (width : ℕ). take count (drop skip (bits_of width number) ++ rest)) is_width
+    ∙ ap (λ (bits : List Bool). take count (bits ++ rest)) (drop-bits_of skip (count + more) number)
+    ∙ take-append-le count (bits_of (count + more) (number / 2 ^ skip)) rest (omega arith)
+    ∙ take-bits_of count more (number / 2 ^ skip)
+
+-- ---- a part of bytes
+
+drop-unpack : (index : ℕ) (bytes : List ℕ) → drop (8 * index) (unpack bytes) ≡ unpack (drop index bytes)
+drop-unpack zero bytes = refl
+drop-unpack (suc index) [] = rw unpack-nil (nothing (8 * suc index))
+  where
+    nothing : (count : ℕ) → ◌≡◌ {A = List Bool} (drop count []) []
+    nothing zero = refl
+    nothing (suc count) = refl
+drop-unpack (suc index) (byte ∷ bytes) =
+    let places : 8 * suc index ≡ 8 + 8 * index = omega arith
+    in ap (λ (count : ℕ). drop count (unpack (byte ∷ bytes))) places
+    ∙ sym (drop-drop (8 * index) 8 (unpack (byte ∷ bytes)))
+    ∙ ap (λ (bits : List Bool). drop (8 * index) (drop 8 bits)) (unpack-cons byte bytes)
+    ∙ ap (drop (8 * index)) (drop_at (bits_of 8 byte) (unpack bytes) 8 (length-bits_of 8 byte))
+    ∙ drop-unpack index bytes
+
+low_byte : (count number : ℕ) → count ≤ 8 → bits_of count (number % 256) ≡ bits_of count number
+low_byte count number few =
+    let eight : count + (8 - count) ≡ 8 = omega arith
+    in sym (take-bits_of count (8 - count) (number % 256))
+    ∙ ap (λ (width : ℕ). take count (bits_of width (number % 256))) eight
+    ∙ ap (take count) (bits_of-mod 8 number)
+    ∙ ap (λ (width : ℕ). take count (bits_of width number)) (sym eight)
+    ∙ take-bits_of count (8 - count) number
+
+-- bits from a place on, in parts: whole bytes, and what is left
+drop_place : (from : ℕ) (source : List ℕ) → drop from (unpack source) ≡ drop (from % 8) (unpack (drop (from / 8) source))
+drop_place from source =
+    let places : from ≡ 8 * (from / 8) + from % 8 = omega arith
+    in ap (λ (count : ℕ). drop count (unpack source)) places
+    ∙ sym (drop-drop (from % 8) (8 * (from / 8)) (unpack source))
+    ∙ ap (drop (from % 8)) (drop-unpack (from / 8) source)
+
+part-in : (from count width more number : ℕ) (source rest : List ℕ)
+    → count ≤ 8
+    → unpack (drop (from / 8) source) ≡ bits_of width number ++ unpack rest
+    → width ≡ from % 8 + (count + more)
+    → bits_of count (number / 2 ^ (from % 8) % 256) ≡ take count (drop from (unpack source))
+part-in from count width more number source rest few whole is_width =
+    low_byte count (number / 2 ^ (from % 8)) few
+    ∙ sym
+    (ap (take count) (drop_place from source ∙ ap (drop (from % 8)) whole)
+    ∙ part-bits_of width (from % 8) count more number (unpack rest) is_width)
+
+-- the part lies in one byte, the last
+pub part-last : (source : List ℕ) (from count byte : ℕ)
+    → count ≤ 8
+    → 0 < count
+    → from + count ≤ 8 * length source
+    → length source ≤ from / 8 + 1
+    → byte ≡ get_or source (from / 8) 0
+    → bits_of count (byte / 2 ^ (from % 8) % 256) ≡ take count (drop from (unpack source))
+part-last source from count byte few some within last byte_is =
+    let rest : drop (from / 8) source ≡ get_or source (from / 8) 0 ∷ drop (from / 8 + 1) source = drop_more source (from / 8) 0 (omega arith)
+    in part-in from count 8 (8 - (from % 8 + count)) byte source (drop (from / 8 + 1) source) few
+    (ap unpack rest ∙ unpack-cons (get_or source (from / 8) 0) (drop (from / 8 + 1) source)
+    ∙ ap (λ (byte : ℕ). bits_of 8 byte ++ unpack (drop (from / 8 + 1) source)) (sym byte_is))
+    (omega arith)
+
+-- the part lies in two bytes
+pub part-pair : (source : List ℕ) (from count pair : ℕ)
+    → count ≤ 8
+    → from / 8 + 1 < length source
+    → get_or source (from / 8) 0 < 256
+    → pair ≡ get_or source (from / 8) 0 + 256 * get_or source (from / 8 + 1) 0
+    → bits_of count (pair / 2 ^ (from % 8) % 256) ≡ take count (drop from (unpack source))
+part-pair source from count pair few within small pair_is =
+    let first : drop (from / 8) source ≡ get_or source (from / 8) 0 ∷ drop (from / 8 + 1) source = drop_more source (from / 8) 0 (omega arith)
+    in let second : drop (from / 8 + 1) source ≡ get_or source (from / 8 + 1) 0 ∷ drop (from / 8 + 1 + 1) source =
+    drop_more source (from / 8 + 1) 0 within
+    in let number : pair ≡ 256 * get_or source (from / 8 + 1) 0 + get_or source (from / 8) 0 = omega arith
+    in let both : bits_of 16 pair ≡ bits_of 8 (get_or source (from / 8) 0) ++ bits_of 8 (get_or source (from / 8 + 1) 0) =
+    ap (bits_of 16) number ∙ bits_of-add 8 8 (get_or source (from / 8) 0) (get_or source (from / 8 + 1) 0) small
+    in part-in from count 16 (16 - (from % 8 + count)) pair source (drop (from / 8 + 1 + 1) source) few
+    (ap unpack first
+    ∙ unpack-cons (get_or source (from / 8) 0) (drop (from / 8 + 1) source)
+    ∙ ap (λ (bytes : List ℕ). bits_of 8 (get_or source (from / 8) 0) ++ unpack bytes) second
+    ∙ ap (λ (bits : List Bool). bits_of 8 (get_or source (from / 8) 0) ++ bits) (unpack-cons (get_or source (from / 8 + 1) 0) (drop (from / 8 + 1 + 1) source))
+    ∙ sym (append_assoc (bits_of 8 (get_or source (from / 8) 0)) (bits_of 8 (get_or source (from / 8 + 1) 0)) (unpack (drop (from / 8 + 1 + 1) source)))
+    ∙ ap (λ (bits : List Bool). bits ++ unpack (drop (from / 8 + 1 + 1) source)) (sym both))
+    (omega arith)
+
+-- ---- a part of a byte written
+
+-- a number in three parts, the middle one another's
+parts_written : (place count high byte part above : ℕ)
+    → above ≡ byte / 2 ^ (place + count)
+    → bits_of (place + (count + high)) (2 ^ place * (2 ^ count * above + part % 2 ^ count) + byte % 2 ^ place)
+    ≡ written_at place (bits_of count part) (bits_of (place + (count + high)) byte)
+parts_written place count high byte part above above_is =
+    let whole : place + (count + high) ≡ (place + count) + high = omega arith
+    in let low : take place (bits_of (place + (count + high)) byte) ≡ bits_of place byte = take-bits_of place (count + high) byte
+    in let top : drop (place + length (bits_of count part)) (bits_of (place + (count + high)) byte) ≡ bits_of high above =
+    ap (λ (long : ℕ). drop (place + long) (bits_of (place + (count + high)) byte)) (length-bits_of count part)
+    ∙ ap (λ (width : ℕ). drop (place + count) (bits_of width byte)) whole
+    ∙ drop-bits_of (place + count) high byte
+    ∙ ap (bits_of high) (sym above_is)
+    in bits_of-add place (count + high) (byte % 2 ^ place) (2 ^ count * above + part % 2 ^ count) (mod_below byte (2 ^ place) (pow_pos place))
+    ∙ ap (λ (rest : List Bool). bits_of place (byte % 2 ^ place) ++ rest)
+    (bits_of-add count high (part % 2 ^ count) above (mod_below part (2 ^ count) (pow_pos count)))
+    ∙ ap (λ (bits : List Bool). bits ++ (bits_of count (part % 2 ^ count) ++ bits_of high above)) (bits_of-mod place byte)
+    ∙ ap (λ (bits : List Bool). bits_of place byte ++ (bits ++ bits_of high above)) (bits_of-mod count part)
+    ∙ sym (append_assoc (bits_of place byte) (bits_of count part) (bits_of high above))
+    ∙ ap (λ (bits : List Bool). bits ++ bits_of count part ++ bits_of high above) (sym low)
+    ∙ ap (λ (bits : List Bool). take place (bits_of (place + (count + high)) byte) ++ bits_of count part ++ bits) (sym top)
+
+power_fits : (count : ℕ) → count ≤ 8 → 2 ^ count ≤ 256
+power_fits count few = pow-le-pow_right (omega arith) few
+
+-- the parts of a byte, the middle one written, put together
+pub with_part-bits : (byte place count part : ℕ)
+    → place + count ≤ 8
+    → byte < 256
+    → bits_of 8 (((byte / 2 ^ (place + count) * 2 ^ count % 4294967296 + part % (1 * 2 ^ count % 4294967296)) * 2 ^ place % 4294967296 + byte % (1 * 2 ^ place % 4294967296)) % 256)
+    ≡ written_at place (bits_of count part) (bits_of 8 byte)
+with_part-bits byte place count part within small =
+    let eight : place + (count + (8 - (place + count))) ≡ 8 = omega arith
+    in let wide : (8 - (place + count)) + (place + count) ≡ 8 = omega arith
+    in let above : byte / 2 ^ (place + count) < 2 ^ (8 - (place + count)) =
+    shr_below byte (8 - (place + count)) (place + count) (rw wide small)
+    in let middle : byte / 2 ^ (place + count) * 2 ^ count + part % 2 ^ count < 2 ^ count * 2 ^ (8 - (place + count)) =
+    mul-add-lt (byte / 2 ^ (place + count)) (2 ^ count) (part % 2 ^ count) (2 ^ (8 - (place + count))) above (mod_below part (2 ^ count) (pow_pos count))
+    in let middle_power : 2 ^ count * 2 ^ (8 - (place + count)) ≡ 2 ^ (count + (8 - (place + count))) = sym (pow-add 2 count (8 - (place + count)))
+    in let all : (byte / 2 ^ (place + count) * 2 ^ count + part % 2 ^ count) * 2 ^ place + byte % 2 ^ place < 2 ^ place * 2 ^ (count + (8 - (place + count))) =
+    mul-add-lt (byte / 2 ^ (place + count) * 2 ^ count + part % 2 ^ count) (2 ^ place) (byte % 2 ^ place) (2 ^ (count + (8 - (place + count)))) (rw (← middle_power) middle) (mod_below byte (2 ^ place) (pow_pos place))
+    in let all_power : 2 ^ place * 2 ^ (count + (8 - (place + count))) ≡ 256 =
+    sym (pow-add 2 place (count + (8 - (place + count)))) ∙ ap (λ (count : ℕ). 2 ^ count) eight
+    in let middle_small : byte / 2 ^ (place + count) * 2 ^ count + part % 2 ^ count < 256 =
+    omega (arith, power_fits (count + (8 - (place + count))) (omega arith))
+    in let number : ((byte / 2 ^ (place + count) * 2 ^ count % 4294967296 + part % (1 * 2 ^ count % 4294967296)) * 2 ^ place % 4294967296 + byte % (1 * 2 ^ place % 4294967296)) % 256
+    ≡ 2 ^ place * (2 ^ count * (byte / 2 ^ (place + count)) + part % 2 ^ count) + byte % 2 ^ place =
+    together (byte / 2 ^ (place + count)) (2 ^ count) (2 ^ place) part byte (power_fits count (omega arith)) (power_fits place (omega arith)) middle_small (omega arith)
+    in ap (bits_of 8) number
+    ∙ ap (λ (width : ℕ). bits_of width (2 ^ place * (2 ^ count * (byte / 2 ^ (place + count)) + part % 2 ^ count) + byte % 2 ^ place)) (sym eight)
+    ∙ parts_written place count (8 - (place + count)) byte part (byte / 2 ^ (place + count)) refl
+    ∙ ap (λ (width : ℕ). written_at place (bits_of count part) (bits_of width byte)) eight
+  where
+    together : (above scale shift part byte : ℕ)
+        → scale ≤ 256
+        → shift ≤ 256
+        → above * scale + part % scale < 256
+        → (above * scale + part % scale) * shift + byte % shift < 256
+        → ((above * scale % 4294967296 + part % (1 * scale % 4294967296)) * shift % 4294967296 + byte % (1 * shift % 4294967296)) % 256
+        ≡ shift * (scale * above + part % scale) + byte % shift
+    together above scale shift part byte scale_fits shift_fits small all =
+        let one : 1 * scale % 4294967296 ≡ scale = omega arith
+        in let other : 1 * shift % 4294967296 ≡ shift = omega arith
+        in let product : above * scale % 4294967296 ≡ above * scale = omega arith
+        in let turned : scale * above ≡ above * scale = mul_comm scale above
+        in let turned_all : shift * (scale * above + part % scale) ≡ (above * scale + part % scale) * shift =
+        mul_comm shift (scale * above + part % scale) ∙ ap (λ (product : ℕ). (product + part % scale) * shift) turned
+        in rw (one, other, product) (omega (arith, turned_all))
+
+-- ---- bits written in place of others
+
+pub length-written_at : (at : ℕ) (word bits : List Bool) → at + length word ≤ length bits → length (written_at at word bits) ≡ length bits
+length-written_at at word bits within =
+    length-append (take at bits ++ word) (drop (at + length word) bits)
+    ∙ ap (λ (count : ℕ). count + length (drop (at + length word) bits)) (length-append (take at bits) word)
+    ∙ counts (length (take at bits)) (length (drop (at + length word) bits)) (length-take at bits) (length-drop (at + length word) bits)
+  where
+    counts : (front rest : ℕ) → front ≡ min at (length bits) → rest ≡ length bits - (at + length word) → front + length word + rest ≡ length bits
+    counts front rest front_is rest_is = omega arith
+
+-- what stands past the bits that are written stays
+pub drop-written_at : (at past : ℕ) (word bits : List Bool)
+    → at + length word ≤ past
+    → at + length word ≤ length bits
+    → drop past (written_at at word bits) ≡ drop past bits
+drop-written_at at past word bits within room =
+    let front : length (take at bits ++ word) ≡ at + length word =
+    length-append (take at bits) word ∙ omega (arith, length-take at bits)
+    in let places : past ≡ length (take at bits ++ word) + (past - (at + length word)) = omega arith
+    in let rest : (at + length word) + (past - (at + length word)) ≡ past = omega arith
+    in ap (λ (count : ℕ). drop count (written_at at word bits)) places
+    ∙ drop-append-add (take at bits ++ word) (drop (at + length word) bits) (past - (at + length word))
+    ∙ drop-drop (past - (at + length word)) (at + length word) bits
+    ∙ ap (λ (count : ℕ). drop count bits) rest
+
+-- more bits written behind others
+pub written_at-more : (at : ℕ) (first word bits : List Bool)
+    → at + length first + length word ≤ length bits
+    → written_at (at + length first) word (written_at at first bits) ≡ written_at at (first ++ word) bits
+written_at-more at first word bits room =
+    let front : length (take at bits ++ first) ≡ at + length first =
+    length-append (take at bits) first ∙ omega (arith, length-take at bits)
+    in let all : at + length first + length word ≡ at + length (first ++ word) = omega (arith, length-append first word)
+    in ap (λ (low : List Bool). low ++ word ++ drop (at + length first + length word) (written_at at first bits))
+    (take_at (take at bits ++ first) (drop (at + length first) bits) (at + length first) front)
+    ∙ ap (λ (high : List Bool). take at bits ++ first ++ word ++ high)
+    (drop-written_at at (at + length first + length word) first bits (omega arith) (omega arith))
+    ∙ ap (λ (count : ℕ). take at bits ++ first ++ word ++ drop count bits) all
+    ∙ ap (λ (low : List Bool). low ++ drop (at + length (first ++ word)) bits) (append_assoc (take at bits) first word)
+
+-- bits written among others that have more before and behind them
+written_at-within : (front bits rest word : List Bool) (place : ℕ)
+    → place + length word ≤ length bits
+    → written_at (length front + place) word (front ++ (bits ++ rest)) ≡ front ++ (written_at place word bits ++ rest)
+written_at-within front bits rest word place within =
+    let low : take (length front + place) (front ++ (bits ++ rest)) ≡ front ++ take place bits =
+    take-append-add front (bits ++ rest) place
+    ∙ ap (λ (low : List Bool). front ++ low) (take-append-le place bits rest (omega arith))
+    in let places : length front + place + length word ≡ length front + (place + length word) = omega arith
+    in let high : drop (length front + place + length word) (front ++ (bits ++ rest)) ≡ drop (place + length word) bits ++ rest =
+    ap (λ (count : ℕ). drop count (front ++ (bits ++ rest))) places
+    ∙ drop-append-add front (bits ++ rest) (place + length word)
+    ∙ drop-append-le (place + length word) bits rest within
+    in ap (λ (low : List Bool). low ++ word ++ drop (length front + place + length word) (front ++ (bits ++ rest))) low
+    ∙ ap (λ (high : List Bool). front ++ take place bits ++ word ++ high) high
+    ∙ joined front (take place bits) word (drop (place + length word) bits) rest
+  where
+    joined : (a b c d e : List Bool) → a ++ b ++ c ++ (d ++ e) ≡ a ++ (b ++ c ++ d ++ e)
+    joined a b c d e = simp append_assoc
+
+written_at-front : (bits rest word : List Bool) (place : ℕ)
+    → place + length word ≤ length bits
+    → written_at place word (bits ++ rest) ≡ written_at place word bits ++ rest
+written_at-front bits rest word place within =
+    let none : 0 + place ≡ place = omega arith
+    in ap (λ (place : ℕ). written_at place word (bits ++ rest)) (sym none) ∙ written_at-within [] bits rest word place within
+
+-- a byte of bytes with some of its bits written
+unpack-set_part : (bytes : List ℕ) (index place byte : ℕ) (word : List Bool)
+    → index < length bytes
+    → place + length word ≤ 8
+    → bits_of 8 byte ≡ written_at place word (bits_of 8 (get_or bytes index 0))
+    → unpack (set bytes index byte) ≡ written_at (8 * index + place) word (unpack bytes)
+unpack-set_part bytes index place byte word within few byte_is =
+    let front : length (unpack (take index bytes)) ≡ 8 * index = length-unpack (take index bytes) ∙ omega (arith, length-take index bytes)
+    in let old : unpack bytes ≡ unpack (take index bytes) ++ (bits_of 8 (get_or bytes index 0) ++ unpack (drop (index + 1) bytes)) =
+    ap unpack (sym (take-append-drop index bytes))
+    ∙ unpack-append (take index bytes) (drop index bytes)
+    ∙ ap (λ (rest : List ℕ). unpack (take index bytes) ++ unpack rest) (drop_more bytes index 0 within)
+    ∙ ap (λ (rest : List Bool). unpack (take index bytes) ++ rest) (unpack-cons (get_or bytes index 0) (drop (index + 1) bytes))
+    in let one : suc index ≡ index + 1 = omega arith
+    in let new : unpack (set bytes index byte) ≡ unpack (take index bytes) ++ (bits_of 8 byte ++ unpack (drop (index + 1) bytes)) =
+    ap unpack (set_split bytes index byte within)
+    ∙ unpack-append (take index bytes) (byte ∷ drop (suc index) bytes)
+    ∙ ap (λ (rest : List Bool). unpack (take index bytes) ++ rest) (unpack-cons byte (drop (suc index) bytes))
+    ∙ ap (λ (count : ℕ). unpack (take index bytes) ++ (bits_of 8 byte ++ unpack (drop count bytes))) one
+    in new
+    ∙ ap (λ (bits : List Bool). unpack (take index bytes) ++ (bits ++ unpack (drop (index + 1) bytes))) byte_is
+    ∙ sym (written_at-within (unpack (take index bytes)) (bits_of 8 (get_or bytes index 0)) (unpack (drop (index + 1) bytes)) word place
+    (omega (arith, length-bits_of 8 (get_or bytes index 0))))
+    ∙ ap (λ (count : ℕ). written_at (count + place) word (unpack (take index bytes) ++ (bits_of 8 (get_or bytes index 0) ++ unpack (drop (index + 1) bytes)))) front
+    ∙ ap (written_at (8 * index + place) word) (sym old)
+
+-- one byte more of a copy
+pub copied_more : (bytes old source : List ℕ) (at from done step part byte : ℕ)
+    → at + done + step ≤ 8 * length old
+    → from + done + step ≤ 8 * length source
+    → (at + done) % 8 + step ≤ 8
+    → 0 < step
+    → unpack bytes ≡ written_at at (take done (drop from (unpack source))) (unpack old)
+    → bits_of step part ≡ take step (drop (from + done) (unpack source))
+    → bits_of 8 byte ≡ written_at ((at + done) % 8) (bits_of step part) (bits_of 8 (get_or bytes ((at + done) / 8) 0))
+    → unpack (set bytes ((at + done) / 8) byte) ≡ written_at at (take (done + step) (drop from (unpack source))) (unpack old)
+copied_more bytes old source at from done step part byte room within few some was part_is byte_is =
+    let first = take done (drop from (unpack source))
+    in let first_long : length first ≡ done =
+    length-take done (drop from (unpack source)) ∙ omega (arith, length-drop from (unpack source), length-unpack source)
+    in let word_long : length (bits_of step part) ≡ step = length-bits_of step part
+    in let many : length (unpack bytes) ≡ length (unpack old) =
+    ap length was ∙ length-written_at at first (unpack old) (omega (arith, length-unpack old))
+    in let place : 8 * ((at + done) / 8) + (at + done) % 8 ≡ at + length first = omega arith
+    in let next : first ++ bits_of step part ≡ take (done + step) (drop from (unpack source)) =
+    ap (λ (bits : List Bool). first ++ bits) (part_is ∙ ap (take step) (sym (drop-drop done from (unpack source))))
+    ∙ sym (take-add done step (drop from (unpack source)))
+    in unpack-set_part bytes ((at + done) / 8) ((at + done) % 8) byte (bits_of step part)
+    (omega (arith, many, length-unpack bytes, length-unpack old)) (omega arith) byte_is
+    ∙ ap (λ (count : ℕ). written_at count (bits_of step part) (unpack bytes)) place
+    ∙ ap (written_at (at + length first) (bits_of step part)) was
+    ∙ written_at-more at first (bits_of step part) (unpack old) (omega (arith, length-unpack old))
+    ∙ ap (λ (word : List Bool). written_at at word (unpack old)) next
+
+-- ---- words
+
+-- the bits of a word from a place on, in the bytes that keep it
+part_of_word : (width from count : ℕ) (bytes : List ℕ) (word : List Bool)
+    → IsPacked width bytes
+    → take width (unpack bytes) ≡ word
+    → from + count ≤ length word
+    → take count (drop from (unpack bytes)) ≡ take count (drop from word)
+part_of_word width from count bytes word packed word_is within =
+    let zeros = zero_bits (8 * length bytes - width)
+    in let whole : unpack bytes ≡ word ++ zeros = sym (packed_whole width bytes packed) ∙ ap (λ (word : List Bool). word ++ zeros) word_is
+    in ap (λ (bits : List Bool). take count (drop from bits)) whole
+    ∙ ap (take count) (drop-append-le from word zeros (omega arith))
+    ∙ take-append-le count (drop from word) zeros (omega (arith, length-drop from word))
+
+-- a word with bits of another in place of some of its own
+pub record Copied (width at : ℕ) (bytes : List ℕ) (part word : List Bool) : Type 0 where
+  pub packed : IsPacked width bytes
+  pub word_is : take width (unpack bytes) ≡ written_at at part word
+
+copied_by : (width at : ℕ) (old new : List ℕ) (part word : List Bool)
+    → IsPacked width old
+    → take width (unpack old) ≡ word
+    → at + length part ≤ width
+    → length new ≡ length old
+    → unpack new ≡ written_at at part (unpack old)
+    → Copied width at new part word
+copied_by width at old new part word packed word_is room same written =
+    let zeros = zero_bits (8 * length old - width)
+    in let long = length_packed width old packed
+    in let wide : length word ≡ width = ap length (sym word_is) ∙ long
+    in let whole : unpack old ≡ word ++ zeros = sym (packed_whole width old packed) ∙ ap (λ (word : List Bool). word ++ zeros) word_is
+    in let within : at + length part ≤ length (unpack old) = omega (arith, length-unpack old, packed.room)
+    in record {
+      packed = record {
+        room = omega (arith, packed.room);
+        few = omega (arith, packed.few);
+        zeros =
+            ap (drop width) written
+            ∙ drop-written_at at width part (unpack old) room within
+            ∙ packed.zeros
+            ∙ ap (λ (count : ℕ). zero_bits (8 * count - width)) (sym same);
+      };
+      word_is =
+          ap (take width) (written ∙ ap (written_at at part) whole ∙ written_at-front word zeros part at (omega arith))
+          ∙ take_at (written_at at part word) zeros width (length-written_at at part word (omega arith) ∙ wide);
+    }
+
+pub copied : (width other at from count : ℕ) (old new source : List ℕ) (word other_word : List Bool)
+    → IsPacked width old
+    → take width (unpack old) ≡ word
+    → IsPacked other source
+    → take other (unpack source) ≡ other_word
+    → at + count ≤ length word
+    → from + count ≤ length other_word
+    → length new ≡ length old
+    → unpack new ≡ written_at at (take count (drop from (unpack source))) (unpack old)
+    → Copied width at (refill (length old) old new) (take count (drop from other_word)) word
+copied width other at from count old new source word other_word packed word_is packed_source other_is room within same written =
+    let part = part_of_word other from count source other_word packed_source other_is within
+    in let long : length (take count (drop from other_word)) ≡ count =
+    length-take count (drop from other_word) ∙ omega (arith, length-drop from other_word)
+    in let wide : length word ≡ width = ap length (sym word_is) ∙ length_packed width old packed
+    in rw (refill_whole old new same)
+    (copied_by width at old new (take count (drop from other_word)) word packed word_is (omega arith) same
+    (written ∙ ap (λ (part : List Bool). written_at at part (unpack old)) part))
+
+-- all of a word written
+pub written_at-whole : (part word : List Bool) → length part ≡ length word → written_at 0 part word ≡ part
+written_at-whole part word same =
+    ap (λ (rest : List Bool). part ++ rest) (drop_all (0 + length part) word (omega arith)) ∙ append-nil part
+
+-- all of a word, as a part of it
+pub whole_part : (word : List Bool) (count : ℕ) → count ≡ length word → take count (drop 0 word) ≡ word
+whole_part word count all = take_all count word (omega arith)
+
+-- bits put in place of zeros above a word
+pub written_at-end : (word zeros more : List Bool) → length zeros ≡ length more → written_at (length word) more (word ++ zeros) ≡ word ++ more
+written_at-end word zeros more same =
+    ap (λ (low : List Bool). low ++ more ++ drop (length word + length more) (word ++ zeros)) (take_at word zeros (length word) refl)
+    ∙ ap (λ (high : List Bool). word ++ more ++ high) (drop_all (length word + length more) (word ++ zeros) (omega (arith, length-append word zeros)))
+    ∙ append-nil (word ++ more)
+
+-- ---- zeros above a word
+
+all_zeros : (ys : List ℕ) → AllClonesOf (λ (x y : ℕ). y ≡ x) 0 ys → ys ≡ replicate (length ys) 0
+all_zeros [] all = refl
+all_zeros (y ∷ ys) all =
+    let first : y ≡ 0 = elim all.0 [ inl same ↦ same | inr same ↦ same ]
+    in let rest = all_zeros ys all.1
+    in cc
+
+zeros_above : (old new : List ℕ) (size : ℕ)
+    → length old ≤ size
+    → AppendsClonesOf (λ (x y : ℕ). y ≡ x) (take size old) new 0
+    → length new ≡ size
+    → unpack new ≡ unpack old ++ zero_bits (8 * (size - length old))
+zeros_above old new size within appends long =
+    let added = appends.0
+    in let new_is : new ≡ old ++ added = appends.1 ∙ ap (λ (front : List ℕ). front ++ added) (take_all size old within)
+    in let many : length added ≡ size - length old = omega (arith, ap length new_is, length-append old added)
+    in ap unpack new_is
+    ∙ unpack-append old added
+    ∙ ap (λ (rest : List Bool). unpack old ++ rest)
+    (ap unpack (all_zeros added appends.2 ∙ ap (λ (count : ℕ). replicate count 0) many) ∙ unpack-replicate_zero (size - length old))
+
+-- a word with zeros above it, in as few bytes as have room for both
+pub record Widened (width : ℕ) (bytes : List ℕ) (word : List Bool) : Type 0 where
   pub packed : IsPacked width bytes
   pub word_is : take width (unpack bytes) ≡ word
 
-keeps : (width pad : ℕ) (bytes : List ℕ) (word : List Bool)
+widened_by : (width pad : ℕ) (bytes : List ℕ) (word : List Bool)
     → length word ≡ width
     → pad < 8
     → unpack bytes ≡ word ++ zero_bits pad
-    → Keeps width bytes word
-keeps width pad bytes word wide few bits =
+    → Widened width bytes word
+widened_by width pad bytes word wide few bits =
     let long : 8 * length bytes ≡ width + pad =
     sym (length-unpack bytes) ∙ ap length bits ∙ length-append word (zero_bits pad) ∙ rw (wide, length-replicate) refl
     in let left : pad ≡ 8 * length bytes - width = omega arith
@@ -29,86 +457,27 @@ keeps width pad bytes word wide few bits =
       word_is = ap (take width) bits ∙ take_at word (zero_bits pad) width wide;
     }
 
-longer : (width : ℕ) (word : List Bool) (bit : Bool) → length word ≡ width → length (word ++ bit ∷ []) ≡ width + 1
-longer width word bit wide = length_push word bit ∙ ap (λ (count : ℕ). count + 1) wide
-
--- a bit in a byte of its own
-pub push_bit-whole : (width byte : ℕ) (old new : List ℕ) (bit : Bool)
+pub widened : (width count all size : ℕ) (old new : List ℕ) (word : List Bool)
     → IsPacked width old
-    → width % 8 ≡ 0
-    → byte ≡ cond bit 1 0
-    → new ≡ old ++ byte ∷ []
-    → Keeps (width + 1) new (take width (unpack old) ++ bit ∷ [])
-push_bit-whole width byte old new bit packed even is_byte new_is =
-    let wide = length_packed width old packed
-    in let full : length (unpack old) ≤ width = omega (arith, length-unpack old, packed.room, packed.few)
-    in let whole : unpack old ≡ take width (unpack old) = sym (take_all width (unpack old) full)
-    in let number : byte ≡ 2 * 0 + byte = omega arith
-    in let bits : bits_of 8 byte ≡ bit ∷ zero_bits 7 =
-    ap (bits_of 8) number ∙ bits_of-odd 7 0 byte bit is_byte ∙ ap (λ (rest : List Bool). bit ∷ rest) (bits_of-zero 7)
-    in keeps (width + 1) 7 new (take width (unpack old) ++ bit ∷ []) (longer width (take width (unpack old)) bit wide) (omega arith)
-    (ap unpack new_is ∙ unpack-push old byte
-    ∙ ap (λ (front : List Bool). front ++ bits_of 8 byte) whole
-    ∙ ap (λ (byte : List Bool). take width (unpack old) ++ byte) bits
-    ∙ sym (append_assoc (take width (unpack old)) (bit ∷ []) (zero_bits 7)))
-
--- a bit in the last byte
-pub push_bit-within : (width : ℕ) (old new : List ℕ) (bit : Bool)
-    → IsPacked width old
-    → (width % 8 ≡ 0 → ⊥)
-    → unpack new ≡ set (unpack old) width bit
-    → Keeps (width + 1) (refill (length old) old new) (take width (unpack old) ++ bit ∷ [])
-push_bit-within width old new bit packed odd written =
-    let same = length-put old new width bit written
-    in let wide = length_packed width old packed
-    in let pad : 8 * length old - width ≡ suc (8 * length old - width - 1) = omega (arith, packed.room, packed.few)
-    in let whole : unpack old ≡ take width (unpack old) ++ (false ∷ zero_bits (8 * length old - width - 1)) =
-    sym (packed_whole width old packed) ∙ ap (λ (count : ℕ). take width (unpack old) ++ zero_bits count) pad
-    in rw (refill_whole old new same)
-    (keeps (width + 1) (8 * length old - width - 1) new (take width (unpack old) ++ bit ∷ [])
-    (longer width (take width (unpack old)) bit wide) (omega (arith, packed.few))
-    (written
-    ∙ ap (λ (bits : List Bool). set bits width bit) whole
-    ∙ set_at (take width (unpack old)) false (zero_bits (8 * length old - width - 1)) bit width wide
-    ∙ sym (append_assoc (take width (unpack old)) (bit ∷ []) (zero_bits (8 * length old - width - 1)))))
-
--- one bit more of the source
-pub push_bits-more : (source before after front : List Bool) (from index : ℕ) (bit : Bool)
-    → from + index < length source
-    → bit ≡ get_or source (from + index) false
-    → before ≡ front ++ take index (drop from source)
-    → after ≡ before ++ bit ∷ []
-    → after ≡ front ++ take (index + 1) (drop from source)
-push_bits-more source before after front from index bit within bit_is was now =
-    let room : index < length (drop from source) = omega (arith, length-drop from source)
-    in let next : take (index + 1) (drop from source) ≡ take index (drop from source) ++ bit ∷ [] =
-    take_more (drop from source) index false room
-    ∙ ap (λ (bit : Bool). take index (drop from source) ++ bit ∷ []) (get_or-drop from source index false ∙ sym bit_is)
-    in now
-    ∙ ap (λ (bits : List Bool). bits ++ bit ∷ []) was
-    ∙ append_assoc front (take index (drop from source)) (bit ∷ [])
-    ∙ ap (λ (bits : List Bool). front ++ bits) (sym next)
-
--- ---- parts of a word
-
-pub none_packed : (bytes : List ℕ) → bytes ≡ [] → IsPacked 0 bytes
-none_packed bytes none =
-    let bits : unpack bytes ≡ [] = rw none unpack-nil
-    in (keeps 0 0 bytes [] refl (omega arith) bits).packed
-
-pub slice_view : (width from to : ℕ) (bytes new old : List ℕ) (word : List Bool)
-    → take width (unpack bytes) ≡ word
-    → to ≤ length word
-    → from ≤ to
-    → take (0 + (to - from)) (unpack new) ≡ take 0 (unpack old) ++ take (to - from) (drop from (unpack bytes))
-    → take (to - from) (unpack new) ≡ take (to - from) (drop from word)
-slice_view width from to bytes new old word word_is within order pushed =
-    let long : length word ≤ width = omega (arith, ap length (sym word_is), length-take width (unpack bytes))
-    in let parts : from + (width - from) ≡ width = omega arith
-    in let rest : drop from word ≡ take (width - from) (drop from (unpack bytes)) =
-    ap (drop from) (sym word_is)
-    ∙ ap (λ (count : ℕ). drop from (take count (unpack bytes))) (sym parts)
-    ∙ drop-take from (width - from) (unpack bytes)
-    in let count : 0 + (to - from) ≡ to - from = omega arith
-    in rw count at pushed
-    ∙ sym (ap (take (to - from)) rest ∙ take-take (to - from) (width - from) (drop from (unpack bytes)) (omega arith))
+    → take width (unpack old) ≡ word
+    → all ≡ width + count
+    → size ≡ all / 8 + min 1 (all % 8)
+    → AppendsClonesOf (λ (x y : ℕ). y ≡ x) (take size old) new 0
+    → length new ≡ size
+    → Widened all new (word ++ zero_bits count)
+widened width count all size old new word packed word_is all_is size_is appends long =
+    let wide : length word ≡ width = ap length (sym word_is) ∙ length_packed width old packed
+    in let total : length (word ++ zero_bits count) ≡ all =
+    length-append word (zero_bits count) ∙ rw (wide, length-replicate) (sym all_is)
+    in let within : length old ≤ size = omega (arith, packed.few)
+    in let zeros : (8 * length old - width) + 8 * (size - length old) ≡ count + (8 * size - all) = omega (arith, packed.room, packed.few)
+    in widened_by all (8 * size - all) new (word ++ zero_bits count) total (omega arith)
+    (zeros_above old new size within appends long
+    ∙ ap (λ (bits : List Bool). bits ++ zero_bits (8 * (size - length old)))
+    (sym (packed_whole width old packed) ∙ ap (λ (word : List Bool). word ++ zero_bits (8 * length old - width)) word_is)
+    ∙ append_assoc word (zero_bits (8 * length old - width)) (zero_bits (8 * (size - length old)))
+    ∙ ap (λ (zeros : List Bool). word ++ zeros)
+    (replicate-append-replicate (8 * length old - width) (8 * (size - length old)) false
+    ∙ ap zero_bits zeros
+    ∙ sym (replicate-append-replicate count (8 * size - all) false))
+    ∙ sym (append_assoc word (zero_bits count) (zero_bits (8 * size - all))))

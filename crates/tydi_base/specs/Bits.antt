@@ -1,5 +1,5 @@
 -- Words of bits, lowest bit first (Tydi specification). How bytes keep them is this project's own.
-use Rattle.std.specs.Prelude.{◌≡◌, ℕ, zero, suc, ◌+◌, ◌-◌, ◌*◌, ◌/◌, ◌%◌, ◌<◌, ◌≤◌, Bool, false, eqb, cond, List, [], ◌∷◌, length, drop, replicate, flat_map}
+use Rattle.std.specs.Prelude.{◌≡◌, ℕ, zero, suc, ◌+◌, ◌-◌, ◌*◌, ◌/◌, ◌%◌, ◌<◌, ◌≤◌, Bool, false, eqb, cond, List, [], ◌∷◌, ◌++◌, length, take, drop, replicate, flat_map}
 
 -- so many bits of a number, lowest first
 unfoldable pub bits_of : ℕ → ℕ → List Bool
@@ -14,6 +14,10 @@ number_of_bits (bit ∷ bits) = cond bit 1 0 + 2 * number_of_bits bits
 -- a word of so many zeros
 abbrev pub zero_bits : ℕ → List Bool
 zero_bits width = replicate width false
+
+-- bits with others in place of those that stand from here on, as many
+abbrev pub written_at : ℕ → List Bool → List Bool → List Bool
+written_at at word bits = take at bits ++ word ++ drop (at + length word) bits
 
 -- the bits of bytes, eight to a byte, lowest first
 unfoldable pub unpack : List ℕ → List Bool

@@ -1,5 +1,6 @@
 -- Words of bits in hexadecimal: this project's own spelling.
 use Rattle.std.specs.Prelude.{ℕ, ◌+◌, ◌-◌, ◌*◌, ◌/◌, ◌%◌, Bool, true, not, ◌&&◌, eqb, ltb, leb, if◌then◌else◌, List, [], ◌∷◌, ◌++◌, length, take, drop, Option, Some, None, option_map, option_and_then}
+use Rattle.std.specs.Option.{unwrap_or}
 use Rattle.tydi_base.specs.Bits.{bits_of, number_of_bits, zero_bits}
 
 -- the byte of the digit of this value: `0` to `9` and then `a` to `f`
@@ -11,6 +12,10 @@ unfoldable pub digit_of : ℕ → Option ℕ
 digit_of byte =
     if leb 48 byte && ltb byte 58 then Some (byte - 48)
     else (if leb 97 byte && ltb byte 103 then Some (byte - 87) else None)
+
+-- the value of the digit that this byte is, or 255 where it is none
+unfoldable pub marked_digit : ℕ → ℕ
+marked_digit byte = unwrap_or (digit_of byte) 255
 
 -- the spelling of a word: a digit for each four of its bits, from the low end, the highest digit first
 unfoldable pub hex_of : List Bool → List ℕ

@@ -1,5 +1,5 @@
 -- Words of a width from any number of hexadecimal digits: this project's own spelling.
-use Rattle.std.specs.Prelude.{ℕ, suc, ◌-◌, ◌^◌, min, Bool, true, false, ltb, if◌then◌else◌, List, [], ◌∷◌, ◌++◌, take, Option, Some, None, Result, Ok, Err}
+use Rattle.std.specs.Prelude.{ℕ, suc, ◌-◌, ◌^◌, min, Bool, true, false, ltb, if◌then◌else◌, List, [], ◌∷◌, ◌++◌, take, Option, Some, None, Result, Ok, Err, codes, decimal}
 use Rattle.std.specs.List.{position_from}
 use Rattle.std.specs.Option.{is_none, unwrap_or}
 use Rattle.tydi_base.specs.Bits.{zero_bits}
@@ -12,6 +12,12 @@ abbrev pub hex_fault : BitsFault → Option BitsFault
 hex_fault (faults.NotHex index) = Some (faults.NotHex index)
 hex_fault (faults.TooWide index) = Some (faults.TooWide index)
 hex_fault faults.Memory = None
+
+-- what a fault is written as
+abbrev pub fault_text : BitsFault → List ℕ
+fault_text (faults.NotHex index) = codes "no hexadecimal digit at " ++ decimal index
+fault_text (faults.TooWide index) = codes "a one above the width, at " ++ decimal index
+fault_text faults.Memory = codes "out of memory"
 
 -- where the first byte stands that is no digit
 unfoldable pub first_not_hex : List ℕ → Option ℕ

@@ -9,4 +9,6 @@ pub mod Pieces
 pub mod Name
 pub mod Path
 pub mod Frac
+pub mod Writing
+pub mod Width
 pub mod formers

@@ -25,9 +25,13 @@ has_double_underscore (byte ∷ bytes) = (byte == 95 && slice_index bytes 0 == 9
 abbrev pub is_reserved : List ℕ → Bool
 is_reserved text = bytes_eq text (codes "Null") || bytes_eq text (codes "Bits") || bytes_eq text (codes "Group") || bytes_eq text (codes "Union") || bytes_eq text (codes "Stream")
 
--- a name: ASCII letters, digits and `_`, with a letter first, no two `_` together, no `_` last, and no reserved word
+-- the form of a name: ASCII letters, digits and `_`, with a letter first, no two `_` together and no `_` last
+abbrev pub has_name_form : List ℕ → Bool
+has_name_form text = begins_with_letter text && list_all is_name_byte text && not (has_double_underscore text) && not (ends_in_underscore text)
+
+-- a name has the form of one, and is no reserved word
 abbrev pub is_name : List ℕ → Bool
-is_name text = begins_with_letter text && list_all is_name_byte text && not (has_double_underscore text) && not (ends_in_underscore text) && not (is_reserved text)
+is_name text = has_name_form text && not (is_reserved text)
 
 -- the name that a text is
 abbrev pub name_of : List ℕ → Option (List ℕ)

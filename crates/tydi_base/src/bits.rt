@@ -1,20 +1,24 @@
-ghost use Rattle.std.specs.Prelude.{◌≡◌, ◌↔◌, ◌+◌, ◌*◌, ◌/◌, ◌<◌, not, false, get_or, set, drop, length, IsTrue, IfOk, OnOk, OnErr, ◌++◌, ◌-◌, ◌≤◌, take};
+ghost use Rattle.std.specs.Prelude.{◌≡◌, ◌↔◌, ◌+◌, ◌*◌, ◌/◌, ◌<◌, not, false, Some, None, get_or, set, drop, length, IsTrue, IfOk, MatchBool, OnOk, OnErr, ◌++◌, ◌-◌, ◌≤◌, take};
 ghost use Rattle.std.proofs.Common.{rules};
 ghost use Rattle.std.proofs.Math.Bool.{beq};
 ghost use Rattle.std.specs.Cmp.Lexicographic.{pointwise};
 ghost use Rattle.std.specs.Cmp.Rules.{comparing};
-ghost use Rattle.tydi_base.specs.Bits.{bits_of, unpack, zero_bits};
+ghost use Rattle.tydi_base.specs.Bits.{bits_of, unpack, written_at, zero_bits, IsPacked};
 ghost use Rattle.tydi_base.specs.Hex.{fitted, hex_of, no_ones, word_at};
 ghost use Rattle.tydi_base.specs.HexWords.{hex_fault, hex_word};
 ghost use Rattle.tydi_base.specs.Reading.{Gives};
 ghost use Rattle.tydi_base.specs.Numbers.{number_below, word_of_number};
+ghost use Rattle.tydi_base.specs.Writing.{StandsInFront};
 
-use crate::hex::{push_digits, push_spelling};
+use crate::hex::write_digits;
+use crate::hex_digits::fill_digits;
 use crate::hex_word::{BitsFault, hex_fault_of, packed_digits};
 use crate::list::List;
 use crate::memory::Memory;
 use crate::numbers::{number_of, push_number};
-use crate::slices::push_bits;
+use crate::slices::copy_bits;
+use crate::try_clone::TryClone;
+use crate::writing::Hex;
 use smallvec::SmallVec;
 use std::alloc::Global;
 use std::marker::Model;
@@ -51,7 +55,7 @@ impl Bits {
 
     /// The word of this width that these hexadecimal digits spell, the highest first. None exactly where they are not as many
     /// as spell such a word, one of them is no digit, or a one stands at or above the width.
-    pub fn from_hexadecimal(
+    pub fn from_exact_hex(
         alloc: Global,
         width: usize,
         digits: &[u8],
@@ -61,11 +65,33 @@ impl Bits {
         if digits.len() != width.div_ceil(4) {
             return Ok(None);
         }
-        let mut bytes = SmallVec::with_capacity(alloc, width.div_ceil(8))?;
-        if !push_digits(digits, &mut bytes) {
-            return Ok(None);
+        let mut word = Bits::zeros(alloc, width)?;
+        if word.read_exact_hex(digits) {
+            Ok(Some(word))
+        } else {
+            Ok(None)
         }
-        Ok(fitted(width, bytes))
+    }
+
+    /// As `from_exact_hex`.
+    pub fn from_hexadecimal(
+        alloc: Global,
+        width: usize,
+        digits: &[u8],
+    ) -> Result<Option<Bits>, Memory>
+        ensures { IfOk result (λ read. read ≡ word_at width digits.now) }
+    {
+        Bits::from_exact_hex(alloc, width, digits)
+    }
+
+    /// Becomes the word of its width that these hexadecimal digits spell, the highest first. False exactly where they spell
+    /// none, as `from_exact_hex` says; then only its width is as before. It takes no memory.
+    pub fn read_exact_hex(&mut self, digits: &[u8]) -> bool
+        ensures read { IsTrue result → word_at (length self.old) digits.now ≡ Some self.new }
+        ensures none { result ≡ false → word_at (length self.old) digits.now ≡ None }
+        ensures width { length self.new ≡ length self.old }
+    {
+        fill_or_clear(self.len, digits, self.bytes.as_mut_slice())
     }
 
     /// The word of this width that these hexadecimal digits spell, the highest first: any number of them, and none are zero.
@@ -113,16 +139,43 @@ impl Bits {
         bytes.copy_from_slice(from.bytes.as_slice());
     }
 
+    /// Becomes the bits of this word from a place on, as many as it has. It takes no memory.
+    pub fn copy_part(&mut self, from: &Bits, offset: usize)
+        requires { offset + length self.old ≤ length from.now }
+        ensures { self.new ≡ take (length self.old) (drop offset from.now) }
+    {
+        let width = self.len();
+        self.copy_bits(0, from, offset, width);
+    }
+
+    /// Writes this word in place of the bits from a place on. It takes no memory.
+    pub fn put_word(&mut self, offset: usize, word: &Bits)
+        requires { offset + length word.now ≤ length self.old }
+        ensures { self.new ≡ take offset self.old ++ word.now ++ drop (offset + length word.now) self.old }
+    {
+        self.copy_bits(offset, word, 0, word.len());
+    }
+
+    // Writes so many bits of another word, from a place on, in place of those from a place of this word on.
+    fn copy_bits(&mut self, at: usize, source: &Bits, from: usize, count: usize)
+        requires room { at + count ≤ length self.old }
+        requires within { from + count ≤ length source.now }
+        ensures { self.new ≡ written_at at (take count (drop from source.now)) self.old }
+    {
+        prove!(count <= source.len - from);
+        let bytes = self.bytes.as_mut_slice();
+        copy_bits(bytes, at, source.bytes.as_slice(), from, count);
+    }
+
     /// The bits from one place up to another, as a word.
     pub fn slice(&self, alloc: Global, from: usize, to: usize) -> Result<Bits, Memory>
         requires order { from ≤ to }
         requires within { to ≤ length self.now }
         ensures { IfOk result (λ bits. bits ≡ take (to - from) (drop from self.now)) }
     {
-        let len = to - from;
-        let mut bytes = SmallVec::with_capacity(alloc, len.div_ceil(8))?;
-        push_bits(&mut bytes, 0, self.bytes.as_slice(), from, len);
-        Ok(Bits { len, bytes })
+        let mut part = Bits::zeros(alloc, to - from)?;
+        part.copy_part(self, from);
+        Ok(part)
     }
 
     /// Adds the bits of another word above its own. After `Memory` it is as before.
@@ -130,15 +183,21 @@ impl Bits {
         ensures ok { OnOk result (self.new ≡ self.old ++ more.now) }
         ensures err { OnErr result (self.new ≡ self.old) }
     {
-        let width = self.len.checked_add(more.len).ok_or(Memory)?;
-        self.bytes.reserve(width.div_ceil(8) - self.bytes.len())?;
-        push_bits(
-            &mut self.bytes,
-            self.len,
-            more.bytes.as_slice(),
-            0,
-            more.len,
-        );
+        let offset = self.len();
+        self.widen(more.len())?;
+        self.put_word(offset, more);
+        Ok(())
+    }
+
+    // Adds so many zeros above its bits. After `Memory` it is as before.
+    fn widen(&mut self, count: usize) -> Result<(), Memory>
+        ensures ok { OnOk result (self.new ≡ self.old ++ zero_bits count) }
+        ensures err { OnErr result (self.new ≡ self.old) }
+    {
+        let Some(width) = self.len.checked_add(count) else {
+            return Err(Memory);
+        };
+        self.bytes.resize(width.div_ceil(8), 0)?;
         self.len = width;
         Ok(())
     }
@@ -162,16 +221,20 @@ impl Bits {
         Ok(fitted(width, bytes))
     }
 
-    /// Adds its hexadecimal at the end: a digit for each four bits, the highest first, in lower case. After `Memory` the
-    /// list is as before.
-    pub fn write_hex(&self, alloc: Global, out: &mut List<u8>) -> Result<(), Memory>
+    /// Adds its hexadecimal at the end, as `Hex` writes it. After `Memory` the list is as before.
+    pub fn write_hex(&self, _alloc: Global, out: &mut List<u8>) -> Result<(), Memory>
         ensures ok { OnOk result (out.new ≡ out.old ++ hex_of self.now) }
         ensures err { OnErr result (out.new ≡ out.old) }
     {
-        let count = self.len.div_ceil(4);
-        let mut digits = SmallVec::with_capacity(alloc, count)?;
-        push_spelling(self.bytes.as_slice(), count, &mut digits);
-        out.extend_from_slice(digits.as_slice())
+        out.emit(&Hex(self))
+    }
+
+    /// Adds its hexadecimal at the end. After `Memory` a front of it may stand there.
+    pub(crate) fn write_digits(&self, out: &mut List<u8>) -> Result<(), Memory>
+        ensures ok { OnOk result (out.new ≡ out.old ++ hex_of self.now) }
+        ensures err { OnErr result (StandsInFront out.old out.new) }
+    {
+        write_digits(self.bytes.as_slice(), self.len.div_ceil(4), out)
     }
 }
 
@@ -216,6 +279,34 @@ fn has_ones_from(width: usize, bytes: &[u8]) -> bool
     above != 0
 }
 
+// Fills the bytes of a word of this width with the word that these digits spell, or with zeros. False where they spell none.
+fn fill_or_clear(width: usize, digits: &[u8], bytes: &mut [u8]) -> bool
+    requires { length bytes.old ≡ (width + 7) / 8 }
+    ensures packed { IsPacked width bytes.new }
+    ensures word { MatchBool result (word_at width digits.now ≡ Some (take width (unpack bytes.new))) (word_at width digits.now ≡ None) }
+{
+    let spelled = fill_word(width, digits, bytes);
+    if !spelled {
+        bytes.fill(0);
+    }
+    spelled
+}
+
+// Fills the bytes of a word of this width with the word that these digits spell. False where they spell none.
+fn fill_word(width: usize, digits: &[u8], bytes: &mut [u8]) -> bool
+    requires { length bytes.old ≡ (width + 7) / 8 }
+    ensures packed { IsTrue result → IsPacked width bytes.new }
+    ensures word { MatchBool result (word_at width digits.now ≡ Some (take width (unpack bytes.new))) (word_at width digits.now ≡ None) }
+{
+    if digits.len() != width.div_ceil(4) {
+        return false;
+    }
+    if !fill_digits(digits, bytes) {
+        return false;
+    }
+    !has_ones_from(width, bytes)
+}
+
 // These bytes as a word of this width. None where a one stands at or above the width.
 fn fitted(width: usize, bytes: SmallVec<u8, 16>) -> Option<Bits>
     requires { length bytes.items ≡ (width + 7) / 8 }
@@ -225,6 +316,15 @@ fn fitted(width: usize, bytes: SmallVec<u8, 16>) -> Option<Bits>
         None
     } else {
         Some(Bits { len: width, bytes })
+    }
+}
+
+impl TryClone for Bits {
+    fn try_clone(&self, alloc: Global) -> Result<Bits, Memory> {
+        Ok(Bits {
+            len: self.len,
+            bytes: SmallVec::from_slice(alloc, self.bytes.as_slice())?,
+        })
     }
 }
 

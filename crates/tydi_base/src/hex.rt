@@ -1,9 +1,10 @@
-ghost use Rattle.std.specs.Prelude.{◌≡◌, ◌+◌, ◌-◌, ◌*◌, ◌/◌, ◌<◌, ◌≤◌, ◌++◌, take, [], ℕ, List, Bool, Some, None, length, MatchBool, IfSome, IsTrue};
-ghost use Rattle.smallvec.specs.SmallVec.{HasRoomFor};
+ghost use Rattle.std.specs.Prelude.{◌≡◌, ◌+◌, ◌-◌, ◌*◌, ◌/◌, ◌<◌, ◌≤◌, ◌++◌, take, [], ℕ, List, Bool, Some, None, length, IfSome, OnOk, OnErr};
 ghost use Rattle.tydi_base.specs.Bits.{bits_of, unpack};
-ghost use Rattle.tydi_base.specs.Hex.{hex_digit, hex_of, digit_of, byte_of_digits, bits_of_digits, whole_bytes, word_at};
+ghost use Rattle.tydi_base.specs.Hex.{hex_digit, hex_of, digit_of, byte_of_digits, word_at};
+ghost use Rattle.tydi_base.specs.Writing.{StandsInFront};
 
-use smallvec::SmallVec;
+use crate::list::List;
+use crate::memory::Memory;
 
 /// A word's spelling is read as that word, and a word is read from its spelling alone.
 pub fn hexadecimal_is_read_as_spelled()
@@ -31,39 +32,13 @@ pub fn digit_value(byte: u8) -> Option<u8>
 
 // The value of two digits, the first of them the higher.
 #[tactic(auto, unfolding(crate::specs::Hex::byte_of_digits))]
-fn byte_value(high: u8, low: u8) -> Option<u8>
+#[inline(always)]
+pub(crate) fn byte_value(high: u8, low: u8) -> Option<u8>
     ensures { result ≡ byte_of_digits high low }
 {
     let below = digit_value(low)?;
     let above = digit_value(high)?;
     Some(16 * above + below)
-}
-
-/// Packs these digits, two to a byte, the last of them lowest. False where one is no digit.
-pub(crate) fn push_digits(digits: &[u8], bytes: &mut SmallVec<u8, 16>) -> bool
-    requires empty { bytes.old.items ≡ [] }
-    requires room { HasRoomFor bytes.old ((length digits.now + 1) / 2) }
-    ensures bits { MatchBool result (whole_bytes digits.now ≡ Some (unpack bytes.new.items)) (bits_of_digits digits.now ≡ None) }
-    ensures len { IsTrue result → length bytes.new.items ≡ (length digits.now + 1) / 2 }
-{
-    let mut at = digits.len();
-    'pairs: while at > 1 {
-        at -= 2;
-        match byte_value(digits[at], digits[at + 1]) {
-            Some(byte) => bytes.push_reserved(byte),
-            None => return false,
-        }
-    }
-    if at == 0 {
-        return true;
-    }
-    match digit_value(digits[0]) {
-        Some(value) => {
-            bytes.push_reserved(value);
-            true
-        }
-        None => false,
-    }
 }
 
 // The digit of this value, lower case.
@@ -89,16 +64,17 @@ fn four_bits(bytes: &[u8], index: usize) -> u8
     if index % 2 == 0 { byte % 16 } else { byte / 16 }
 }
 
-/// Spells bytes by this many digits, the highest first.
-pub(crate) fn push_spelling(bytes: &[u8], count: usize, digits: &mut SmallVec<u8, 32>)
-    requires within { count ≤ 2 * length bytes.now }
-    requires empty { digits.old.items ≡ [] }
-    requires room { HasRoomFor digits.old count }
-    ensures { digits.new.items ≡ hex_of (take (4 * count) (unpack bytes.now)) }
+/// Adds the digits that spell the lowest bits of bytes, so many, the highest first. After `Memory` some of them may stand at
+/// the end.
+pub(crate) fn write_digits(bytes: &[u8], count: usize, out: &mut List<u8>) -> Result<(), Memory>
+    requires { count ≤ 2 * length bytes.now }
+    ensures ok { OnOk result (out.new ≡ out.old ++ hex_of (take (4 * count) (unpack bytes.now))) }
+    ensures err { OnErr result (StandsInFront out.old out.new) }
 {
     let mut at = count;
     'digits: while at > 0 {
         at -= 1;
-        digits.push_reserved(hex_digit(four_bits(bytes, at)));
+        out.push(hex_digit(four_bits(bytes, at)))?;
     }
+    Ok(())
 }

@@ -1,14 +1,17 @@
 //! A word of a width from any number of hexadecimal digits, the highest first.
 
-ghost use Rattle.std.specs.Prelude.{◌≡◌, ◌<◌, ◌++◌, ℕ, List, Bool, true, None, Some, Ok, Err, drop, take, length, option_map, IfOk, MatchOption, MatchResult};
-ghost use Rattle.tydi_base.specs.Bits.{bits_of, unpack, IsPacked};
+ghost use Rattle.std.specs.Prelude.{◌≡◌, ◌+◌, ◌-◌, ◌*◌, ◌/◌, ◌<◌, ◌≤◌, ◌++◌, ℕ, List, Bool, true, None, Some, Ok, Err, drop, take, length, replicate, option_map, IfOk, MatchOption, MatchResult};
+ghost use Rattle.tydi_base.specs.Bits.{bits_of, unpack, zero_bits, IsPacked};
 ghost use Rattle.tydi_base.specs.Hex.{bits_of_digits, no_ones};
-ghost use Rattle.tydi_base.specs.HexWords.{counted, first_not_hex, hex_bits, hex_fault, hex_word, highest_one, resized};
+ghost use Rattle.tydi_base.specs.HexWords.{counted, fault_text, first_not_hex, hex_bits, hex_fault, hex_word, highest_one, resized};
 
-use crate::hex::{digit_value, push_digits};
+use crate::hex::digit_value;
+use crate::hex_digits::fill_digits;
 use crate::memory::Memory;
 use smallvec::SmallVec;
 use std::alloc::Global;
+use std::error::Error;
+use std::fmt;
 
 /// Why digits are no word of a width.
 #[derive(Clone, Copy, Debug, PartialEq, Eq)]
@@ -21,6 +24,20 @@ pub enum BitsFault {
     /// There was no memory.
     Memory,
 }
+
+impl fmt::Display for BitsFault {
+    ghost output = { λ fault. Some (fault_text fault) };
+
+    fn fmt<W: fmt::Write>(&self, f: &mut fmt::Formatter<W>) -> fmt::Result {
+        match self {
+            BitsFault::NotHex(index) => write!(f, "no hexadecimal digit at {index}"),
+            BitsFault::TooWide(index) => write!(f, "a one above the width, at {index}"),
+            BitsFault::Memory => f.write_str("out of memory"),
+        }
+    }
+}
+
+impl Error for BitsFault {}
 
 /// What keeps digits from being a word of this width.
 pub(crate) fn hex_fault_of(width: usize, digits: &[u8]) -> Option<BitsFault>
@@ -99,8 +116,16 @@ pub(crate) fn packed_digits(
 {
     let count = width.div_ceil(8);
     let used = width.div_ceil(4).min(digits.len());
-    let mut bytes = SmallVec::with_capacity(alloc, count)?;
-    push_digits(&digits[digits.len() - used..], &mut bytes);
-    bytes.resize(count, 0)?;
+    let mut bytes = SmallVec::from_elem(alloc, 0, count)?;
+    fill_low(&digits[digits.len() - used..], bytes.as_mut_slice());
     Ok(bytes)
+}
+
+// Fills bytes of zeros with these digits, the last two in the first byte. The bytes past them stay zeros.
+fn fill_low(digits: &[u8], bytes: &mut [u8])
+    requires room { (length digits.now + 1) / 2 ≤ length bytes.old }
+    requires zeros { bytes.old ≡ replicate (length bytes.old) 0 }
+    ensures { (bits : List Bool) → bits_of_digits digits.now ≡ Some bits → unpack bytes.new ≡ bits ++ zero_bits (8 * length bytes.old - 4 * length digits.now) }
+{
+    fill_digits(digits, &mut bytes[..digits.len().div_ceil(2)]);
 }

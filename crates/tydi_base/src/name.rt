@@ -6,6 +6,7 @@ ghost use Rattle.tydi_base.specs.Name as spec;
 
 use crate::list::List;
 use crate::memory::Memory;
+use crate::try_clone::TryClone;
 use std::alloc::Global;
 use std::marker::Model;
 
@@ -49,15 +50,29 @@ impl Name {
     }
 }
 
-/// Whether a text is a name.
+impl TryClone for Name {
+    fn try_clone(&self, alloc: Global) -> Result<Name, Memory> {
+        Ok(Name {
+            bytes: List::from_slice(alloc, self.bytes.as_slice())?,
+        })
+    }
+}
+
+/// Whether a text is a name: it has the form of one, and is no reserved word.
 pub fn is_name(text: &[u8]) -> bool
     ensures { result ≡ spec.is_name text.now }
+{
+    has_name_form(text) && !is_reserved(text)
+}
+
+/// Whether a text has the form of a name; a reserved word may have it too.
+pub fn has_name_form(text: &[u8]) -> bool
+    ensures { result ≡ spec.has_name_form text.now }
 {
     begins_with_letter(text)
         && has_name_bytes(text)
         && !has_double_underscore(text)
         && !ends_in_underscore(text)
-        && !is_reserved(text)
 }
 
 fn begins_with_letter(text: &[u8]) -> bool

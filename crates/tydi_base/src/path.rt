@@ -17,6 +17,7 @@ ghost use Rattle.std.specs.Prelude.{
   take,
   length,
 };
+ghost use Rattle.std.specs.List.{list_all};
 ghost use Rattle.tydi_base.specs.Name.{is_name};
 ghost use Rattle.tydi_base.specs.Path as spec;
 
@@ -24,8 +25,10 @@ use crate::list::List;
 use crate::memory::Memory;
 use crate::name::Name;
 use crate::pieces::first_piece;
+use crate::try_clone::TryClone;
 use std::alloc::Global;
 use std::marker::Model;
+use std::slice;
 
 /// A path (Tydi specification, paths): a list of names, which may be empty. Contracts see the list of their bytes.
 #[derive(Debug, Drop)]
@@ -92,12 +95,46 @@ impl Path {
         self.write(false, out)
     }
 
+    /// The empty path. It takes no memory.
+    pub fn new(alloc: Global) -> Path
+        ensures { result ≡ [] }
+    {
+        Path {
+            names: List::new(alloc),
+        }
+    }
+
+    /// The path of these names, from the outermost on. It takes no memory.
+    pub fn from_names(names: List<Name>) -> Path
+        ensures { result ≡ names }
+    {
+        are_names(names.as_slice());
+        Path { names }
+    }
+
+    /// Adds a name at the end. After `Memory` the path is as before.
+    pub fn push(&mut self, name: Name) -> Result<(), Memory>
+        ensures ok { OnOk result (self.new ≡ self.old ++ name ∷ []) }
+        ensures err { OnErr result (self.new ≡ self.old) }
+    {
+        are_names(slice::from_ref(&name));
+        self.names.push(name)
+    }
+
     /// Its names, from the outermost on.
     pub fn names(&self) -> &[Name]
         ensures value { result.now ≡ self.now }
         ensures each { All (λ name. IsTrue (is_name name)) self.now }
     {
         self.names.as_slice()
+    }
+}
+
+impl TryClone for Path {
+    fn try_clone(&self, alloc: Global) -> Result<Path, Memory> {
+        Ok(Path {
+            names: self.names.try_clone(alloc)?,
+        })
     }
 }
 
@@ -108,6 +145,15 @@ pub fn paths_are_read_as_spelled()
     ensures spelled_with_colons { spec.ColonPathsAreReadAsSpelled }
     ensures read_with_colons { spec.ColonPathsAreSpelledAsRead }
 {}
+
+// Names are names, as their type has it. It runs for the proof alone.
+fn are_names(names: &[Name])
+    ensures { IsTrue (list_all is_name names.now) }
+{
+    'names: for name in names {
+        name.as_bytes();
+    }
+}
 
 /// The names between the separators of a text. `Ok(None)` exactly where a piece is no name.
 fn read_names(alloc: Global, text: &[u8], colons: bool) -> Result<Option<List<Name>>, Memory>

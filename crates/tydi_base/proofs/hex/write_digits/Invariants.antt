@@ -1,0 +1,16 @@
+use Rattle.std.proofs.Common.{◌≡◌, ◌*◌, ◌≤◌, ◌++◌, take}
+use Rattle.tydi_base.specs.Bits.{unpack}
+use Rattle.tydi_base.specs.Hex.{hex_of}
+use Rattle.tydi_base.specs.Writing.{StandsInFront}
+use Rattle.tydi_base.proofs.hex.write_digits.Given as goal
+
+-- what is written, and then the digits of the bits that are left
+abbrev pub invariant-digits : goal.invariant-digits
+invariant-digits l = record {
+  within : l.at ≤ l.fn.count;
+  front : StandsInFront l.initial.out l.out;
+  spelled : l.out ++ hex_of (take (4 * l.at) (unpack l.bytes)) ≡ l.initial.out ++ hex_of (take (4 * l.fn.count) (unpack l.bytes));
+}
+
+abbrev pub decreases-digits : goal.decreases-digits
+decreases-digits l = l.at

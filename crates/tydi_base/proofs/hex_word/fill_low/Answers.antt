@@ -1,0 +1,9 @@
+use Rattle.std.proofs.Common.{arith, length}
+use Rattle.std.proofs.lemmas.List.{length-take}
+use Rattle.tydi_base.proofs.HexPacking.{filled_low}
+use Rattle.tydi_base.proofs.hex_word.fill_low.Goals as goal
+
+pub returns : goal.returns
+returns c bits are =
+    filled_low c.args.digits.now c.fill_digits.new.bytes c.args.bytes.now c.fill_digits.result bits c.div_ceil.result c.div_ceil.ensures
+    (omega (arith, c.fill_digits.auto.bytes, length-take c.div_ceil.result c.args.bytes.now)) (omega arith) c.requires.zeros c.fill_digits.ensures are
