@@ -58,7 +58,13 @@ impl Row {
     ) -> Result<(), Memory> {
         let file = List::from_slice(rt.alloc(), file)?;
         let outcome = run_on(rt.alloc(), self.words.as_slice(), file, &NO_FAULTS)?;
-        expect(rt, &outcome, status, self.out.as_slice(), self.err.as_slice());
+        expect(
+            rt,
+            &outcome,
+            status,
+            self.out.as_slice(),
+            self.err.as_slice(),
+        );
         Ok(())
     }
 

@@ -6,7 +6,9 @@ use crate::trace_tables::{KINDS, ONE_STREAM, SEVERAL_STREAMS};
 use std::test::Fail;
 use tydi_base::List;
 
-const PACKET: &[u8] = b"tydi-trace 1\ncycles 2\nstream - lanes 1 dims 1 level 1 element 8 user 0 forward\n1 1 d=48 l=0 b=1\n1 1 d=69 l=1 b=1\n";
+const PACKET: &[u8] =
+    b"tydi-trace 1\ncycles 2\nstream - lanes 1 dims 1 level 1 element 8 user 0 forward\n1 1 d=48 l=0 b=1\n1 1 d=69 l=1 b=1\n";
+
 const REPORT: &[u8] = b"legal\nstream - transfers 2 packets 1\n";
 
 /// Each kind of answer, where memory is ample.

@@ -6,6 +6,7 @@ pub mod FileLemmas
 pub mod FirstOfAll
 pub mod LoadingLemmas
 pub mod ReadingLemmas
+pub mod RefusalLemmas
 pub mod ReportLemmas
 pub mod RunLemmas
 pub mod SomeLemmas

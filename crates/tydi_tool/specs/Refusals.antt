@@ -1,5 +1,6 @@
 -- Refusals, each a name and its details, and the faults of texts that they stand for (this project's own).
 use Rattle.std.specs.Prelude.{ℕ, List, [], ◌∷◌, ◌++◌, Option, Some, None, codes, decimal}
+use Rattle.std.specs.List.{flat_map}
 use Rattle.tydi_base.specs.Path.{path_text}
 use Rattle.tydi_base.specs.declared.place.Place.{Place}
 use Rattle.cycle_trace.specs.declared.fault.TraceFault.{TraceFault}
@@ -36,10 +37,12 @@ said_text (Number number) = decimal number
 said_text (At place) = decimal place.line ++ codes ":" ++ decimal place.column
 said_text (Name name) = name
 
--- each after one space
+-- a detail stands after one space
+abbrev pub detail_text : Said → List ℕ
+detail_text detail = codes " " ++ said_text detail
+
 abbrev pub details_text : List Said → List ℕ
-details_text [] = []
-details_text (detail ∷ more) = codes " " ++ said_text detail ++ details_text more
+details_text details = flat_map detail_text details
 
 -- the line of a fault, whatever it is
 abbrev pub refusal_line : Refusal → List ℕ

@@ -1,13 +1,14 @@
 //! The lines of faults: a name, and details after it.
 
-ghost use Rattle.std.specs.Prelude.{◌≡◌, ◌⊎◌, ◌++◌, map, IfOk, OnOk};
-ghost use Rattle.tydi_tool.specs.Refusals.{said_by, said_text, refusal_line, At};
+ghost use Rattle.std.specs.Prelude.{◌≡◌, ◌⊎◌, ◌++◌, map, IfOk, OnOk, OnErr};
+ghost use Rattle.tydi_base.specs.Writing.{StandsInFront};
+ghost use Rattle.tydi_tool.specs.Refusals.{said_by, said_text, detail_text, refusal_line, At};
 ghost use Rattle.tydi_tool.specs.declared.answer.Answer.TheVariants as answers;
 ghost use Rattle.tydi_tool.specs.declared.answer.Reply.TheVariants as replies;
 
 use crate::answer::{Answer, Reply};
 use std::alloc::Global;
-use tydi_base::{List, Memory, Path, Place, Text, write_decimal};
+use tydi_base::{Each, List, Memory, Path, Place, Text, Written, emit};
 
 /// What a fault line has after the fault's name.
 #[derive(Clone, Copy)]
@@ -23,6 +24,22 @@ pub enum Detail<'a> {
     Name(&'a str),
 }
 
+/// It is written after a space.
+impl Written for Detail<'_> {
+    ghost text = { λ detail. detail_text (said_by detail) };
+
+    fn write_to(&self, out: &mut List<u8>) -> Result<(), Memory> {
+        out.extend_from_slice(b" ")?;
+        match self {
+            Detail::Word(word) => word.write_to(out),
+            Detail::Stream(path) => path.write_to(out),
+            Detail::Number(number) => number.write_to(out),
+            Detail::At(place) => write_place(*place, out),
+            Detail::Name(name) => name.write_to(out),
+        }
+    }
+}
+
 /// The line of a fault of this name.
 pub(crate) fn fault_line(
     alloc: Global,
@@ -31,13 +48,8 @@ pub(crate) fn fault_line(
 ) -> Result<List<u8>, Memory>
     ensures { IfOk result (λ line. line ≡ refusal_line (record { name = name.now; details = map said_by details.now })) }
 {
-    let mut line = List::from_slice(alloc, b"tydi: ")?;
-    line.extend_from_slice(name.as_bytes())?;
-    'details: for detail in details {
-        line.extend_from_slice(b" ")?;
-        push_detail(detail, &mut line)?;
-    }
-    line.extend_from_slice(b"\n")?;
+    let mut line = List::new(alloc);
+    emit!(line; "tydi: ", name, Each(details), "\n")?;
     Ok(line)
 }
 
@@ -52,23 +64,10 @@ pub(crate) fn refused(alloc: Global, name: &str, details: &[Detail<'_>]) -> Repl
     }
 }
 
-fn push_detail(detail: &Detail<'_>, line: &mut List<u8>) -> Result<(), Memory>
-    ensures { OnOk result (line.new ≡ line.old ++ said_text (said_by detail.now)) }
+/// The line and the column of a place.
+fn write_place(place: Place, out: &mut List<u8>) -> Result<(), Memory>
+    ensures ok { OnOk result (out.new ≡ out.old ++ said_text (At place)) }
+    ensures err { OnErr result (StandsInFront out.old out.new) }
 {
-    match detail {
-        Detail::Word(word) => line.extend_from_slice(word.as_bytes()),
-        Detail::Stream(path) => path.write_dotted(line),
-        Detail::Number(number) => write_decimal(*number, line),
-        Detail::At(place) => push_place(*place, line),
-        Detail::Name(name) => line.extend_from_slice(name.as_bytes()),
-    }
-}
-
-/// Adds the line and the column of a place.
-fn push_place(place: Place, line: &mut List<u8>) -> Result<(), Memory>
-    ensures { OnOk result (line.new ≡ line.old ++ said_text (At place)) }
-{
-    write_decimal(u64::from(place.line), line)?;
-    line.extend_from_slice(b":")?;
-    write_decimal(u64::from(place.column), line)
+    emit!(out; place.line, ":", place.column)
 }

@@ -12,7 +12,7 @@ use crate::traces::Survey;
 use cycle_trace::SurveyFault;
 use physical_stream::{End, Head, Rule};
 use std::alloc::Global;
-use tydi_base::{List, Memory, Path, write_decimal};
+use tydi_base::{List, Memory, Path, emit};
 
 /// The report of a survey.
 pub(crate) fn report(alloc: Global, survey: &Survey) -> Reply
@@ -59,27 +59,14 @@ fn legal(alloc: Global, heads: &[Head], counts: &[(u64, u64)]) -> Result<List<u8
 fn push_counts(path: &Path, transfers: u64, packets: u64, text: &mut List<u8>) -> Result<(), Memory>
     ensures { OnOk result (text.new ≡ text.old ++ counts_line path.now transfers packets) }
 {
-    text.extend_from_slice(b"stream ")?;
-    path.write_dotted(text)?;
-    text.extend_from_slice(b" transfers ")?;
-    write_decimal(transfers, text)?;
-    text.extend_from_slice(b" packets ")?;
-    write_decimal(packets, text)?;
-    text.extend_from_slice(b"\n")
+    emit!(text; "stream ", path, " transfers ", transfers, " packets ", packets, "\n")
 }
 
 fn offence(alloc: Global, cycle: u32, path: &Path, rule: Rule) -> Result<List<u8>, Memory>
     ensures { IfOk result (λ line. line ≡ offence_line cycle path.now rule) }
 {
-    let mut line = List::from_slice(alloc, b"offence cycle ")?;
-    write_decimal(u64::from(cycle), &mut line)?;
-    line.extend_from_slice(b" stream ")?;
-    path.write_dotted(&mut line)?;
-    line.extend_from_slice(b" rule ")?;
-    write_decimal(u64::from(rule.number()), &mut line)?;
-    line.extend_from_slice(b" ")?;
-    line.extend_from_slice(rule.name().as_bytes())?;
-    line.extend_from_slice(b"\n")?;
+    let mut line = List::new(alloc);
+    emit!(line; "offence cycle ", cycle, " stream ", path, " rule ", rule.number(), " ", rule.name(), "\n")?;
     Ok(line)
 }
 
@@ -98,19 +85,15 @@ fn unfinished(alloc: Global, path: &Path, end: End) -> Result<List<u8>, Memory>
 fn pending(alloc: Global, path: &Path) -> Result<List<u8>, Memory>
     ensures { IfOk result (λ line. line ≡ pending_line path.now) }
 {
-    let mut line = List::from_slice(alloc, b"unfinished stream ")?;
-    path.write_dotted(&mut line)?;
-    line.extend_from_slice(b" pending\n")?;
+    let mut line = List::new(alloc);
+    emit!(line; "unfinished stream ", path, " pending\n")?;
     Ok(line)
 }
 
 fn unclosed(alloc: Global, path: &Path, dimension: u8) -> Result<List<u8>, Memory>
     ensures { IfOk result (λ line. line ≡ unclosed_line path.now dimension) }
 {
-    let mut line = List::from_slice(alloc, b"unfinished stream ")?;
-    path.write_dotted(&mut line)?;
-    line.extend_from_slice(b" open ")?;
-    write_decimal(u64::from(dimension), &mut line)?;
-    line.extend_from_slice(b"\n")?;
+    let mut line = List::new(alloc);
+    emit!(line; "unfinished stream ", path, " open ", dimension, "\n")?;
     Ok(line)
 }
