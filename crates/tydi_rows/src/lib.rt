@@ -1,5 +1,5 @@
-//! Worked rows of the tool, as tables: words and a file on one side, the status and what the two sinks hold on the other. Each row is
-//! run over the store and the sinks in memory.
+//! Worked rows of the tool, as tables: words and a file on one side, the status and what the two sinks hold on the other. Each row
+//! is run over the store and the sinks in memory.
 #![tactic(auto)]
 
 #[cfg(test)]

@@ -1,6 +1,6 @@
-//! The rows of a table. A line of it begins with a mark and a space: `#` says what a row shows, `$` has the words, `<` a line of the
-//! file, `~` the end of the file that has no LF, `>` a line of out and `!` one of err. `=` has the status, and ends the row; `again` is
-//! Done, where the text of out is then the file of the same words, which give it again.
+//! The rows of a table. A line of it begins with a mark and a space: `#` says what a row shows, `$` has the words, `<` a line of
+//! the file, `~` the end of the file that has no LF, `>` a line of out and `!` one of err. `=` has the status, and ends the row;
+//! `again` is Done, where the text of out is then the file of the same words, which give it again.
 
 use crate::running::{Faults, Outcome, run_on};
 use std::alloc::Global;

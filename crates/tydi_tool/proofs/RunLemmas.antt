@@ -9,7 +9,7 @@ use Rattle.tydi_tool.specs.declared.status.Status.{Status}
 use Rattle.tydi_tool.specs.declared.status.Status.TheVariants as statuses
 use Rattle.tydi_tool.specs.Words.{Request, Check, Read, FileWord, file_words}
 use Rattle.tydi_tool.specs.Outcome.{out_of_answer, out_of, err_of, status_of, usage_line, memory_line, write_fault_line}
-use Rattle.tydi_tool.specs.Delivery.{Adds, AddsFront, Lines, IsLined, IsCut, IsWritten, OutFails, OutWants, Delivers}
+use Rattle.tydi_tool.specs.Delivery.{Adds, AddsFront, TakesLine, IsLined, IsCut, IsWritten, OutFails, OutWants, Delivers}
 use Rattle.tydi_tool.specs.Ask.{AsksFor, AsksSome, Decides}
 use Rattle.tydi_tool.specs.Commands.{ask_of, Says}
 use Rattle.tydi_tool.specs.Started.{IsPulledOut, IsGivenOne, NamesStarted, StartsWithin, Leaves}
@@ -162,7 +162,7 @@ module _ (request : Request) (told : Option Files) (old new : Option (List ℕ �
   line_of (replies.ReadFault line) d = let failed = leaves_of (replies.ReadFault line) d in inr (inl (record { rose = failed.rose; file = failed.file; named = failed.named; is = failed.says }))
   line_of replies.Memory d = inr (inr (inr refl))
 
-  front_of_line : (wanted : Status) (line : List ℕ) → Lines err_rose status wanted err_old err_new line → AddsFront err_old err_new line
+  front_of_line : (wanted : Status) (line : List ℕ) → TakesLine err_rose status wanted err_old err_new line → AddsFront err_old err_new line
   front_of_line wanted line (inl l) = AddsFront-all err_old err_new line l.err
   front_of_line wanted line (inr c) = c.err
 

@@ -1,5 +1,5 @@
--- What a command does, as one value: it asks for files, one after another, and ends with what is said. Over it stands, once and for
--- any number of files, what is said and which file decides (this project's own).
+-- What a command does, as one value: it asks for files, one after another, and ends with what is said. Over it stands, once and
+-- for any number of files, what is said and which file decides (this project's own).
 use Rattle.std.specs.Prelude.{◌≡◌, ℕ, ◌⊎◌, List, [], ◌∷◌, Option, IfSome, Result, Ok, Err}
 use Rattle.tydi_io.specs.Store.{Files}
 use Rattle.tydi_tool.specs.declared.answer.Answer.{Answer}
@@ -10,16 +10,16 @@ use Rattle.tydi_tool.specs.Words.{FileWord}
 use Rattle.tydi_tool.specs.Outcome.{read_fault_line}
 use Rattle.tydi_tool.specs.Files.{Lack, lack_line, IsFound, IsPulled, IsGiven}
 
--- a command ends with an answer, as a relation says; or it asks for a file within its limit, whose bytes are read as an x or refused
--- with a line, and goes on with x
+-- a command ends with an answer, as a relation says; or it asks for a file within its limit, whose bytes are read as an x or
+-- refused with a line, and goes on with x
 pub data Ask : Type 1 where
   Ends : (Answer → Type 0) → Ask
   Asks : FileWord → (X : Type 0) → (List ℕ → Result X (List ℕ) → Type 0) → (X → Ask) → Ask
 
 -- ---- what is said
 
--- by what is found of a file: it is lacking, its bytes are refused with the line of the answer, or they are read as an x of which the
--- rest holds
+-- by what is found of a file: it is lacking, its bytes are refused with the line of the answer, or they are read as an x of which
+-- the rest holds
 abbrev pub SaysOfBytes : {X : Type 0} → (List ℕ → Result X (List ℕ) → Type 0) → (X → Type 0) → List ℕ → Answer → Type 0
 SaysOfBytes {X} Reads Rest bytes a =
     ((line : List ℕ) × (Reads bytes (Err line) × (a ≡ answers.Refused line))) ⊎ ((x : X) × (Reads bytes (Ok x) × Rest x))
@@ -54,8 +54,8 @@ abbrev pub DecidesBytes : {X : Type 0} → (List ℕ → Result X (List ℕ) →
 DecidesBytes {X} Reads Rest pulled bytes reply =
     ((line : List ℕ) × (Reads bytes (Err line) × ((reply ≡ replies.Says (answers.Refused line)) × pulled))) ⊎ ((x : X) × (Reads bytes (Ok x) × Rest x))
 
--- what a command replies, which file decides it, and which is started at the end: a file is asked for only after those before it were
--- found and read. `here` says where the store stands if no file more is asked for.
+-- what a command replies, which file decides it, and which is started at the end: a file is asked for only after those before it
+-- were found and read. `here` says where the store stands if no file more is asked for.
 abbrev pub DecidedBy : Option Files → Option (List ℕ × ℕ) → (rose here : Type 0) → Ask → Reply → Type 0
 DecidedBy told started rose here (Ends Tells) reply = Judges Tells reply × here
 DecidedBy told started rose here (Asks file X Reads next) reply =

@@ -1,4 +1,5 @@
--- What each command asks of its files, and what is said of given words and files (this project's own). A command more is a case here.
+-- What each command asks of its files, and what is said of given words and files (this project's own). A command more is a case
+-- here.
 use Rattle.std.specs.Prelude.{◌≡◌, ℕ, List, Option, Some, None}
 use Rattle.tydi_io.specs.Store.{Files}
 use Rattle.til_parser.specs.Canonical.{canonical}

@@ -40,15 +40,16 @@ pub record IsCut (err_rose : Type 0) (status : Status) (err_old err_new : Option
   pub ends : status ≡ statuses.WriteFault
   pub err : AddsFront err_old err_new line
 
-abbrev pub Lines : (err_rose : Type 0) → (status wanted : Status) → (err_old err_new : Option (List ℕ)) → List ℕ → Type 0
-Lines err_rose status wanted err_old err_new line = IsLined status wanted err_old err_new line ⊎ IsCut err_rose status err_old err_new line
+abbrev pub TakesLine : (err_rose : Type 0) → (status wanted : Status) → (err_old err_new : Option (List ℕ)) → List ℕ → Type 0
+TakesLine err_rose status wanted err_old err_new line = IsLined status wanted err_old err_new line ⊎ IsCut err_rose status err_old err_new line
 
 -- out has all of its text, if any, and err its line, if any, or a front of it where err failed
 pub record IsWritten (err_rose : Type 0) (reply : Reply) (status : Status) (out_old out_new err_old err_new : Option (List ℕ)) : Type 0 where
   pub out : Adds out_old out_new (out_of reply)
-  pub err : Lines err_rose status (status_of reply) err_old err_new (err_of reply)
+  pub err : TakesLine err_rose status (status_of reply) err_old err_new (err_of reply)
 
--- out failed over a text that is not empty: it has a front of its text, and err the line of WriteFault, or, where err failed too, a front of it
+-- out failed over a text that is not empty: it has a front of its text, and err the line of WriteFault, or, where err failed too,
+-- a front of it
 pub record OutFails (out_rose err_rose : Type 0) (text : List ℕ) (status : Status) (out_old out_new err_old err_new : Option (List ℕ)) : Type 0 where
   pub rose : out_rose
   pub some : 0 < length text
@@ -60,9 +61,10 @@ pub record OutFails (out_rose err_rose : Type 0) (text : List ℕ) (status : Sta
 pub record OutWants (err_rose : Type 0) (text : List ℕ) (status : Status) (out_old out_new err_old err_new : Option (List ℕ)) : Type 0 where
   pub some : 0 < length text
   pub out : AddsFront out_old out_new text
-  pub err : Lines err_rose status statuses.Memory err_old err_new memory_line
+  pub err : TakesLine err_rose status statuses.Memory err_old err_new memory_line
 
--- a text for out, with the status that it is to end with: all was written and err is as before; or out failed; or memory was wanted
+-- a text for out, with the status that it is to end with: all was written and err is as before; or out failed; or memory was
+-- wanted
 abbrev pub DeliversText : (out_rose err_rose : Type 0) → List ℕ → (wanted status : Status) → (out_old out_new err_old err_new : Option (List ℕ)) → Type 0
 DeliversText out_rose err_rose text wanted status out_old out_new err_old err_new =
     ((status ≡ wanted) × (Adds out_old out_new text × Adds err_old err_new []))

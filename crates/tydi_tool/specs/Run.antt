@@ -9,7 +9,7 @@ use Rattle.tydi_tool.specs.declared.status.Status.{Status}
 use Rattle.tydi_tool.specs.declared.status.Status.TheVariants as statuses
 use Rattle.tydi_tool.specs.Words.{Request, FileWord, file_words}
 use Rattle.tydi_tool.specs.Outcome.{read_fault_line, out_of_answer, err_of_answer, status_of_answer, usage_line, memory_line, write_fault_line}
-use Rattle.tydi_tool.specs.Delivery.{Adds, AddsFront, Lines, Delivers}
+use Rattle.tydi_tool.specs.Delivery.{Adds, AddsFront, TakesLine, Delivers}
 use Rattle.tydi_tool.specs.Ask.{Decides}
 use Rattle.tydi_tool.specs.Commands.{ask_of, Says}
 use Rattle.tydi_tool.specs.Started.{IsOneOf, IsPulledOut, StartsWithin, NamesStarted}
@@ -26,7 +26,7 @@ pub record EndsUnasked (err_rose : Type 0) (told : Option Files) (started_old st
     (out_old out_new err_old err_new : Option (List ℕ)) : Type 0 where
   pub started : IfSome told (λ known. started_new ≡ started_old)
   pub out : Adds out_old out_new []
-  pub err : Lines err_rose status statuses.Usage err_old err_new usage_line
+  pub err : TakesLine err_rose status statuses.Usage err_old err_new usage_line
 
 -- the command has a reply, which its files decide one after another, and which is delivered
 pub record EndsAsked (store_rose out_rose err_rose : Type 0) (request : Request) (told : Option Files) (started_old started_new : Option (List ℕ × ℕ)) (status : Status)
@@ -107,8 +107,8 @@ abbrev pub IsRefusal : Answer → Type 0
 IsRefusal (answers.Refused line) = Unit {0}
 IsRefusal answer = ⊥
 
--- a line that err may take: that of words that spell no command, that of the answer to the words and the files, that of a failed read
--- where the store's faults rose, that of a failed write where out's faults rose, or that of want of memory
+-- a line that err may take: that of words that spell no command, that of the answer to the words and the files, that of a failed
+-- read where the store's faults rose, that of a failed write where out's faults rose, or that of want of memory
 pub record IsLineOfAnswer (told : Option Files) (request : Option Request) (line : List ℕ) : Type 0 where
   pub answer : Answer
   pub says : Says told request answer

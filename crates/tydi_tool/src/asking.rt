@@ -15,8 +15,8 @@ use std::alloc::Global;
 use tydi_base::{Memory, Text};
 use tydi_io::Store;
 
-/// Reads the file of this word with a reader that was fed nothing yet. The error is the reply where the file is lacking, a call fails
-/// or its bytes are refused.
+/// Reads the file of this word with a reader that was fed nothing yet. The error is the reply where the file is lacking, a call
+/// fails or its bytes are refused.
 pub(crate) fn ask<S: Store, X, R: Reader<X> + Drop>(
     alloc: Global,
     store: &mut S,

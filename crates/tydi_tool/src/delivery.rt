@@ -1,6 +1,6 @@
 ghost use Rattle.std.specs.Prelude.{◌≡◌, ◌<◌, ◌≤◌, length, take, IsOk, OnOk, OnErr};
 ghost use Rattle.tydi_io.specs.Faults.{Rose, HasCause};
-ghost use Rattle.tydi_tool.specs.Delivery.{Adds, AddsFront, Writes, WritesPiece, Lines, Delivers, DeliversText};
+ghost use Rattle.tydi_tool.specs.Delivery.{Adds, AddsFront, Writes, WritesPiece, TakesLine, Delivers, DeliversText};
 
 use crate::answer::{Answer, Reply};
 use crate::output::Output;
@@ -63,7 +63,7 @@ fn write_piece<S: Sink>(alloc: Global, text: &mut Output, sink: &mut S) -> Resul
 
 /// Writes a line to err, and answers how the run ends: as wanted, or, where err failed, as WriteFault.
 pub(crate) fn deliver_line<E: Sink>(line: &[u8], wanted: Status, err: &mut E) -> Status
-    ensures { Lines (Rose (E.faults err.old) (E.faults err.new)) result wanted (E.taken err.old) (E.taken err.new) line.now }
+    ensures { TakesLine (Rose (E.faults err.old) (E.faults err.new)) result wanted (E.taken err.old) (E.taken err.new) line.now }
 {
     match push_all(err, line) {
         Ok(()) => wanted,
@@ -71,7 +71,8 @@ pub(crate) fn deliver_line<E: Sink>(line: &[u8], wanted: Status, err: &mut E) ->
     }
 }
 
-/// Writes a text to out, and answers how the run ends: as wanted, or with a line to err. Where out failed, a failure of err is ignored.
+/// Writes a text to out, and answers how the run ends: as wanted, or with a line to err. Where out failed, a failure of err is
+/// ignored.
 fn deliver_text<O: Sink, E: Sink>(
     alloc: Global,
     text: Output,

@@ -1,5 +1,5 @@
-//! The tool: `run` reads the words, starts the files, and answers. Its contract says what every answer rests on. Each command is one value
-//! of `specs/Ask.antt`: the files that it asks for, how each is read, and what is said at the end.
+//! The tool: `run` reads the words, starts the files, and answers. Its contract says what every answer rests on. Each command is
+//! one value of `specs/Ask.antt`: the files that it asks for, how each is read, and what is said at the end.
 #![tactic(auto)]
 
 mod answer;
