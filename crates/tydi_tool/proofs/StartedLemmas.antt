@@ -1,5 +1,5 @@
 -- Which file a command leaves started.
-use Rattle.std.proofs.Common.{◌≡◌, ℕ, inl, inr, List, [], ◌∷◌, Option, None, Some, IfSome, MatchOption, is_none, Bool, false, cond, refl, sym, ap, ◌∙◌, subst, Result, Ok, Err}
+use Rattle.std.proofs.Common.{◌≡◌, ℕ, inl, inr, ⊎_elim, List, [], ◌∷◌, Option, None, Some, IfSome, MatchOption, is_none, Bool, false, cond, refl, sym, ap, ◌∙◌, subst, Result, Ok, Err}
 use Rattle.tydi_io.specs.Store.{Files}
 use Rattle.tydi_tool.specs.declared.answer.Answer.{Answer}
 use Rattle.tydi_tool.specs.declared.answer.Reply.{Reply}
@@ -53,10 +53,10 @@ module _ (all : List FileWord) (old new : Option (List ℕ × ℕ)) (rose : Type
   wants None given = tt
   wants (Some known) given = inr given
 
-  stopped : (told : Option Files) (first : FileWord) (more : List FileWord) (file : FileWord) (reply : Reply) → Left told all (first ∷ more) → file ≡ first →
-      Stops told file new rose reply → Leaves told all old new rose reply
-  stopped told first more file (replies.Says a) left is s = pulled_one told file (left.named file (inl is)) s.1.1.1
-  stopped told first more file (replies.ReadFault line) left is s = record {
+  stopped : (told : Option Files) (here : Type 0) (first : FileWord) (more : List FileWord) (file : FileWord) (reply : Reply) → Left told all (first ∷ more) → file ≡ first →
+      (here → Leaves told all old new rose replies.Memory) → Stops told file new rose here reply → Leaves told all old new rose reply
+  stopped told here first more file (replies.Says a) left is held s = pulled_one told file (left.named file (inl is)) s.1.1.1
+  stopped told here first more file (replies.ReadFault line) left is held s = record {
     rose = s.0;
     file = file;
     named = left.named file (inl is);
@@ -72,7 +72,7 @@ module _ (all : List FileWord) (old new : Option (List ℕ × ℕ)) (rose : Type
         names known all file new given (λ none. left.lacking file.word
             (ap (λ (f : FileWord). first_lacking known (f ∷ more)) (sym is) ∙ ap (λ (found : Option (List ℕ)). cond (is_none found) (Some file.word) (first_lacking known more)) none)),
       )
-  stopped told first more file replies.Memory left is s = wants told (given_one told file (left.named file (inl is)) s)
+  stopped told here first more file replies.Memory left is held s = ⊎_elim held (λ given. wants told (given_one told file (left.named file (inl is)) given)) s
 
   later : (told : Option Files) (first : FileWord) (more : List FileWord) (file : FileWord) (bytes : List ℕ) → Left told all (first ∷ more) → file ≡ first → IsFound told file (Ok bytes) → Left told all more
   later told first more file bytes left is found = record { named = λ f among. left.named f (inr among); lacking = lacks told left found }
@@ -94,7 +94,8 @@ module _ (all : List FileWord) (old new : Option (List ℕ × ℕ)) (rose : Type
       (here → IfSome told (λ known. IsPulledOut known all new)) → DecidedBy told new rose here ask reply → Leaves told all old new rose reply
   leaves told files here (Ends Tells) reply for left out d = ended all old new rose Tells told reply (out d.1) d.0
   leaves told [] here (Asks file X Reads next) reply for left out d = absurd for
-  leaves told (first ∷ more) here (Asks file X Reads next) reply for left out (inl s) = stopped all old new rose told first more file reply left for.0 s
+  leaves told (first ∷ more) here (Asks file X Reads next) reply for left out (inl s) =
+      stopped all old new rose told here first more file reply left for.0 (λ h. wants all old new rose told (given_by all old new rose told (out h))) s
   leaves told (first ∷ more) here (Asks file X Reads next) reply for left out (inr (bytes, (found, inl bad))) =
       subst (Leaves told all old new rose) (sym bad.1.1.0) (pulled_one all old new rose told file (left.named file (inl for.0)) bad.1.1.1)
   leaves told (first ∷ more) here (Asks file X Reads next) reply for left out (inr (bytes, (found, inr good))) =
@@ -104,4 +105,13 @@ module _ (all : List FileWord) (old new : Option (List ℕ × ℕ)) (rose : Type
   -- for a command that asks for a file at all
   pub Leaves-decided : (told : Option Files) (ask : Ask) (reply : Reply) → AsksFor all ask → AsksSome ask → Decides told old new rose ask reply → Leaves told all old new rose reply
   Leaves-decided told (Ends Tells) reply for some d = absurd some
-  Leaves-decided told (Asks file X Reads next) reply for some d = leaves told all ⊥ (Asks file X Reads next) reply for (Left-all told all) (λ no. absurd no) d
+  Leaves-decided told (Asks file X Reads next) reply for some d = first_file told all (Left-all told all) for d
+    where
+      unmoved : (told : Option Files) → IfSome told (λ known. new ≡ old) → Leaves told all old new rose replies.Memory
+      unmoved None here = tt
+      unmoved (Some known) here = inl here
+
+      first_file : (told : Option Files) (files : List FileWord) → Left told all files → AsksFor files (Asks file X Reads next) → Decides told old new rose (Asks file X Reads next) reply → Leaves told all old new rose reply
+      first_file told [] left for d = absurd for
+      first_file told (one ∷ more) left for (inl s) = stopped all old new rose told (IfSome told (λ known. new ≡ old)) one more file reply left for.0 (unmoved told) s
+      first_file told (one ∷ more) left for (inr d) = leaves told (one ∷ more) ⊥ (Asks file X Reads next) reply for left (λ no. absurd no) (inr d)

@@ -42,12 +42,13 @@ Judges Tells (replies.Says a) = Tells a
 Judges Tells (replies.ReadFault line) = ⊥
 Judges Tells replies.Memory = Unit {0}
 
--- a file is lacking; or a call of the store failed over it, or memory was wanted, and it was given within its limit
-abbrev pub Stops : Option Files → FileWord → Option (List ℕ × ℕ) → Type 0 → Reply → Type 0
-Stops told file started rose (replies.Says a) =
+-- a file is lacking; or a call of the store failed over it, and it was given within its limit; or memory was wanted, then or before it
+-- was started
+abbrev pub Stops : Option Files → FileWord → Option (List ℕ × ℕ) → (rose here : Type 0) → Reply → Type 0
+Stops told file started rose here (replies.Says a) =
     (lack : Lack) × (IsFound told file (Err lack) × ((a ≡ answers.Refused (lack_line lack file.word)) × IsPulled told file started))
-Stops told file started rose (replies.ReadFault line) = rose × ((line ≡ read_fault_line file.word) × IfSome told (λ known. IsGiven known file started))
-Stops told file started rose replies.Memory = IfSome told (λ known. IsGiven known file started)
+Stops told file started rose here (replies.ReadFault line) = rose × ((line ≡ read_fault_line file.word) × IfSome told (λ known. IsGiven known file started))
+Stops told file started rose here replies.Memory = here ⊎ IfSome told (λ known. IsGiven known file started)
 
 -- bytes of a file are refused, and it is the started one; or they are read as an x of which the rest holds
 abbrev pub DecidesBytes : {X : Type 0} → (List ℕ → Result X (List ℕ) → Type 0) → (X → Type 0) → Type 0 → List ℕ → Reply → Type 0
@@ -59,7 +60,7 @@ DecidesBytes {X} Reads Rest pulled bytes reply =
 abbrev pub DecidedBy : Option Files → Option (List ℕ × ℕ) → (rose here : Type 0) → Ask → Reply → Type 0
 DecidedBy told started rose here (Ends Tells) reply = Judges Tells reply × here
 DecidedBy told started rose here (Asks file X Reads next) reply =
-    Stops told file started rose reply
+    Stops told file started rose here reply
     ⊎ ((bytes : List ℕ) × (IsFound told file (Ok bytes)
     × DecidesBytes {X = X} Reads (λ x. DecidedBy told started rose (IsPulled told file started) (next x) reply) (IsPulled told file started) bytes reply))
 
@@ -70,10 +71,10 @@ Decides told old new rose ask reply = DecidedBy told new rose (IfSome told (λ k
 -- ---- a file of a command
 
 -- a file that was asked for: it was read as an x, or it decides the reply
-abbrev pub IsAsked : {X : Type 0} → Option Files → FileWord → (List ℕ → Result X (List ℕ) → Type 0) → Option (List ℕ × ℕ) → Type 0 → Result X Reply → Type 0
-IsAsked told file Reads started rose (Ok x) = (bytes : List ℕ) × (IsFound told file (Ok bytes) × (Reads bytes (Ok x) × IsPulled told file started))
-IsAsked told file Reads started rose (Err reply) =
-    Stops told file started rose reply
+abbrev pub IsAsked : {X : Type 0} → Option Files → FileWord → (List ℕ → Result X (List ℕ) → Type 0) → (old new : Option (List ℕ × ℕ)) → Type 0 → Result X Reply → Type 0
+IsAsked told file Reads old started rose (Ok x) = (bytes : List ℕ) × (IsFound told file (Ok bytes) × (Reads bytes (Ok x) × IsPulled told file started))
+IsAsked told file Reads old started rose (Err reply) =
+    Stops told file started rose (IfSome told (λ known. started ≡ old)) reply
     ⊎ ((bytes : List ℕ) × (IsFound told file (Ok bytes) × ((line : List ℕ) × (Reads bytes (Err line) × ((reply ≡ replies.Says (answers.Refused line)) × IsPulled told file started)))))
 
 -- the files that a command may ask for are these, in this order, up to where it ends

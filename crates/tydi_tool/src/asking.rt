@@ -29,7 +29,7 @@ pub(crate) fn ask<S: Store, X, R: Reader<X> + Drop>(
     requires new { R.fed reader ≡ 0 }
     ensures allowed { S.allowed store.new ≡ S.allowed store.old }
     ensures files { S.files store.new ≡ S.files store.old }
-    ensures asked { IsAsked (S.files store.old) (record { word = word.now; limit = limit }) (R.reads reader) (S.started store.new)
+    ensures asked { IsAsked (S.files store.old) (record { word = word.now; limit = limit }) (R.reads reader) (S.started store.old) (S.started store.new)
         (Rose (S.faults store.old) (S.faults store.new)) result }
     ensures later { S.faults store.old ≤ S.faults store.new }
 {
@@ -52,7 +52,7 @@ pub(crate) fn ask_text<S: Store, X, T: TextReader<X> + Drop>(
     requires limit { limit < 2 ^ 32 - 2 }
     ensures allowed { S.allowed store.new ≡ S.allowed store.old }
     ensures files { S.files store.new ≡ S.files store.old }
-    ensures asked { IsAsked (S.files store.old) (record { word = word.now; limit = limit }) (T.reads text) (S.started store.new)
+    ensures asked { IsAsked (S.files store.old) (record { word = word.now; limit = limit }) (T.reads text) (S.started store.old) (S.started store.new)
         (Rose (S.faults store.old) (S.faults store.new)) result }
     ensures later { S.faults store.old ≤ S.faults store.new }
 {

@@ -10,6 +10,6 @@ report-requires g c = IsFoundAmong-read c.args.trace.now _ c.in-Ok.survey c.in-O
 
 pub returns-in-Ok : goal.returns-in-Ok
 returns-in-Ok g c = record {
-  decided = DecidedBy-last (trace_file c.args.trace.now) _ (ReadsTrace c.args.trace.now) (λ survey. Reports survey.heads survey.found) _ _ _ (Unit {0}) c.in-Ok.survey c.report.result
+  decided = DecidedBy-last (trace_file c.args.trace.now) _ (ReadsTrace c.args.trace.now) (λ survey. Reports survey.heads survey.found) _ _ _ _ _ c.in-Ok.survey c.report.result
       c.in-Ok.ensures.asked c.report.ensures;
 }
