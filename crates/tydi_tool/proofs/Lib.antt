@@ -11,3 +11,4 @@ pub mod ReportLemmas
 pub mod RunLemmas
 pub mod SomeLemmas
 pub mod StartedLemmas
+pub mod TraceFileLemmas

@@ -1,20 +1,13 @@
 -- How texts are read.
-use Rattle.std.proofs.Common.{◌≡◌, ◌≢◌, ℕ, ◌⊎◌, inl, inr, List, length, Bool, true, false, refl, sym, ap, ◌∙◌, subst, Option, None, Some, option_map, codes, Result, Ok, Err}
+use Rattle.std.proofs.Common.{◌≡◌, ◌≢◌, ℕ, ◌⊎◌, inl, inr, List, length, Bool, true, false, refl, sym, ap, subst, Option, None, Some, option_map, codes, Result, Ok, Err}
 use Rattle.std.specs.Str.{IsUtf8, is_utf8}
 use Rattle.std.specs.Str.Lossy.{utf8_valid_len}
 use Rattle.std.proofs.lemmas.Str.{IsUtf8-from_is_utf8, is_utf8-from_IsUtf8}
 use Rattle.tydi_base.specs.declared.place.Place.{Place}
-use Rattle.physical_stream.specs.Cycles.{StreamTrace}
 use Rattle.physical_stream.specs.declared.head.Head.{Head}
-use Rattle.cycle_trace.specs.Trace.{TraceText, streams_of}
+use Rattle.cycle_trace.specs.Trace.{TraceText}
 use Rattle.cycle_trace.specs.TraceText.{trace_of}
-use Rattle.cycle_trace.specs.TextSurvey.{SurveysTrace}
-use Rattle.cycle_trace.specs.Survey.{Surveys, Answers}
-use Rattle.cycle_trace.specs.declared.counts.Counts.{Counts}
-use Rattle.cycle_trace.specs.declared.counts.SurveyFault.{SurveyFault}
-use Rattle.cycle_trace.specs.declared.counts.SurveyFault.TheVariants as faults
 use Rattle.cycle_trace.specs.declared.fault.TraceFault.{TraceFault}
-use Rattle.cycle_trace.proofs.IsTraceLemmas.{trace_of-is_trace}
 use Rattle.til_lexer.specs.Tokens.{tokens_of}
 use Rattle.til_lexer.specs.declared.token.Token.{Token}
 use Rattle.til_parser.specs.Grammar.{SpellNone}
@@ -29,29 +22,11 @@ use Rattle.tydi_tool.specs.declared.traces.Survey.{Survey}
 use Rattle.tydi_tool.specs.Reading.{RefusesBy, ReadsAs, IsRefusedBy}
 use Rattle.tydi_tool.specs.Refusals.{Refusal, At, of_file, of_file_with, not_utf8, refusal_line, refusal_of_trace}
 use Rattle.tydi_tool.specs.Reports.{IsFoundAmong}
-use Rattle.tydi_tool.specs.Traces.{IsSurvey, ReadsReading, ReadsTrace, IsKept}
+use Rattle.tydi_tool.specs.Traces.{ReadsReading, ReadsTrace}
 use Rattle.tydi_tool.specs.Projects.{IsParseRefusal, ReadsTokens, ReadsCoded, ReadsProject, place_of, refusal_of_parsing}
 use Rattle.tydi_tool.proofs.ReportLemmas.{IsFoundAmong-heads}
 
 -- ---- a trace
-
--- what a survey answers is what it finds, where there was memory
-Surveys-answered : (streams : List StreamTrace) (found : Result Counts SurveyFault) → Answers streams found → found ≢ Err faults.Memory → Surveys streams found
-Surveys-answered streams (Ok counts) answers some = answers
-Surveys-answered streams (Err (faults.Offence cycle stream rule)) answers some = answers
-Surveys-answered streams (Err (faults.Unfinished stream end)) answers some = answers
-Surveys-answered streams (Err faults.Memory) answers some = absurd (some refl)
-
-pub ReadsTrace-surveyed : (word bytes : List ℕ) (heads : List Head) (found : Result Counts SurveyFault) (read : Result Survey Reply) →
-    SurveysTrace (trace_of bytes) heads found → IsKept heads found read → ReadsAs (ReadsTrace word bytes) read
-ReadsTrace-surveyed word bytes heads found (Ok survey) s kept =
-    let surveys : Surveys (streams_of s.trace) found = Surveys-answered (streams_of s.trace) found (s.says (trace_of-is_trace bytes s.trace s.reads)) kept.1.1 in
-    let is : IsSurvey s.trace survey = record {
-      heads = kept.0 ∙ s.same;
-      found = subst (Surveys (streams_of s.trace)) (sym kept.1.0) surveys;
-    } in
-    subst (λ (reading : Result TraceText TraceFault). ReadsReading word reading (Ok survey)) (sym s.reads) is
-ReadsTrace-surveyed word bytes heads found (Err reply) s kept = subst (λ (r : Reply). ReadsAs (ReadsTrace word bytes) (Err r)) (sym kept.0) tt
 
 -- what was found names one of the streams
 IsFoundAmong-reading : (word : List ℕ) (reading : Result TraceText TraceFault) (survey : Survey) → ReadsReading word reading (Ok survey) →

@@ -11,7 +11,7 @@ use Rattle.cycle_trace.specs.Trace.{TraceText, streams_of}
 use Rattle.cycle_trace.specs.Survey.{Surveys, survey_of, counts_of, or_unfinished, first_unfinished}
 use Rattle.cycle_trace.specs.declared.counts.Counts.{Counts}
 use Rattle.cycle_trace.specs.declared.counts.SurveyFault.{SurveyFault}
-use Rattle.cycle_trace.proofs.SurveyLemmas.{length-streams}
+use Rattle.cycle_trace.proofs.StreamLemmas.{length-streams}
 use Rattle.tydi_tool.specs.Lines.{counts_text}
 use Rattle.tydi_tool.specs.Reports.{IsFoundAmong}
 

@@ -13,5 +13,6 @@ pub mod Refusals
 pub mod Reports
 pub mod Run
 pub mod Started
+pub mod TraceFiles
 pub mod Traces
 pub mod Words

@@ -27,6 +27,7 @@ pub(crate) fn ask<S: Store, X, R: Reader<X> + Drop>(
     requires allowed { IsTrue (S.allowed store.old word.now) }
     requires limit { limit < 2 ^ 32 - 2 }
     requires new { R.fed reader ≡ 0 }
+    requires stands { R.stands reader }
     ensures allowed { S.allowed store.new ≡ S.allowed store.old }
     ensures files { S.files store.new ≡ S.files store.old }
     ensures asked { IsAsked (S.files store.old) (record { word = word.now; limit = limit }) (R.reads reader) (S.started store.old) (S.started store.new)

@@ -7,18 +7,19 @@ ghost use Rattle.tydi_io.specs.Faults.{Rose};
 ghost use Rattle.tydi_tool.specs.Ask.{Decides, Judges};
 ghost use Rattle.tydi_tool.specs.Commands.{ask_of, check_ask, read_ask};
 ghost use Rattle.tydi_tool.specs.Outcome.{output_answer};
+ghost use Rattle.tydi_tool.specs.TraceFiles.{IsNew};
 ghost use Rattle.tydi_tool.specs.Words.{request_from, file_words};
 
 use crate::answer::Reply;
-use crate::asking::ask_text;
+use crate::asking::{ask, ask_text};
 use crate::ending::answered;
 use crate::projects::ProjectText;
 use crate::reports::report;
-use crate::traces::TraceText;
+use crate::traces::TraceFile;
 use crate::words::Command;
 use std::alloc::Global;
 use til_parser::{Ast, print};
-use tydi_base::Text;
+use tydi_base::{Memory, Text};
 use tydi_io::Store;
 
 /// The most bytes of a trace: 64 MiB.
@@ -45,7 +46,20 @@ fn check<S: Store>(alloc: Global, trace: &Text, store: &mut S) -> Reply
     ensures decided { Decides (S.files store.old) (S.started store.old) (S.started store.new) (Rose (S.faults store.old) (S.faults store.new))
         (check_ask trace.now) result }
 {
-    match ask_text(alloc, store, trace, TRACE_LIMIT, TraceText { word: trace }) {
+    match TraceFile::new(alloc, trace) {
+        Ok(reader) => check_with(alloc, trace, reader, store),
+        Err(Memory) => Reply::Memory,
+    }
+}
+
+/// `check TRACE`, with a new reader of the trace.
+fn check_with<S: Store>(alloc: Global, trace: &Text, reader: TraceFile<'_>, store: &mut S) -> Reply
+    requires allowed { IsTrue (S.allowed store.old trace.now) }
+    requires new { IsNew trace.now reader }
+    ensures decided { Decides (S.files store.old) (S.started store.old) (S.started store.new) (Rose (S.faults store.old) (S.faults store.new))
+        (check_ask trace.now) result }
+{
+    match ask(alloc, store, trace, TRACE_LIMIT, reader) {
         Ok(survey) => report(alloc, &survey),
         Err(reply) => reply,
     }

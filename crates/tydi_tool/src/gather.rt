@@ -40,6 +40,8 @@ impl<X, T: TextReader<X> + Drop> Reader<X> for Gather<T> {
 
     ghost fed = { λ gather. length gather.bytes };
 
+    ghost stands = { λ _. Unit {0} };
+
     fn feed(&mut self, _alloc: Global, piece: &[u8]) -> Result<(), Memory> {
         self.bytes.extend_from_slice(piece)
     }

@@ -29,11 +29,13 @@ pub(crate) fn load<S: Store, X, R: Reader<X>>(
     requires allowed { IsTrue (S.allowed store.old word.now) }
     requires limit { limit < 2 ^ 32 - 2 }
     requires new { R.fed reader.old ≡ 0 }
+    requires stands { R.stands reader.old }
     ensures allowed { S.allowed store.new ≡ S.allowed store.old }
     ensures files { S.files store.new ≡ S.files store.old }
     ensures loads { Loads (S.files store.old) (record { word = word.now; limit = limit }) (S.started store.new)
         (R.reads reader.old) (R.reads reader.new) result }
     ensures fed { OnOk result (R.fed reader.new ≤ limit) }
+    ensures stands { OnOk result (R.stands reader.new) }
     ensures cause { ReadsFaults (S.faults store.old) (S.faults store.new) result }
 {
     match store.start(word.as_str()) {
@@ -52,12 +54,14 @@ fn pull_all<S: Store, X, R: Reader<X>>(
 ) -> Result<(), LoadError>
     requires limit { limit < 2 ^ 32 - 2 }
     requires new { R.fed reader.old ≡ 0 }
+    requires stands { R.stands reader.old }
     ensures allowed { S.allowed store.new ≡ S.allowed store.old }
     ensures files { S.files store.new ≡ S.files store.old }
     ensures loads { (word : List ℕ) → IfSome (S.files store.old) (λ known. IsAtStart known word (S.started store.old)) →
         Loads (S.files store.old) (record { word = word; limit = limit }) (S.started store.new)
         (R.reads reader.old) (R.reads reader.new) result }
     ensures fed { OnOk result (R.fed reader.new ≤ limit) }
+    ensures stands { OnOk result (R.stands reader.new) }
     ensures cause { ReadsFaults (S.faults store.old) (S.faults store.new) result }
 {
     let Ok(mut buffer) = buffer_of(alloc) else {
@@ -92,12 +96,14 @@ fn pull_piece<S: Store, X, R: Reader<X>>(
 ) -> Result<usize, LoadError>
     requires room { 0 < length piece.old }
     requires fits { R.fed reader.old + length piece.old < 2 ^ 32 - 1 }
+    requires stands { R.stands reader.old }
     ensures allowed { S.allowed store.new ≡ S.allowed store.old }
     ensures files { S.files store.new ≡ S.files store.old }
     ensures feeds { Feeds (S.files store.old) (S.started store.old) (S.started store.new) (R.reads reader.old) (R.reads reader.new)
         (length piece.new) result }
     ensures fed { IfOk result (λ count. R.fed reader.new ≡ R.fed reader.old + count) }
     ensures within { IfOk result (λ count. count ≤ length piece.new) }
+    ensures stands { OnOk result (R.stands reader.new) }
     ensures cause { ReadsFaults (S.faults store.old) (S.faults store.new) result }
 {
     match store.pull(piece) {

@@ -14,14 +14,20 @@ pub(crate) trait Reader<X> {
     /// How many bytes it was fed.
     ghost fed: { Self → ℕ };
 
+    /// It is of use still.
+    ghost stands: { Self → Type 0 };
+
     /// Takes the next bytes. After `Memory` it is of no more use.
     fn feed(&mut self, alloc: Global, piece: &[u8]) -> Result<(), Memory>
-        requires { fed self.old + length piece.now < 2 ^ 32 - 1 }
+        requires stands { stands self.old }
+        requires fits { fed self.old + length piece.now < 2 ^ 32 - 1 }
+        ensures stands { OnOk result (stands self.new) }
         ensures reads { OnOk result (IsFed (reads self.old) (reads self.new) piece.now) }
         ensures fed { OnOk result (fed self.new ≡ fed self.old + length piece.now) };
 
     /// What all the bytes are read as, or the reply that refuses them.
     fn finish(self, alloc: Global) -> Result<X, Reply>
-        requires { fed self < 2 ^ 32 - 1 }
+        requires stands { stands self }
+        requires fits { fed self < 2 ^ 32 - 1 }
         ensures { ReadsAs (reads self []) result };
 }

@@ -9,6 +9,7 @@ pulls-init g c = record {
   counted = omega arith;
   pulled = PulledFrom-none _ _ _;
   fed = c.requires.new;
+  stands = c.requires.stands;
   within = zero-le;
   room = omega (arith, c.as_mut_slice-piece.ensures.len, c.in-Ok.ensures);
 }
@@ -20,6 +21,7 @@ pulls-preserved g c = record {
   counted = omega (arith, c.in-Ok-pull_piece.ensures.cause.later);
   pulled = PulledFrom-more _ _ _ _ _ _ _ _ _ _ c.pulls.invariant.files c.pulls.invariant.pulled c.in-Ok-pull_piece.ensures.feeds;
   fed = omega (arith, c.in-Ok-pull_piece.ensures.fed, c.pulls.invariant.fed);
+  stands = c.in-Ok-pull_piece.ensures.stands;
   within = omega (arith, c.in-Ok-pull_piece.ensures.within, c.pull_piece.auto.piece, length-take c.min-room.result c.pulls.piece, c.min-room.ensures);
   room = omega (arith, c.pulls.invariant.room, c.pull_piece.auto.piece);
 }

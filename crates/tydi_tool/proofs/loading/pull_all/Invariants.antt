@@ -9,6 +9,7 @@ invariant-pulls g l = record {
   counted : g.S.Store.faults l.fn.store ≤ g.S.Store.faults l.store;
   pulled : PulledFrom (g.S.Store.files l.fn.store) (g.S.Store.started l.fn.store) (g.S.Store.started l.store) (g.R.Reader.reads l.fn.reader) (g.R.Reader.reads l.reader) l.given;
   fed : g.R.Reader.fed l.reader ≡ l.given;
+  stands : g.R.Reader.stands l.reader;
   within : l.given ≤ l.limit + 1;
   room : 0 < length l.piece;
 }
