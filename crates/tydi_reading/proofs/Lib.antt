@@ -1,0 +1,10 @@
+pub mod StepLemmas
+pub mod StepRules
+pub mod ChoiceRules
+pub mod LoopLemmas
+pub mod LoopRules
+pub mod ExactLemmas
+pub mod RepeatedRule
+pub mod MarkLemmas
+pub mod SeparatedRule
+pub mod JoinedRule

@@ -1,0 +1,74 @@
+-- Lists of things of one form: readers, under the names of the forms. This project's own.
+use Rattle.std.specs.Prelude.{◌≡◌, ◌⊎◌, Bool, false, List, [], ◌∷◌, ◌++◌, Option, Some, None, if◌then◌else◌}
+use Rattle.tydi_reading.specs.Forms.{Form, ◌⋯◌, Nothing, One}
+use Rattle.tydi_reading.specs.Reading.{Reader, ◌>>=◌, ◌>>◌, ◌<$>◌, pure, choose, leaf, Turn, again, done, loop}
+
+-- such a thing, and no other, has a meaning
+abbrev pub mark_of : {T : Type 0} → (T → Bool) → T → Option (Unit {0})
+mark_of is thing = if is thing then Some tt else None
+
+-- takes such a thing
+abbrev pub mark : {T : Type 0} → (T → Bool) → Reader T (Unit {0})
+mark is = leaf (mark_of is)
+
+-- such a thing
+abbrev pub Mark : {T : Type 0} → (T → Bool) → Form T
+Mark is = One (mark_of is) tt
+
+-- ---- one after another
+
+-- items, one after another
+abbrev pub Each : {T A : Type 0} → (A → Form T) → List A → Form T
+Each Item [] = Nothing
+Each Item (item ∷ items) = Item item ⋯ Each Item items
+
+-- each item is such a one
+abbrev pub EachIs : {A : Type 0} → (A → Type 0) → List A → Type 0
+EachIs Is [] = Unit {0}
+EachIs Is (item ∷ items) = Is item × EachIs Is items
+
+-- one item more, or the end of the items
+unfoldable pub repeated_turn : {T A : Type 0} → (T → Bool) → Bool → Reader T A → List A → Reader T (Turn (List A))
+repeated_turn test last item found = choose test last (pure (done found)) ((λ x. again (found ++ x ∷ [])) <$> item)
+
+-- items up to where a test of the next thing holds
+unfoldable pub repeated : {T A : Type 0} → (T → Bool) → Bool → Reader T A → Reader T (List A)
+repeated test last item = loop (repeated_turn test last item) []
+
+-- ---- with a separator between each two, and a last one or none
+
+abbrev pub LastSeparator : {T : Type 0} → (T → Bool) → Form T
+LastSeparator separates ts = Nothing ts ⊎ Mark separates ts
+
+-- items with a separator between each two, and a last one or none
+abbrev pub Separated : {T A : Type 0} → (T → Bool) → (A → Form T) → List A → Form T
+Separated separates Item [] = Nothing
+Separated separates Item (item ∷ []) = Item item ⋯ LastSeparator separates
+Separated separates Item (item ∷ next ∷ items) = Item item ⋯ Mark separates ⋯ Separated separates Item (next ∷ items)
+
+-- after an item: a separator, with which the items may go on, or their end
+unfoldable pub separator_turn : {T A : Type 0} → (T → Bool) → List A → Reader T (Turn (List A))
+separator_turn separates found = choose separates false ((λ _. again found) <$> mark separates) (pure (done found))
+
+-- one item more and what follows it, or the end of the items
+unfoldable pub separated_turn : {T A : Type 0} → (T → Bool) → Bool → (T → Bool) → Reader T A → List A → Reader T (Turn (List A))
+separated_turn test last separates item found = choose test last (pure (done found)) (item >>= (λ x. separator_turn separates (found ++ x ∷ [])))
+
+-- items with separators up to where a test of the next thing holds
+unfoldable pub separated : {T A : Type 0} → (T → Bool) → Bool → (T → Bool) → Reader T A → Reader T (List A)
+separated test last separates item = loop (separated_turn test last separates item) []
+
+-- ---- joined: one at least, with a joint between each two
+
+abbrev pub Joined : {T A : Type 0} → (T → Bool) → (A → Form T) → List A → Form T
+Joined joins Item [] = λ _. ⊥
+Joined joins Item (item ∷ []) = Item item
+Joined joins Item (item ∷ next ∷ items) = Item item ⋯ Mark joins ⋯ Joined joins Item (next ∷ items)
+
+-- a joint and one item more, or the end of the items
+unfoldable pub joined_turn : {T A : Type 0} → (T → Bool) → Reader T A → List A → Reader T (Turn (List A))
+joined_turn joins item found = choose joins false (mark joins >> (λ x. again (found ++ x ∷ [])) <$> item) (pure (done found))
+
+-- items with a joint between each two, one at least
+unfoldable pub joined : {T A : Type 0} → (T → Bool) → Reader T A → Reader T (List A)
+joined joins item = item >>= (λ x. loop (joined_turn joins item) (x ∷ []))
