@@ -6,5 +6,6 @@ pub mod LoopRules
 pub mod ExactLemmas
 pub mod RepeatedRule
 pub mod MarkLemmas
+pub mod StepsRule
 pub mod SeparatedRule
 pub mod JoinedRule

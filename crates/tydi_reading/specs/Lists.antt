@@ -1,5 +1,5 @@
 -- Lists of things of one form: readers, under the names of the forms. This project's own.
-use Rattle.std.specs.Prelude.{◌≡◌, ◌⊎◌, Bool, false, List, [], ◌∷◌, ◌++◌, Option, Some, None, if◌then◌else◌}
+use Rattle.std.specs.Prelude.{◌≡◌, ◌⊎◌, Bool, true, false, not, List, [], ◌∷◌, ◌++◌, Option, Some, None, if◌then◌else◌}
 use Rattle.tydi_reading.specs.Forms.{Form, ◌⋯◌, Nothing, One}
 use Rattle.tydi_reading.specs.Reading.{Reader, ◌>>=◌, ◌>>◌, ◌<$>◌, pure, choose, leaf, Turn, again, done, loop}
 
@@ -46,17 +46,21 @@ Separated separates Item [] = Nothing
 Separated separates Item (item ∷ []) = Item item ⋯ LastSeparator separates
 Separated separates Item (item ∷ next ∷ items) = Item item ⋯ Mark separates ⋯ Separated separates Item (next ∷ items)
 
--- after an item: a separator, with which the items may go on, or their end
-unfoldable pub separator_turn : {T A : Type 0} → (T → Bool) → List A → Reader T (Turn (List A))
+-- after a step: a separator, with which the steps may go on, or their end
+unfoldable pub separator_turn : {T S : Type 0} → (T → Bool) → S → Reader T (Turn S)
 separator_turn separates found = choose separates false ((λ _. again found) <$> mark separates) (pure (done found))
 
--- one item more and what follows it, or the end of the items
-unfoldable pub separated_turn : {T A : Type 0} → (T → Bool) → Bool → (T → Bool) → Reader T A → List A → Reader T (Turn (List A))
-separated_turn test last separates item found = choose test last (pure (done found)) (item >>= (λ x. separator_turn separates (found ++ x ∷ [])))
+-- one step more and what follows it, or the end of the steps
+unfoldable pub steps_turn : {T S : Type 0} → (T → Bool) → Bool → (T → Bool) → (S → Reader T S) → S → Reader T (Turn S)
+steps_turn test last separates step s = choose test last (pure (done s)) (step s >>= separator_turn separates)
+
+-- steps with separators, each from one state to the next, up to where a test of the next thing holds
+unfoldable pub steps : {T S : Type 0} → (T → Bool) → Bool → (T → Bool) → (S → Reader T S) → S → Reader T S
+steps test last separates step = loop (steps_turn test last separates step)
 
 -- items with separators up to where a test of the next thing holds
 unfoldable pub separated : {T A : Type 0} → (T → Bool) → Bool → (T → Bool) → Reader T A → Reader T (List A)
-separated test last separates item = loop (separated_turn test last separates item) []
+separated test last separates item = steps test last separates (λ found. (λ x. found ++ x ∷ []) <$> item) []
 
 -- ---- joined: one at least, with a joint between each two
 
@@ -65,10 +69,6 @@ Joined joins Item [] = λ _. ⊥
 Joined joins Item (item ∷ []) = Item item
 Joined joins Item (item ∷ next ∷ items) = Item item ⋯ Mark joins ⋯ Joined joins Item (next ∷ items)
 
--- a joint and one item more, or the end of the items
-unfoldable pub joined_turn : {T A : Type 0} → (T → Bool) → Reader T A → List A → Reader T (Turn (List A))
-joined_turn joins item found = choose joins false (mark joins >> (λ x. again (found ++ x ∷ [])) <$> item) (pure (done found))
-
 -- items with a joint between each two, one at least
 unfoldable pub joined : {T A : Type 0} → (T → Bool) → Reader T A → Reader T (List A)
-joined joins item = item >>= (λ x. loop (joined_turn joins item) (x ∷ []))
+joined joins item = item >>= (λ x. loop (repeated_turn (λ t. not (joins t)) true (mark joins >> item)) (x ∷ []))
