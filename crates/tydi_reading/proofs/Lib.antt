@@ -6,6 +6,8 @@ pub mod LoopRules
 pub mod ExactLemmas
 pub mod RepeatedRule
 pub mod MarkLemmas
+pub mod MarkRules
 pub mod StepsRule
 pub mod SeparatedRule
 pub mod JoinedRule
+pub mod CheckedRule

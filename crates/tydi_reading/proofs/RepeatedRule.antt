@@ -177,19 +177,36 @@ module _ {T A : Type 0} (Good : T → Type 0) (test : T → Bool) (last : Bool) 
     apart_done = λ found end front s each. (tt, subst (EachIs Within) s.0 each);
   }
 
+  -- more items one after another up to where the test holds
+  pub repeated_from-rule : (found : List A) → EachIs Within found
+      → IsRule Good (loop (repeated_turn test last item) found) (Adds (Each Item) found) (λ _ rest. tells test last rest ≡ true) (EachIs Within) EachDeep
+  repeated_from-rule found within =
+      same-rule Good (loop (repeated_turn test last item) found) (Loop TurnOf found) (λ _ rest. tells test last rest ≡ true) (EachIs Within)
+      (LoopDeep TurnOf (λ _. Deep) found) (Adds (Each Item) found) (λ _ rest. tells test last rest ≡ true) (EachIs Within) EachDeep
+      (record {
+        there = λ end ts s. adds s.0 found end ts s.1;
+        back = λ end ts s. subst (λ l. Loop TurnOf found l ts) (sym s.added) (runs found s.items ts s.spelled);
+        follow = λ items rest next. next;
+        within = λ items each. each;
+        apart = λ items each. each;
+        first = λ ts d. adds_deep d.0 found ts d.1;
+        deep = λ ts d. runs_deep d.0 found d.1.front d.1.back ts d.1.all d.1.begins d.1.ends;
+      })
+      (loop-rule Good (repeated_turn test last item) TurnOf Follow Inside (λ _. Deep) (λ _ rest. tells test last rest ≡ true) (EachIs Within) turns found within)
+
   -- items one after another up to where the test holds
   pub repeated-rule : IsRule Good (repeated test last item) (Each Item) (λ _ rest. tells test last rest ≡ true) (EachIs Within) EachDeep
   unfolding repeated
   repeated-rule =
-      same-rule Good (loop (repeated_turn test last item) []) (Loop TurnOf []) (λ _ rest. tells test last rest ≡ true) (EachIs Within)
-      (LoopDeep TurnOf (λ _. Deep) []) (Each Item) (λ _ rest. tells test last rest ≡ true) (EachIs Within) EachDeep
+      same-rule Good (loop (repeated_turn test last item) []) (Adds (Each Item) []) (λ _ rest. tells test last rest ≡ true) (EachIs Within) EachDeep
+      (Each Item) (λ _ rest. tells test last rest ≡ true) (EachIs Within) EachDeep
       (record {
-        there = λ items ts s. let a = adds s.0 [] items ts s.1 in subst (λ l. Each Item l ts) (sym a.added) a.spelled;
-        back = λ items ts s. runs [] items ts s;
+        there = λ items ts a. subst (λ l. Each Item l ts) (sym a.added) a.spelled;
+        back = λ items ts s. record { items = items; added = refl; spelled = s };
         follow = λ items rest next. next;
         within = λ items each. each;
         apart = λ items each. each;
-        first = λ ts d. adds_deep d.0 [] ts d.1;
-        deep = λ ts d. runs_deep d.0 [] d.1.front d.1.back ts d.1.all d.1.begins d.1.ends;
+        first = λ ts d. d;
+        deep = λ ts d. d;
       })
-      (loop-rule Good (repeated_turn test last item) TurnOf Follow Inside (λ _. Deep) (λ _ rest. tells test last rest ≡ true) (EachIs Within) turns [] tt)
+      (repeated_from-rule [] tt)

@@ -87,6 +87,11 @@ infixr 12 ◌<&>◌
 abbrev pub ◌<&>◌ : {T A B : Type 0} → Reader T A → Reader T B → Reader T (A × B)
 p <&> q = p >>= (λ x. (λ y. (x, y)) <$> q)
 
+-- one reader, and then another: the value of the first
+infixl 12 ◌<<◌
+abbrev pub ◌<<◌ : {T A B : Type 0} → Reader T A → Reader T B → Reader T A
+p << q = p >>= (λ x. (λ _. x) <$> q)
+
 -- the one reader where a test of the next thing holds, and else the other
 abbrev pub choose : {T A : Type 0} → (T → Bool) → Bool → Reader T A → Reader T A → Reader T A
 choose test last p q = λ ts. (if tells test last ts then p else q) ts
@@ -95,6 +100,10 @@ choose test last p q = λ ts. (if tells test last ts then p else q) ts
 abbrev pub meant : {T A : Type 0} → Option A → List T → List T → Outcome T A
 meant (Some x) rest all = took x rest
 meant None rest all = stopped faults.Refused all
+
+-- what is read is to have a meaning, else nothing goes on after it
+abbrev pub checked : {T A B : Type 0} → (A → Option B) → Reader T A → Reader T B
+checked meaning p = p >>= (λ x. λ rest. meant (meaning x) rest rest)
 
 -- takes the next thing, which is to have a meaning, and gives the meaning
 abbrev pub leaf : {T A : Type 0} → (T → Option A) → Reader T A
