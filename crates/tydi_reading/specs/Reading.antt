@@ -1,5 +1,5 @@
 -- The steps of which readers are made, over things of any type. This project's own.
-use Rattle.std.specs.Prelude.{◌≡◌, ◌≢◌, ℕ, zero, suc, Bool, true, false, List, [], ◌∷◌, length, Option, Some, None, Result, Ok, Err, if◌then◌else◌}
+use Rattle.std.specs.Prelude.{◌≡◌, ◌≢◌, ◌<◌, ℕ, zero, suc, Bool, true, false, List, [], ◌∷◌, length, Option, Some, None, Result, Ok, Err, if◌then◌else◌}
 use Rattle.tydi_reading.specs.declared.fault.Fault.{Fault}
 use Rattle.tydi_reading.specs.declared.fault.Fault.TheVariants as faults
 
@@ -16,6 +16,10 @@ Reader T A = List T → Outcome T A
 abbrev pub Reads : {T A : Type 0} → Outcome T A → Result A Fault → List T → Type 0
 Reads outcome (Ok x) new = outcome ≡ took x new
 Reads outcome (Err e) new = e ≢ faults.Memory → outcome ≡ stopped e new
+
+-- what is read takes a thing at least
+pub record Shrinks {T A : Type 0} (read : Reader T A) : Type 0 where
+  pub less : (ts rest : List T) (x : A) → read ts ≡ took x rest → length rest < length ts
 
 -- ---- the next thing
 

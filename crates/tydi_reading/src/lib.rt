@@ -5,6 +5,8 @@
 
 mod cursor;
 mod fault;
+mod lists;
 
 pub use cursor::Cursor;
 pub use fault::Fault;
+pub use lists::{repeated, separated};
