@@ -78,8 +78,8 @@ module _ {T A B : Type 0} (Good : T → Type 0) (meaning : A → Option B) (p : 
           subst (Finishes Good Whole Deep ts rest) same
           (record { front = f.front; split = f.split ∙ ap (λ r. f.front ++ r) place; goes = checks.mends x f.front means f.spelled })
 
-  complete-at : (front rest : List T) (y : B) → Next y rest → (x : A) × (meaning x ≡ Some y) × Spelled x front → Reached All rest y (checked meaning p (front ++ rest))
-  complete-at front rest y next b =
+  complete-at : (front rest : List T) (y : B) → Rattle.std.proofs.Common.All Good front → Next y rest → (x : A) × (meaning x ≡ Some y) × Spelled x front → Reached All rest y (checked meaning p (front ++ rest))
+  complete-at front rest y good next b =
       ⊎_elim
       (λ is. inl (ap (λ o. and_then o (λ x. λ us. meant (meaning x) us us)) is ∙ ap (λ m. meant m rest rest) b.1))
       (λ far. inr (record {
@@ -88,14 +88,14 @@ module _ {T A B : Type 0} (Good : T → Type 0) (meaning : A → Option B) (p : 
         before = far.before;
         beyond = λ all. far.beyond (checks.apart b.0 y b.1 all);
       }))
-      (rule.complete front rest b.0 b.2 (checks.follow b.0 y rest b.1 next))
+      (rule.complete front rest b.0 good b.2 (checks.follow b.0 y rest b.1 next))
 
   pub checked-rule : IsRule Good (checked meaning p) Whole Next All Deep
   checked-rule = record {
     example = goes [] rule.example;
     local = λ ts. local-then p (λ x. λ us. meant (meaning x) us us) ts (p ts) (rule.local ts) (λ x rest is. ended x (meaning x) refl rest);
     sound = λ ts rest y is. sound-made ts rest y (p ts) refl is;
-    complete = λ front rest y s next. complete-at front rest y next (checks.back y front s);
+    complete = λ front rest y good s next. complete-at front rest y good next (checks.back y front s);
     finishes = λ ts rest e is. finishes-made ts rest e (p ts) refl is;
-    stops = λ front rest d. stops-first (λ x. λ us. meant (meaning x) us us) rest (p (front ++ rest)) (rule.stops front rest d);
+    stops = λ front rest good d. stops-first (λ x. λ us. meant (meaning x) us us) rest (p (front ++ rest)) (rule.stops front rest good d);
   }

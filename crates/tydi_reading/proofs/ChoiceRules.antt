@@ -55,9 +55,9 @@ choose-rule {T} {A} Good test last p q One OneNext OneDeep Other OtherNext Other
   example = one-goes [] a.example;
   local = λ ts. local ts (tells test last ts) refl;
   sound = λ ts rest x is. sound ts rest x (tells test last ts) refl is;
-  complete = λ front rest x s next. complete front rest x next (c.which x front s);
+  complete = λ front rest x good s next. complete front rest x good next (c.which x front s);
   finishes = λ ts rest e is. finishes ts rest e (tells test last ts) refl is;
-  stops = λ front rest d. stops front rest (c.which_deep front d);
+  stops = λ front rest good d. stops front rest good (c.which_deep front d);
 }
   where
     one-goes : (front : List T) → GoesOn Good One front → GoesOn Good Whole front
@@ -78,11 +78,11 @@ choose-rule {T} {A} Good test last p q One OneNext OneDeep Other OtherNext Other
         let f = b.sound ts rest x (sym (chosen test last p q ts false is) ∙ read) in
         record { front = f.front; split = f.split; spelled = c.other x f.front f.spelled; within = f.within }
 
-    complete : (front rest : List T) (x : A) → Next x rest → One x front ⊎ Other x front → Reached Within rest x (choose test last p q (front ++ rest))
-    complete front rest x next =
+    complete : (front rest : List T) (x : A) → All Good front → Next x rest → One x front ⊎ Other x front → Reached Within rest x (choose test last p q (front ++ rest))
+    complete front rest x good next =
         ⊎_elim
-        (λ s. rw (chosen test last p q (front ++ rest) true (c.one_begins x front rest s next)) (a.complete front rest x s (c.one_next x front rest s next)))
-        (λ s. rw (chosen test last p q (front ++ rest) false (c.other_begins x front rest s next)) (b.complete front rest x s (c.other_next x front rest s next)))
+        (λ s. rw (chosen test last p q (front ++ rest) true (c.one_begins x front rest s next)) (a.complete front rest x good s (c.one_next x front rest s next)))
+        (λ s. rw (chosen test last p q (front ++ rest) false (c.other_begins x front rest s next)) (b.complete front rest x good s (c.other_next x front rest s next)))
 
     of-one : (ts rest : List T) (e : Fault) → Finishes Good One OneDeep ts rest e → Finishes Good Whole Deep ts rest e
     of-one ts rest faults.Refused f = record { front = f.front; split = f.split; goes = one-goes f.front f.goes }
@@ -114,11 +114,11 @@ choose-rule {T} {A} Good test last p q One OneNext OneDeep Other OtherNext Other
     finishes ts rest e true is read = of-one ts rest e (a.finishes ts rest e (sym (chosen test last p q ts true is) ∙ read))
     finishes ts rest e false is read = of-other ts rest e (b.finishes ts rest e (sym (chosen test last p q ts false is) ∙ read))
 
-    stops : (front rest : List T) → OneDeep front ⊎ OtherDeep front → Stops rest (choose test last p q (front ++ rest))
-    stops front rest =
+    stops : (front rest : List T) → All Good front → OneDeep front ⊎ OtherDeep front → Stops rest (choose test last p q (front ++ rest))
+    stops front rest good =
         ⊎_elim
-        (λ d. rw (chosen test last p q (front ++ rest) true (c.one_deep_begins front rest d)) (a.stops front rest d))
-        (λ d. rw (chosen test last p q (front ++ rest) false (c.other_deep_begins front rest d)) (b.stops front rest d))
+        (λ d. rw (chosen test last p q (front ++ rest) true (c.one_deep_begins front rest d)) (a.stops front rest good d))
+        (λ d. rw (chosen test last p q (front ++ rest) false (c.other_deep_begins front rest d)) (b.stops front rest good d))
 
 -- ---- both of two
 
@@ -162,15 +162,15 @@ both-rule {T} {A} {B} Good p q One OneNext OneWithin OneDeep Other OtherNext Oth
 
 pub too_deep-rule : {T A : Type 0} (Good : T → Type 0) (begins : T → Bool) (Spelled : A → Form T) (Next : A → Form T)
     → GoesOn Good Spelled [] → ((t : T) → begins t ≡ true → GoesOn Good Spelled (t ∷ []))
-    → ((x : A) (front : List T) → Spelled x front → (t : T) × (more : List T) × (front ≡ t ∷ more) × (begins t ≡ true))
+    → ((x : A) (front : List T) → All Good front → Spelled x front → (t : T) × (more : List T) × (front ≡ t ∷ more) × (begins t ≡ true))
     → IsRule Good (too_deep begins) Spelled Next (λ _. ⊥) Nothing
 too_deep-rule {T} {A} Good begins Spelled Next example begun starts = record {
   example = example;
   local = local;
   sound = λ ts rest x is. absurd (never ts rest x is);
-  complete = λ front rest x s next. complete front rest x (starts x front s);
+  complete = λ front rest x good s next. complete front rest x (starts x front good s);
   finishes = finishes;
-  stops = λ front rest d. stops front rest d;
+  stops = λ front rest _ d. stops front rest d;
 }
   where
     why : T → Fault

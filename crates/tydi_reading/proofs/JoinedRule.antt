@@ -3,54 +3,54 @@ use Rattle.std.proofs.Common.{◌≡◌, ℕ, ◌<◌, ◌⊎◌, inl, inr, ⊎_
 use Rattle.std.specs.Prelude.{not}
 use Rattle.std.proofs.lemmas.List.{append-nil, length-append}
 use Rattle.tydi_reading.specs.Forms.{Form, ◌⋯◌, Never, Anything}
-use Rattle.tydi_reading.specs.Lists.{Each, EachIs, mark, Mark, Joined, repeated_turn, joined}
+use Rattle.tydi_reading.specs.Lists.{Each, EachIs, mark, Joined, repeated_turn, joined}
 use Rattle.tydi_reading.specs.Reading.{Reader, tells, ◌>>◌, loop}
 use Rattle.tydi_reading.specs.Rules.{IsRule}
-use Rattle.tydi_reading.proofs.MarkLemmas.{Mark-filled, Mark-is, mark-rule}
+use Rattle.tydi_reading.proofs.MarkLemmas.{IsMark, Mark-filled, mark-rule}
 use Rattle.tydi_reading.proofs.MarkRules.{skip-rule}
 use Rattle.tydi_reading.proofs.RepeatedRule.{Adds, Repeats, repeated_from-rule, EachDeep}
 use Rattle.tydi_reading.proofs.StepRules.{then-rule}
 
-module _ {T A : Type 0} (Good : T → Type 0) (joins : T → Bool) (item : Reader T A) (Item : A → Form T) (joint : T) (good : Good joint) (is : joins joint ≡ true)
+module _ {T A : Type 0} (Good : T → Type 0) (joins : T → Bool) (Joint : Form T) (item : Reader T A) (Item : A → Form T) (m : IsMark Good joins Joint)
     (rule : IsRule Good item Item (λ _. Anything) (λ _. Unit {0}) Never) where
   -- a joint, and an item
   abbrev More : A → Form T
-  More x = Mark joins ⋯ Item x
+  More x = Joint ⋯ Item x
 
-  begins : (front rest : List T) → Mark joins front → tells (λ t. not (joins t)) true (front ++ rest) ≡ false
-  begins front rest m = rw m.all (ap not (Mark-is joins front m))
+  begins : (front rest : List T) → Joint front → tells (λ t. not (joins t)) true (front ++ rest) ≡ false
+  begins front rest s = let o = m.back front s in rw o.1 (ap not o.2)
 
-  begins_more : (First Second : Form T) (front rest : List T) → ((ts : List T) → First ts → Mark joins ts) → (First ⋯ Second) front
+  begins_more : (First Second : Form T) (front rest : List T) → ((ts : List T) → First ts → Joint ts) → (First ⋯ Second) front
       → tells (λ t. not (joins t)) true (front ++ rest) ≡ false
   begins_more First Second front rest marks b = rw (b.all, append_assoc b.front b.back rest) (begins b.front (b.back ++ rest) (marks b.front b.begins))
 
-  repeats : Repeats (λ t. not (joins t)) true More (Mark joins ⋯ Never)
+  repeats : Repeats (λ t. not (joins t)) true More (Joint ⋯ Never)
   repeats = record {
     filled = λ x front b.
-        let some = Mark-filled joins b.front b.begins in
+        let some = Mark-filled Good joins Joint m b.front b.begins in
         let whole = ap length b.all ∙ length-append b.front b.back in
         omega arith;
-    starts = λ x front rest b. begins_more (Mark joins) (Item x) front rest (λ ts m. m) b;
+    starts = λ x front rest b. begins_more (Joint) (Item x) front rest (λ ts s. s) b;
     starts_deep = λ front rest b. absurd b.ends;
   }
 
-  more-rule : IsRule Good (mark joins >> item) More (λ _. Anything) (λ _. Unit {0}) (Mark joins ⋯ Never)
-  more-rule = skip-rule Good (mark joins) item (Mark joins) Item (λ _. Anything) (λ _. Unit {0}) Never (mark-rule Good joins joint good is) rule
+  more-rule : IsRule Good (mark joins >> item) More (λ _. Anything) (λ _. Unit {0}) (Joint ⋯ Never)
+  more-rule = skip-rule Good (mark joins) item (Joint) Item (λ _. Anything) (λ _. Unit {0}) Never (mark-rule Good joins Joint m) rule
 
-  joined-of : (items : List A) (x : A) (front back ts : List T) → ts ≡ front ++ back → Item x front → Each More items back → Joined joins Item (x ∷ items) ts
+  joined-of : (items : List A) (x : A) (front back ts : List T) → ts ≡ front ++ back → Item x front → Each More items back → Joined Joint Item (x ∷ items) ts
   joined-of [] x front back ts split s none = subst (Item x) (sym (split ∙ ap (λ l. front ++ l) none ∙ append-nil front)) s
   joined-of (next ∷ items) x front back ts split s more =
-      let m = more.begins in
-      let flat = more.all ∙ ap (λ l. l ++ more.back) m.all ∙ append_assoc m.front m.back more.back in
+      let j = more.begins in
+      let flat = more.all ∙ ap (λ l. l ++ more.back) j.all ∙ append_assoc j.front j.back more.back in
       record {
         front = front;
         back = back;
         all = split;
         begins = s;
-        ends = record { front = m.front; back = m.back ++ more.back; all = flat; begins = m.begins; ends = joined-of items next m.back more.back (m.back ++ more.back) refl m.ends more.ends };
+        ends = record { front = j.front; back = j.back ++ more.back; all = flat; begins = j.begins; ends = joined-of items next j.back more.back (j.back ++ more.back) refl j.ends more.ends };
       }
 
-  more-of : (items : List A) (x : A) (ts : List T) → Joined joins Item (x ∷ items) ts → (Item x ⋯ Each More items) ts
+  more-of : (items : List A) (x : A) (ts : List T) → Joined Joint Item (x ∷ items) ts → (Item x ⋯ Each More items) ts
   more-of [] x ts s = record { front = ts; back = []; all = sym (append-nil ts); begins = s; ends = refl }
   more-of (next ∷ items) x ts s =
       let o = s.ends in
@@ -69,7 +69,7 @@ module _ {T A : Type 0} (Good : T → Type 0) (joins : T → Bool) (item : Reade
         };
       }
 
-  of_list : (all : List A) (ts : List T) → Joined joins Item all ts → (x : A) × ((Item x ⋯ Adds (Each More) (x ∷ []) all) ts)
+  of_list : (all : List A) (ts : List T) → Joined Joint Item all ts → (x : A) × ((Item x ⋯ Adds (Each More) (x ∷ []) all) ts)
   of_list [] ts s = absurd s
   of_list (x ∷ items) ts s =
       let b = more-of items x ts s in
@@ -79,19 +79,19 @@ module _ {T A : Type 0} (Good : T → Type 0) (joins : T → Bool) (item : Reade
   each_unit [] = tt
   each_unit (x ∷ items) = (tt, each_unit items)
 
-  no_deep : (items : List A) (ts : List T) → (Each More items ⋯ Mark joins ⋯ Never) ts → ⊥
+  no_deep : (items : List A) (ts : List T) → (Each More items ⋯ Joint ⋯ Never) ts → ⊥
   no_deep items ts b = b.ends.ends
 
   -- items with a joint between each two, up to where no joint stands
-  pub joined-rule : IsRule Good (joined joins item) (Joined joins Item) (λ _ rest. tells (λ t. not (joins t)) true rest ≡ true) (λ _. Unit {0}) Never
+  pub joined-rule : IsRule Good (joined joins item) (Joined Joint Item) (λ _ rest. tells (λ t. not (joins t)) true rest ≡ true) (λ _. Unit {0}) Never
   unfolding joined
   joined-rule =
       then-rule Good item (λ x. loop (repeated_turn (λ t. not (joins t)) true (mark joins >> item)) (x ∷ [])) Item (λ _. Anything) (λ _. Unit {0}) Never
       (λ x. Adds (Each More) (x ∷ [])) (λ _ _ rest. tells (λ t. not (joins t)) true rest ≡ true) (λ _. EachIs (λ _. Unit {0}))
-      (λ _. EachDeep Good (λ t. not (joins t)) true (mark joins >> item) More (λ _. Unit {0}) (Mark joins ⋯ Never) repeats more-rule)
-      (Joined joins Item) (λ _ rest. tells (λ t. not (joins t)) true rest ≡ true) (λ _. Unit {0}) Never
+      (λ _. EachDeep Good (λ t. not (joins t)) true (mark joins >> item) More (λ _. Unit {0}) (Joint ⋯ Never) repeats more-rule)
+      (Joined Joint Item) (λ _ rest. tells (λ t. not (joins t)) true rest ≡ true) (λ _. Unit {0}) Never
       (record {
-        join = λ x all front back s a. subst (λ l. Joined joins Item l (front ++ back)) (sym a.added) (joined-of a.items x front back (front ++ back) refl s a.spelled);
+        join = λ x all front back s a. subst (λ l. Joined Joint Item l (front ++ back)) (sym a.added) (joined-of a.items x front back (front ++ back) refl s a.spelled);
         part = of_list;
         follow = λ x all back rest a next. tt;
         follows = λ x all back rest a next. next;
@@ -103,4 +103,4 @@ module _ {T A : Type 0} (Good : T → Type 0) (joins : T → Bool) (item : Reade
         follow_deep = λ x back rest d. tt;
       })
       rule
-      (λ x. repeated_from-rule Good (λ t. not (joins t)) true (mark joins >> item) More (λ _. Unit {0}) (Mark joins ⋯ Never) repeats more-rule (x ∷ []) (each_unit (x ∷ [])))
+      (λ x. repeated_from-rule Good (λ t. not (joins t)) true (mark joins >> item) More (λ _. Unit {0}) (Joint ⋯ Never) repeats more-rule (x ∷ []) (each_unit (x ∷ [])))

@@ -8,7 +8,7 @@ use Rattle.tydi_reading.specs.Forms.{Form, ◌⋯◌, Never, GoesOn, Runs, Loop,
 use Rattle.tydi_reading.specs.Reading.{Outcome, took, stopped, Reader, and_then, ◌>>=◌, pure, Turn, again, done, turned, loop}
 use Rattle.tydi_reading.specs.Rules.{left, leaving, Local, Found, TooFar, Reached, Finishes, Stops, IsRule}
 use Rattle.tydi_reading.proofs.LoopLemmas.{Advances, loop_unfolds}
-use Rattle.tydi_reading.proofs.StepLemmas.{local-then, local-same, sound-then, finishes-then, complete-then, stops-first, stops-second}
+use Rattle.tydi_reading.proofs.StepLemmas.{All-front, All-back, local-then, local-same, sound-then, finishes-then, complete-then, stops-first, stops-second}
 use Rattle.tydi_reading.proofs.StepRules.{Only}
 
 -- the turns of a loop are rules that may stand one after another
@@ -117,19 +117,19 @@ module _ {T S : Type 0} (Good : T → Type 0) (turn : S → Reader T (Turn S)) (
         beyond = λ within. far.beyond (turns.apart_done s end front last within).0;
       }))
 
-  complete-loop : (k : ℕ) (s end : S) (front rest : List T) → Runs Spelled k s end front → Next end rest → Reached Within rest end (loop turn s (front ++ rest))
-  complete-loop zero s end front rest runs next = absurd runs
-  complete-loop (suc k) s end front rest runs next =
+  complete-loop : (k : ℕ) (s end : S) (front rest : List T) → All Good front → Runs Spelled k s end front → Next end rest → Reached Within rest end (loop turn s (front ++ rest))
+  complete-loop zero s end front rest good runs next = absurd runs
+  complete-loop (suc k) s end front rest good runs next =
       ⊎_elim
-      (λ last. at_done s end front rest last ((turns.rule s).complete front rest (done end) last (turns.ends s end front rest last next)))
+      (λ last. at_done s end front rest last ((turns.rule s).complete front rest (done end) good last (turns.ends s end front rest last next)))
       (λ more.
       let x = more.0 in
       let b = more.1 in
       rw b.all rw (unfolds s ((b.front ++ b.back) ++ rest))
       (complete-then (turn s) (turned (loop turn)) (again x) b.front b.back rest (Inside s) Within Within end
       (λ within. ((turns.apart_again s x b.front b.begins (runs-within k x end b.back b.ends within)).0, within))
-      ((turns.rule s).complete b.front (b.back ++ rest) (again x) b.begins (turns.goes s x end b.front b.back rest b.begins (k, b.ends) next))
-      (complete-loop k x end b.back rest b.ends next)))
+      ((turns.rule s).complete b.front (b.back ++ rest) (again x) (All-front Good front b.front b.back b.all good) b.begins (turns.goes s x end b.front b.back rest b.begins (k, b.ends) next))
+      (complete-loop k x end b.back rest (All-back Good front b.front b.back b.all good) b.ends next)))
       runs
 
   finishes-loop : (n : ℕ) (s : S) (ts : List T) → length ts < n → (rest : List T) (e : Fault) → loop turn s ts ≡ stopped e rest
@@ -156,18 +156,18 @@ module _ {T S : Type 0} (Good : T → Type 0) (turn : S → Reader T (Turn S)) (
       of_turn more middle rest (again next) e made other = more next middle (shorter n s next ts middle few made) rest e other
       of_turn more middle rest (done x) e made other = absurd (differ x middle rest e other)
 
-  stops-loop : (k : ℕ) (s : S) (front rest : List T) → RunsDeep Spelled Deep k s front → Stops rest (loop turn s (front ++ rest))
-  stops-loop zero s front rest runs = absurd runs
-  stops-loop (suc k) s front rest runs =
+  stops-loop : (k : ℕ) (s : S) (front rest : List T) → All Good front → RunsDeep Spelled Deep k s front → Stops rest (loop turn s (front ++ rest))
+  stops-loop zero s front rest good runs = absurd runs
+  stops-loop (suc k) s front rest good runs =
       ⊎_elim
-      (λ d. rw (unfolds s (front ++ rest)) (stops-first (turned (loop turn)) rest (turn s (front ++ rest)) ((turns.rule s).stops front rest d)))
+      (λ d. rw (unfolds s (front ++ rest)) (stops-first (turned (loop turn)) rest (turn s (front ++ rest)) ((turns.rule s).stops front rest good d)))
       (λ more.
       let x = more.0 in
       let b = more.1 in
       rw b.all rw (unfolds s ((b.front ++ b.back) ++ rest))
       (stops-second (turn s) (turned (loop turn)) (again x) b.front b.back rest (Inside s)
-      ((turns.rule s).complete b.front (b.back ++ rest) (again x) b.begins (turns.goes_deep s x b.front b.back rest b.begins (k, b.ends)))
-      (stops-loop k x b.back rest b.ends)))
+      ((turns.rule s).complete b.front (b.back ++ rest) (again x) (All-front Good front b.front b.back b.all good) b.begins (turns.goes_deep s x b.front b.back rest b.begins (k, b.ends)))
+      (stops-loop k x b.back rest (All-back Good front b.front b.back b.all good) b.ends)))
       runs
 
   pub loop-rule : (s : S) → Within s → IsRule Good (loop turn s) (Loop Spelled s) Next Within (LoopDeep Spelled Deep s)
@@ -175,7 +175,7 @@ module _ {T S : Type 0} (Good : T → Type 0) (turn : S → Reader T (Turn S)) (
     example = turns.closes s;
     local = λ ts. local-loop (suc (length ts)) s ts (omega arith);
     sound = λ ts rest x is. sound-loop (suc (length ts)) s within ts (omega arith) rest x is;
-    complete = λ front rest x runs next. complete-loop runs.0 s x front rest runs.1 next;
+    complete = λ front rest x good runs next. complete-loop runs.0 s x front rest good runs.1 next;
     finishes = λ ts rest e is. finishes-loop (suc (length ts)) s ts (omega arith) rest e is;
-    stops = λ front rest runs. stops-loop runs.0 s front rest runs.1;
+    stops = λ front rest good runs. stops-loop runs.0 s front rest good runs.1;
   }

@@ -1,7 +1,6 @@
 -- Rules before and after a mark.
 use Rattle.std.proofs.Common.{◌≡◌, ℕ, ◌<◌, ◌⊎◌, inl, inr, ⊎_elim, Bool, true, false, List, [], ◌∷◌, ◌++◌, length, refl, sym, ap, ◌∙◌, subst, arith, append_assoc}
 use Rattle.tydi_reading.specs.Forms.{Form, ◌⋯◌, Never, Anything}
-use Rattle.tydi_reading.specs.Lists.{mark, Mark}
 use Rattle.tydi_reading.specs.Reading.{Reader, ◌>>◌, ◌<<◌, ◌<$>◌}
 use Rattle.tydi_reading.specs.Rules.{IsRule}
 use Rattle.tydi_reading.proofs.StepRules.{then-rule, map-rule}

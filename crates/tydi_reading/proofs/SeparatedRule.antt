@@ -3,21 +3,19 @@ use Rattle.std.proofs.Common.{◌≡◌, ℕ, zero, suc, ◌<◌, ◌⊎◌, inl
 use Rattle.std.proofs.lemmas.List.{append-nil, length-append}
 use Rattle.std.proofs.lemmas.List.Elements.{All-nil}
 use Rattle.tydi_reading.specs.Forms.{Form, ◌⋯◌, Nothing, Never, Anything, GoesOn, Runs, Loop, RunsDeep, LoopDeep}
-use Rattle.tydi_reading.specs.Lists.{Each, EachIs, Mark, mark, Separated, LastSeparator, steps, separated}
+use Rattle.tydi_reading.specs.Lists.{Each, EachIs, Separated, LastSeparator, steps, separated}
 use Rattle.tydi_reading.specs.Reading.{Reader, Turn, again, done, tells, pure, ◌<$>◌, ◌>>=◌, choose, loop}
 use Rattle.tydi_reading.specs.Rules.{IsRule}
 use Rattle.tydi_reading.proofs.ChoiceRules.{choose-rule}
 use Rattle.tydi_reading.proofs.LoopRules.{Turns, loop-rule}
-use Rattle.tydi_reading.proofs.MarkLemmas.{Mark-tells, Mark-filled, Mark-is, mark-rule}
+use Rattle.tydi_reading.proofs.MarkLemmas.{IsMark}
 use Rattle.tydi_reading.proofs.RepeatedRule.{Adds, last-same, EachIs-push, EachIs-pop}
 use Rattle.tydi_reading.proofs.StepsRule.{Separates, TurnOf, steps-rule}
 use Rattle.tydi_reading.proofs.StepRules.{Only, pure-rule, map-rule, same-rule, then-rule}
 
 -- items of the rule may stand with such separators between them up to where the test holds
-pub record Between {T A : Type 0} (Good : T → Type 0) (test : T → Bool) (last : Bool) (separates : T → Bool) (Item : A → Form T) (ItemNext : Form T) (Deep : Form T) : Type 0 where
-  pub separator : T
-  pub good : Good separator
-  pub is : separates separator ≡ true
+pub record Between {T A : Type 0} (Good : T → Type 0) (test : T → Bool) (last : Bool) (separates : T → Bool) (Separator : Form T) (Item : A → Form T) (ItemNext : Form T) (Deep : Form T) : Type 0 where
+  pub mark : IsMark Good separates Separator
   pub filled : (x : A) (front : List T) → Item x front → 0 < length front
   pub starts : (x : A) (front rest : List T) → Item x front → tells test last (front ++ rest) ≡ false
   pub starts_deep : (front rest : List T) → Deep front → tells test last (front ++ rest) ≡ false
@@ -25,8 +23,8 @@ pub record Between {T A : Type 0} (Good : T → Type 0) (test : T → Bool) (las
   pub before_separator : (t : T) (rest : List T) → separates t ≡ true → ItemNext (t ∷ rest)
   pub apart : (rest : List T) → tells test last rest ≡ true → tells separates false rest ≡ false
 
-module _ {T A : Type 0} (Good : T → Type 0) (test : T → Bool) (last : Bool) (separates : T → Bool) (item : Reader T A) (Item : A → Form T) (ItemNext : Form T)
-    (Within : A → Type 0) (Deep : Form T) (between : Between Good test last separates Item ItemNext Deep) (rule : IsRule Good item Item (λ _. ItemNext) Within Deep) where
+module _ {T A : Type 0} (Good : T → Type 0) (test : T → Bool) (last : Bool) (separates : T → Bool) (Separator : Form T) (item : Reader T A) (Item : A → Form T) (ItemNext : Form T)
+    (Within : A → Type 0) (Deep : Form T) (between : Between Good test last separates Separator Item ItemNext Deep) (rule : IsRule Good item Item (λ _. ItemNext) Within Deep) where
   abbrev Push : List A → List A → Form T
   Push found next ts = (x : A) × (next ≡ found ++ x ∷ []) × Item x ts
 
@@ -55,11 +53,9 @@ module _ {T A : Type 0} (Good : T → Type 0) (test : T → Bool) (last : Bool) 
       let both = EachIs-pop Within found p.0 (subst (EachIs Within) p.1 each) in
       ((λ y same. subst Within (last-same found p.0 y (sym p.1 ∙ same)) both.1), both.0)
 
-  separates-items : Separates Good test last separates Push (λ _. ItemNext) PushWithin (λ _. Deep) (EachIs Within)
+  separates-items : Separates Good test last separates Separator Push (λ _. ItemNext) PushWithin (λ _. Deep) (EachIs Within)
   separates-items = record {
-    separator = between.separator;
-    good = between.good;
-    is = between.is;
+    mark = between.mark;
     filled = λ found next front p. between.filled p.0 front p.2;
     starts = λ found next front rest p. between.starts p.0 front rest p.2;
     starts_deep = λ found front rest d. between.starts_deep front rest d;
@@ -72,18 +68,18 @@ module _ {T A : Type 0} (Good : T → Type 0) (test : T → Bool) (last : Bool) 
   }
 
   abbrev Turning : List A → Turn (List A) → Form T
-  Turning = TurnOf Good test last separates (λ found. (λ x. found ++ x ∷ []) <$> item) Push (λ _. ItemNext) PushWithin (λ _. Deep) (EachIs Within) separates-items push-rule
+  Turning = TurnOf Good test last separates Separator (λ found. (λ x. found ++ x ∷ []) <$> item) Push (λ _. ItemNext) PushWithin (λ _. Deep) (EachIs Within) separates-items push-rule
 
   -- ---- the list
 
-  more_apart : (x : A) (items : List A) (front comma back ts : List T) → ts ≡ front ++ (comma ++ back) → Item x front → Mark separates comma
-      → Separated separates Item items back → Separated separates Item (x ∷ items) ts
+  more_apart : (x : A) (items : List A) (front comma back ts : List T) → ts ≡ front ++ (comma ++ back) → Item x front → Separator comma
+      → Separated Separator Item items back → Separated Separator Item (x ∷ items) ts
   more_apart x [] front comma back ts is s m none =
-      record { front = front; back = comma ++ back; all = is; begins = s; ends = inr (subst (Mark separates) (sym (ap (λ l. comma ++ l) none ∙ append-nil comma)) m) }
+      record { front = front; back = comma ++ back; all = is; begins = s; ends = inr (subst (Separator) (sym (ap (λ l. comma ++ l) none ∙ append-nil comma)) m) }
   more_apart x (next ∷ items) front comma back ts is s m others =
       record { front = front; back = comma ++ back; all = is; begins = s; ends = record { front = comma; back = back; all = refl; begins = m; ends = others } }
 
-  adds : (n : ℕ) (found end : List A) (ts : List T) → Runs Turning n found end ts → Adds (Separated separates Item) found end ts
+  adds : (n : ℕ) (found end : List A) (ts : List T) → Runs Turning n found end ts → Adds (Separated Separator Item) found end ts
   adds zero found end ts walk = absurd walk
   adds (suc n) found end ts walk =
       ⊎_elim
@@ -107,7 +103,7 @@ module _ {T A : Type 0} (Good : T → Type 0) (test : T → Bool) (last : Bool) 
       })
       walk
 
-  one_more : (found items : List A) (x : A) (front comma back ts : List T) → ts ≡ front ++ (comma ++ back) → Item x front → Mark separates comma
+  one_more : (found items : List A) (x : A) (front comma back ts : List T) → ts ≡ front ++ (comma ++ back) → Item x front → Separator comma
       → Loop Turning (found ++ x ∷ []) ((found ++ x ∷ []) ++ items) back → Loop Turning found (found ++ x ∷ items) ts
   one_more found items x front comma back ts is s m more =
       subst (λ end. Loop Turning found end ts) (append_assoc found (x ∷ []) items)
@@ -119,14 +115,14 @@ module _ {T A : Type 0} (Good : T → Type 0) (test : T → Bool) (last : Bool) 
         ends = more.1;
       }))
 
-  last_one : (found : List A) (x : A) (front back ts : List T) → ts ≡ front ++ back → Item x front → LastSeparator separates back → Loop Turning found (found ++ x ∷ []) ts
+  last_one : (found : List A) (x : A) (front back ts : List T) → ts ≡ front ++ back → Item x front → LastSeparator Separator back → Loop Turning found (found ++ x ∷ []) ts
   last_one found x front back ts is s =
       ⊎_elim
       (λ none. (1, inl (inr (x, refl, subst (Item x) (sym (is ∙ ap (λ l. front ++ l) none ∙ append-nil front)) s))))
       (λ m. one_more found [] x front back [] ts (is ∙ ap (λ l. front ++ l) (sym (append-nil back))) s m
       (1, inl (inl (append-nil (found ++ x ∷ []), refl))))
 
-  runs : (items found : List A) (ts : List T) → Separated separates Item items ts → Loop Turning found (found ++ items) ts
+  runs : (items found : List A) (ts : List T) → Separated Separator Item items ts → Loop Turning found (found ++ items) ts
   runs [] found ts s = (1, inl (inl (append-nil found, s)))
   runs (x ∷ []) found ts s = last_one found x s.front s.back ts s.all s.begins s.ends
   runs (x ∷ next ∷ items) found ts s =
@@ -138,7 +134,7 @@ module _ {T A : Type 0} (Good : T → Type 0) (test : T → Bool) (last : Bool) 
 
   -- items with a separator after each, and then what leads to something too deep in one
   abbrev pub SeparatedDeep : Form T
-  SeparatedDeep ts = (items : List A) × ((Each (λ x. Item x ⋯ Mark separates) items ⋯ Deep) ts)
+  SeparatedDeep ts = (items : List A) × ((Each (λ x. Item x ⋯ Separator) items ⋯ Deep) ts)
 
   adds_deep : (n : ℕ) (found : List A) (ts : List T) → RunsDeep Turning (λ _. Deep) n found ts → SeparatedDeep ts
   adds_deep zero found ts walk = absurd walk
@@ -165,7 +161,7 @@ module _ {T A : Type 0} (Good : T → Type 0) (test : T → Bool) (last : Bool) 
       }))
       walk
 
-  runs_deep : (items found : List A) (front back ts : List T) → ts ≡ front ++ back → Each (λ x. Item x ⋯ Mark separates) items front → Deep back
+  runs_deep : (items found : List A) (front back ts : List T) → ts ≡ front ++ back → Each (λ x. Item x ⋯ Separator) items front → Deep back
       → LoopDeep Turning (λ _. Deep) found ts
   runs_deep [] found front back ts is s d = (1, inl (subst Deep (sym (is ∙ ap (λ l. l ++ back) s)) d))
   runs_deep (x ∷ items) found front back ts is s d =
@@ -179,13 +175,13 @@ module _ {T A : Type 0} (Good : T → Type 0) (test : T → Bool) (last : Bool) 
       }))
 
   -- items with separators up to where the test holds
-  pub separated-rule : IsRule Good (separated test last separates item) (Separated separates Item) (λ _ rest. tells test last rest ≡ true) (EachIs Within) SeparatedDeep
+  pub separated-rule : IsRule Good (separated test last separates item) (Separated Separator Item) (λ _ rest. tells test last rest ≡ true) (EachIs Within) SeparatedDeep
   unfolding separated
   separated-rule =
       same-rule Good (steps test last separates (λ found. (λ x. found ++ x ∷ []) <$> item) []) (Loop Turning []) (λ _ rest. tells test last rest ≡ true) (EachIs Within)
-      (LoopDeep Turning (λ _. Deep) []) (Separated separates Item) (λ _ rest. tells test last rest ≡ true) (EachIs Within) SeparatedDeep
+      (LoopDeep Turning (λ _. Deep) []) (Separated Separator Item) (λ _ rest. tells test last rest ≡ true) (EachIs Within) SeparatedDeep
       (record {
-        there = λ items ts s. let a = adds s.0 [] items ts s.1 in subst (λ l. Separated separates Item l ts) (sym a.added) a.spelled;
+        there = λ items ts s. let a = adds s.0 [] items ts s.1 in subst (λ l. Separated Separator Item l ts) (sym a.added) a.spelled;
         back = λ items ts s. runs items [] ts s;
         follow = λ items rest next. next;
         within = λ items each. each;
@@ -193,4 +189,4 @@ module _ {T A : Type 0} (Good : T → Type 0) (test : T → Bool) (last : Bool) 
         first = λ ts d. adds_deep d.0 [] ts d.1;
         deep = λ ts d. runs_deep d.0 [] d.1.front d.1.back ts d.1.all d.1.begins d.1.ends;
       })
-      (steps-rule Good test last separates (λ found. (λ x. found ++ x ∷ []) <$> item) Push (λ _. ItemNext) PushWithin (λ _. Deep) (EachIs Within) separates-items push-rule [] tt)
+      (steps-rule Good test last separates Separator (λ found. (λ x. found ++ x ∷ []) <$> item) Push (λ _. ItemNext) PushWithin (λ _. Deep) (EachIs Within) separates-items push-rule [] tt)

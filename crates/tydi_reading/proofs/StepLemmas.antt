@@ -1,12 +1,23 @@
 -- One reader and then another: each fact of the whole at given things, from those of the parts.
 use Rattle.std.proofs.Common.{◌≡◌, ℕ, ◌≤◌, ◌⊎◌, inl, inr, ⊎_elim, List, [], ◌∷◌, ◌++◌, All, length, refl, sym, ap, ◌∙◌, subst, arith, append_assoc}
 use Rattle.std.proofs.lemmas.List.{append-nil, length-append}
-use Rattle.std.proofs.lemmas.List.Elements.{All-append}
+use Rattle.std.proofs.lemmas.List.Elements.{All-append, All-nil, All-cons, All-head, All-tail}
 use Rattle.tydi_reading.specs.declared.fault.Fault.{Fault}
 use Rattle.tydi_reading.specs.declared.fault.Fault.TheVariants as faults
 use Rattle.tydi_reading.specs.Forms.{Form, ◌⋯◌, GoesOn}
 use Rattle.tydi_reading.specs.Reading.{Outcome, took, stopped, Reader, and_then, ◌>>=◌}
 use Rattle.tydi_reading.specs.Rules.{left, leaving, Local, Found, TooFar, Reached, Cut, CutDeep, Finishes, Stops}
+
+-- what holds of each of a list holds of each of its parts
+pub All-front : {X : Type 0} (P : X → Type 0) (all front back : List X) → all ≡ front ++ back → All P all → All P front
+All-front P all [] back is each = All-nil P
+All-front P all (x ∷ front) back is each =
+    let whole = subst (All P) is each in
+    All-cons P x front (All-head P x (front ++ back) whole) (All-front P (front ++ back) front back refl (All-tail P x (front ++ back) whole))
+
+pub All-back : {X : Type 0} (P : X → Type 0) (all front back : List X) → all ≡ front ++ back → All P all → All P back
+All-back P all [] back is each = subst (All P) is each
+All-back P all (x ∷ front) back is each = All-back P (front ++ back) front back refl (All-tail P x (front ++ back) (subst (All P) is each))
 
 -- what was read stays where the next thing stays
 pub lookahead : {T A : Type 0} (p : Reader T A) (ts rest : List T) (x : A) (l : Local p ts (took x rest)) (front after more : List T) (next : T)

@@ -7,7 +7,7 @@ use Rattle.tydi_reading.specs.declared.fault.Fault.TheVariants as faults
 use Rattle.tydi_reading.specs.Forms.{Form, ◌⋯◌, Nothing, Never, Anything, One, GoesOn}
 use Rattle.tydi_reading.specs.Reading.{Outcome, took, stopped, Reader, and_then, ◌>>=◌, ◌<$>◌, ◌<&>◌, pure, choose, tells, leaf, meant, too_deep}
 use Rattle.tydi_reading.specs.Rules.{left, leaving, Local, Found, TooFar, Reached, Cut, CutDeep, Finishes, Stops, IsRule}
-use Rattle.tydi_reading.proofs.StepLemmas.{local-then, local-same, sound-then, finishes-then, complete-then, stops-first, stops-second}
+use Rattle.tydi_reading.proofs.StepLemmas.{All-front, All-back, local-then, local-same, sound-then, finishes-then, complete-then, stops-first, stops-second}
 
 -- ---- what takes nothing
 
@@ -28,9 +28,9 @@ pure-rule {T} {A} Good Within x within = record {
   sound = λ ts rest y is.
       let both = took-pair x y ts rest is in
       record { front = []; split = both.1; spelled = (sym both.0, refl); within = subst Within both.0 within };
-  complete = λ front rest y s _. inl (ap (λ (z : A). took z (front ++ rest)) (sym s.0) ∙ ap (λ l. took y (l ++ rest)) s.1);
+  complete = λ front rest y _ s _. inl (ap (λ (z : A). took z (front ++ rest)) (sym s.0) ∙ ap (λ l. took y (l ++ rest)) s.1);
   finishes = λ ts rest e is. absurd (differ ts rest e is);
-  stops = λ front rest d. absurd d;
+  stops = λ front rest _ d. absurd d;
 }
   where
     differ : (ts rest : List T) (e : Fault) → ◌≡◌ {A = Outcome T A} (took x ts) (stopped e rest) → ⊥
@@ -42,17 +42,25 @@ pure-rule {T} {A} Good Within x within = record {
 pub All-one : {X : Type 0} (P : X → Type 0) (x : X) → P x → All P (x ∷ [])
 All-one P x p = All-cons P x [] p (All-nil P)
 
-pub leaf-rule : {T A : Type 0} (Good : T → Type 0) (meaning : T → Option A) (thing : T) (x : A) → Good thing → meaning thing ≡ Some x
-    → IsRule Good (leaf meaning) (One meaning) (λ _. Anything) (λ _. Unit {0}) Never
-leaf-rule {T} {A} Good meaning thing x good means = record {
-  example = record { value = x; more = thing ∷ []; good = All-one Good thing good; spelled = record { thing = thing; all = refl; is = means } };
+-- how a form is that of one thing with a meaning
+pub record IsLeaf {T A : Type 0} (Good : T → Type 0) (meaning : T → Option A) (Spelled : A → Form T) : Type 0 where
+  pub there : (x : A) (t : T) → meaning t ≡ Some x → Spelled x (t ∷ [])
+  pub back : (x : A) (ts : List T) → All Good ts → Spelled x ts → (t : T) × (ts ≡ t ∷ []) × (meaning t ≡ Some x)
+
+pub leaf-rule : {T A : Type 0} (Good : T → Type 0) (meaning : T → Option A) (Spelled : A → Form T) (thing : T) (x : A) → Good thing → meaning thing ≡ Some x
+    → IsLeaf Good meaning Spelled → IsRule Good (leaf meaning) Spelled (λ _. Anything) (λ _. Unit {0}) Never
+leaf-rule {T} {A} Good meaning Spelled thing x good means is_leaf = record {
+  example = example;
   local = local;
   sound = λ ts rest y is. sound ts rest y is;
-  complete = λ front rest y s _. inl (ap (λ l. leaf meaning (l ++ rest)) s.all ∙ ap (λ m. meant m rest (s.thing ∷ rest)) s.is);
+  complete = λ front rest y each s _. let o = is_leaf.back y front each s in inl (ap (λ l. leaf meaning (l ++ rest)) o.1 ∙ ap (λ m. meant m rest (o.0 ∷ rest)) o.2);
   finishes = λ ts rest e is. finishes ts rest e is;
-  stops = λ front rest d. absurd d;
+  stops = λ front rest _ d. absurd d;
 }
   where
+    example : GoesOn Good Spelled []
+    example = record { value = x; more = thing ∷ []; good = All-one Good thing good; spelled = is_leaf.there x thing means }
+
     stays : (t : T) (ts : List T) (made : Option A) → meaning t ≡ made → Local (leaf meaning) (t ∷ ts) (meant made ts (t ∷ ts))
     stays t ts (Some y) is = record { front = t ∷ []; split = refl; stays = λ next after more _. ap (λ m. meant m (next ∷ more) (t ∷ next ∷ more)) is }
     stays t ts None is = record {
@@ -68,37 +76,32 @@ leaf-rule {T} {A} Good meaning thing x good means = record {
     local (t ∷ ts) = stays t ts (meaning t) refl
 
     found : (t : T) (ts rest : List T) (y : A) (made : Option A) → meaning t ≡ made → meant made ts (t ∷ ts) ≡ took y rest
-        → Found (One meaning) (λ _. Unit {0}) (t ∷ ts) rest y
+        → Found Spelled (λ _. Unit {0}) (t ∷ ts) rest y
     found t ts rest y (Some z) means is =
         let both = took-pair z y ts rest is in
         record {
           front = t ∷ [];
           split = ap (λ l. t ∷ l) both.1;
-          spelled = record { thing = t; all = refl; is = means ∙ ap Some both.0 };
+          spelled = is_leaf.there y t (means ∙ ap Some both.0);
           within = tt;
         }
     found t ts rest y None means is = absurd cc
 
-    sound : (ts rest : List T) (y : A) → leaf meaning ts ≡ took y rest → Found (One meaning) (λ _. Unit {0}) ts rest y
+    sound : (ts rest : List T) (y : A) → leaf meaning ts ≡ took y rest → Found Spelled (λ _. Unit {0}) ts rest y
     sound [] rest y is = absurd cc
     sound (t ∷ ts) rest y is = found t ts rest y (meaning t) refl is
 
-    cut : (ts rest : List T) (e : Fault) → ◌≡◌ {A = Outcome T A} (stopped faults.Refused ts) (stopped e rest) → Finishes Good (One meaning) Never ts rest e
+    cut : (ts rest : List T) (e : Fault) → ◌≡◌ {A = Outcome T A} (stopped faults.Refused ts) (stopped e rest) → Finishes Good Spelled Never ts rest e
     cut ts rest e is =
         let both = stopped-pair faults.Refused e ts rest is in
-        subst (λ a. Finishes Good (One meaning) Never ts rest a) both.0
-        (record {
-          front = [];
-          split = both.1;
-          goes = record { value = x; more = thing ∷ []; good = All-one Good thing good; spelled = record { thing = thing; all = refl; is = means } };
-        })
+        subst (λ a. Finishes Good Spelled Never ts rest a) both.0 (record { front = []; split = both.1; goes = example })
 
     refused : (t : T) (ts rest : List T) (e : Fault) (made : Option A) → meant made ts (t ∷ ts) ≡ stopped e rest
-        → Finishes Good (One meaning) Never (t ∷ ts) rest e
+        → Finishes Good Spelled Never (t ∷ ts) rest e
     refused t ts rest e (Some z) is = absurd cc
     refused t ts rest e None is = cut (t ∷ ts) rest e is
 
-    finishes : (ts rest : List T) (e : Fault) → leaf meaning ts ≡ stopped e rest → Finishes Good (One meaning) Never ts rest e
+    finishes : (ts rest : List T) (e : Fault) → leaf meaning ts ≡ stopped e rest → Finishes Good Spelled Never ts rest e
     finishes [] rest e is = cut [] rest e is
     finishes (t ∷ ts) rest e is = refused t ts rest e (meaning t) is
 
@@ -131,11 +134,11 @@ then-rule {T} {A} {B} Good p f Spelled Follow Within First Second Follows Inside
   sound = λ ts rest y is.
       sound-then Spelled Second Whole joins.join Within Inside All joins.within f ts (p ts) (λ rest x is. one.sound ts rest x is)
       (λ middle rest x y _ is. (two x).sound middle rest y is) rest y is;
-  complete = λ front rest y s next. complete front rest y s next (joins.part y front s);
+  complete = λ front rest y good s next. complete front rest y good s next (joins.part y front s);
   finishes = λ ts rest e is.
       finishes-then Spelled Second Whole joins.join Good Within First Last Deep joins.first joins.last (λ x. (two x).example) f ts (p ts)
       (λ rest x is. one.sound ts rest x is) (λ rest e is. one.finishes ts rest e is) (λ middle rest x e _ is. (two x).finishes middle rest e is) rest e is;
-  stops = λ front rest d. stops front rest (joins.deep front d);
+  stops = λ front rest good d. stops front rest good (joins.deep front d);
 }
   where
     example : GoesOn Good Spelled [] → GoesOn Good Whole []
@@ -148,26 +151,26 @@ then-rule {T} {A} {B} Good p f Spelled Follow Within First Second Follows Inside
           spelled = joins.join goes.value other.value goes.more other.more goes.spelled other.spelled;
         }
 
-    complete : (front rest : List T) (y : B) → Whole y front → Next y rest → (x : A) × ((Spelled x ⋯ Second x y) front) → Reached All rest y ((p >>= f) (front ++ rest))
-    complete front rest y s next part =
+    complete : (front rest : List T) (y : B) → Rattle.std.proofs.Common.All Good front → Whole y front → Next y rest → (x : A) × ((Spelled x ⋯ Second x y) front) → Reached All rest y ((p >>= f) (front ++ rest))
+    complete front rest y good s next part =
         let x = part.0 in
         let b = part.1 in
         rw b.all
         (complete-then p f x b.front b.back rest Within (Inside x) All y (joins.apart x y b.back b.ends)
-        (one.complete b.front (b.back ++ rest) x b.begins (joins.follow x y b.back rest b.ends next))
-        ((two x).complete b.back rest y b.ends (joins.follows x y b.back rest b.ends next)))
+        (one.complete b.front (b.back ++ rest) x (All-front Good front b.front b.back b.all good) b.begins (joins.follow x y b.back rest b.ends next))
+        ((two x).complete b.back rest y (All-back Good front b.front b.back b.all good) b.ends (joins.follows x y b.back rest b.ends next)))
 
-    stops : (front rest : List T) → First front ⊎ ((x : A) × ((Spelled x ⋯ Last x) front)) → Stops rest ((p >>= f) (front ++ rest))
-    stops front rest =
+    stops : (front rest : List T) → Rattle.std.proofs.Common.All Good front → First front ⊎ ((x : A) × ((Spelled x ⋯ Last x) front)) → Stops rest ((p >>= f) (front ++ rest))
+    stops front rest good =
         ⊎_elim
-        (λ d. stops-first f rest (p (front ++ rest)) (one.stops front rest d))
+        (λ d. stops-first f rest (p (front ++ rest)) (one.stops front rest good d))
         (λ d.
         let x = d.0 in
         let b = d.1 in
         rw b.all
         (stops-second p f x b.front b.back rest Within
-        (one.complete b.front (b.back ++ rest) x b.begins (joins.follow_deep x b.back rest b.ends))
-        ((two x).stops b.back rest b.ends)))
+        (one.complete b.front (b.back ++ rest) x (All-front Good front b.front b.back b.all good) b.begins (joins.follow_deep x b.back rest b.ends))
+        ((two x).stops b.back rest (All-back Good front b.front b.back b.all good) b.ends)))
 
 -- ---- a function of what is read
 
@@ -249,9 +252,9 @@ module _ {T A : Type 0} (Good : T → Type 0) (p : Reader T A) (Spelled : A → 
     sound = λ ts rest x is.
         let f = one.sound ts rest x is in
         record { front = f.front; split = f.split; spelled = same.there x f.front f.spelled; within = same.within x f.within };
-    complete = λ front rest x s next. ⊎_elim inl
+    complete = λ front rest x good s next. ⊎_elim inl
         (λ far. inr (record { at = far.at; is = far.is; before = far.before; beyond = λ all. far.beyond (same.apart x all) }))
-        (one.complete front rest x (same.back x front s) (same.follow x rest next));
+        (one.complete front rest x good (same.back x front s) (same.follow x rest next));
     finishes = λ ts rest e is. finishes-same ts rest e (one.finishes ts rest e is);
-    stops = λ front rest d. one.stops front rest (same.deep front d);
+    stops = λ front rest good d. one.stops front rest good (same.deep front d);
   }

@@ -3,20 +3,18 @@ use Rattle.std.proofs.Common.{◌≡◌, ℕ, zero, suc, ◌<◌, ◌⊎◌, inl
 use Rattle.std.proofs.lemmas.List.{append-nil, length-append}
 use Rattle.std.proofs.lemmas.List.Elements.{All-nil}
 use Rattle.tydi_reading.specs.Forms.{Form, ◌⋯◌, Nothing, Never, Anything, GoesOn, Runs, Loop, RunsDeep, LoopDeep}
-use Rattle.tydi_reading.specs.Lists.{Each, EachIs, Mark, mark, Separated, LastSeparator, separator_turn, steps_turn, steps}
+use Rattle.tydi_reading.specs.Lists.{mark, separator_turn, steps_turn, steps}
 use Rattle.tydi_reading.specs.Reading.{Reader, Turn, again, done, tells, pure, ◌<$>◌, ◌>>=◌, choose, loop}
 use Rattle.tydi_reading.specs.Rules.{IsRule}
 use Rattle.tydi_reading.proofs.ChoiceRules.{choose-rule}
 use Rattle.tydi_reading.proofs.LoopRules.{Turns, loop-rule}
-use Rattle.tydi_reading.proofs.MarkLemmas.{Mark-tells, Mark-filled, Mark-is, mark-rule}
+use Rattle.tydi_reading.proofs.MarkLemmas.{IsMark, Mark-tells, mark-rule}
 use Rattle.tydi_reading.proofs.StepRules.{Only, pure-rule, map-rule, same-rule, then-rule}
 
 -- the steps may stand with such separators between them up to where the test holds
-pub record Separates {T S : Type 0} (Good : T → Type 0) (test : T → Bool) (last : Bool) (separates : T → Bool) (Step : S → S → Form T) (StepNext : S → Form T)
+pub record Separates {T S : Type 0} (Good : T → Type 0) (test : T → Bool) (last : Bool) (separates : T → Bool) (Separator : Form T) (Step : S → S → Form T) (StepNext : S → Form T)
     (StepWithin : S → S → Type 0) (Deep : S → Form T) (Within : S → Type 0) : Type 0 where
-  pub separator : T
-  pub good : Good separator
-  pub is : separates separator ≡ true
+  pub mark : IsMark Good separates Separator
   pub filled : (s next : S) (front : List T) → Step s next front → 0 < length front
   pub starts : (s next : S) (front rest : List T) → Step s next front → tells test last (front ++ rest) ≡ false
   pub starts_deep : (s : S) (front rest : List T) → Deep s front → tells test last (front ++ rest) ≡ false
@@ -27,21 +25,21 @@ pub record Separates {T S : Type 0} (Good : T → Type 0) (test : T → Bool) (l
   pub within : (s next : S) (front : List T) → Step s next front → StepWithin s next → Within s → Within next
   pub unwithin : (s next : S) (front : List T) → Step s next front → Within next → StepWithin s next × Within s
 
-module _ {T S : Type 0} (Good : T → Type 0) (test : T → Bool) (last : Bool) (separates : T → Bool) (step : S → Reader T S) (Step : S → S → Form T) (StepNext : S → Form T)
-    (StepWithin : S → S → Type 0) (Deep : S → Form T) (Within : S → Type 0) (between : Separates Good test last separates Step StepNext StepWithin Deep Within)
+module _ {T S : Type 0} (Good : T → Type 0) (test : T → Bool) (last : Bool) (separates : T → Bool) (Separator : Form T) (step : S → Reader T S) (Step : S → S → Form T) (StepNext : S → Form T)
+    (StepWithin : S → S → Type 0) (Deep : S → Form T) (Within : S → Type 0) (between : Separates Good test last separates Separator Step StepNext StepWithin Deep Within)
     (rule : (s : S) → IsRule Good (step s) (Step s) StepNext (StepWithin s) (Deep s)) where
   -- ---- after a step
 
   abbrev After : S → Turn (S) → Form T
   After found (done end) ts = (end ≡ found) × (ts ≡ [])
-  After found (again next) ts = (next ≡ found) × Mark separates ts
+  After found (again next) ts = (next ≡ found) × Separator ts
 
   abbrev AfterNext : Turn (S) → Form T
   AfterNext (done end) rest = tells separates false rest ≡ false
   AfterNext (again next) rest = Unit {0}
 
   Marked : S → Turn (S) → Form T
-  Marked found t ts = (t ≡ again found) × Mark separates ts
+  Marked found t ts = (t ≡ again found) × Separator ts
 
   of_marked : (found : S) (t : Turn (S)) (ts : List T) → Marked found t ts → After found t ts
   unfolding Marked
@@ -72,7 +70,7 @@ module _ {T S : Type 0} (Good : T → Type 0) (test : T → Bool) (last : Bool) 
         which = which_after found;
         one_next = λ t front rest s next. tt;
         other_next = λ t front rest s next. tt;
-        one_begins = λ t front rest s next. Mark-tells separates front rest s.1;
+        one_begins = λ t front rest s next. Mark-tells Good separates Separator between.mark front rest s.1;
         other_begins = end_begins found;
         one_deep = λ ts d. d;
         other_deep = λ ts d. d;
@@ -80,7 +78,7 @@ module _ {T S : Type 0} (Good : T → Type 0) (test : T → Bool) (last : Bool) 
         one_deep_begins = λ front rest d. absurd d;
         other_deep_begins = λ front rest d. absurd d;
       })
-      (map-rule Good (λ _. again found) (mark separates) (λ _. Mark separates) (λ _. Anything) (λ _. Unit {0}) Never
+      (map-rule Good (λ _. again found) (mark separates) (λ _. Separator) (λ _. Anything) (λ _. Unit {0}) Never
       (Marked found) (λ _. Anything) (λ _. Unit {0}) Never
       (record {
         there = λ x ts s. (refl, s);
@@ -91,14 +89,14 @@ module _ {T S : Type 0} (Good : T → Type 0) (test : T → Bool) (last : Bool) 
         first = λ ts d. d;
         deep = λ ts d. d;
       })
-      (mark-rule Good separates between.separator between.good between.is))
+      (mark-rule Good separates Separator between.mark))
       (pure-rule Good (λ _. Unit {0}) (done found) tt)
 
   -- ---- a step and what follows it
 
   abbrev Part : S → Turn S → Form T
   Part s (done end) ts = Step s end ts
-  Part s (again next) ts = (Step s next ⋯ Mark separates) ts
+  Part s (again next) ts = (Step s next ⋯ Separator) ts
 
   abbrev Follow : Turn S → Form T
   Follow (done end) rest = tells test last rest ≡ true
@@ -120,7 +118,7 @@ module _ {T S : Type 0} (Good : T → Type 0) (test : T → Bool) (last : Bool) 
   follow : (x : S) (t : Turn S) (back rest : List T) → After x t back → Follow t rest → StepNext x (back ++ rest)
   follow x (done end) back rest a next = rw a.1 (between.before_end x rest next)
   follow x (again next) back rest a _ =
-      let m = a.1 in rw m.all (between.before_separator x m.thing rest (Mark-is separates back m))
+      let o = between.mark.back back a.1 in rw o.1 (between.before_separator x o.0 rest o.2)
 
   follows : (x : S) (t : Turn S) (back rest : List T) → After x t back → Follow t rest → AfterNext t rest
   follows x (done end) back rest a next = between.apart rest next
@@ -156,7 +154,7 @@ module _ {T S : Type 0} (Good : T → Type 0) (test : T → Bool) (last : Bool) 
 
   abbrev pub TurnOf : S → Turn S → Form T
   TurnOf s (done end) ts = Only s end ts ⊎ Step s end ts
-  TurnOf s (again next) ts = (Step s next ⋯ Mark separates) ts
+  TurnOf s (again next) ts = (Step s next ⋯ Separator) ts
 
   of_only : (s : S) (t : Turn S) (ts : List T) → Only (done s) t ts → TurnOf s t ts
   of_only s (done end) ts o = inl (let is : done end ≡ done s = o.0 in cc, o.1)

@@ -1,6 +1,6 @@
 -- Lists of things of one form: readers, under the names of the forms. This project's own.
 use Rattle.std.specs.Prelude.{◌≡◌, ◌⊎◌, Bool, true, false, not, List, [], ◌∷◌, ◌++◌, Option, Some, None, if◌then◌else◌}
-use Rattle.tydi_reading.specs.Forms.{Form, ◌⋯◌, Nothing, One}
+use Rattle.tydi_reading.specs.Forms.{Form, ◌⋯◌, Nothing}
 use Rattle.tydi_reading.specs.Reading.{Reader, ◌>>=◌, ◌>>◌, ◌<$>◌, pure, choose, leaf, Turn, again, done, loop}
 
 -- such a thing, and no other, has a meaning
@@ -10,10 +10,6 @@ mark_of is thing = if is thing then Some tt else None
 -- takes such a thing
 abbrev pub mark : {T : Type 0} → (T → Bool) → Reader T (Unit {0})
 mark is = leaf (mark_of is)
-
--- such a thing
-abbrev pub Mark : {T : Type 0} → (T → Bool) → Form T
-Mark is = One (mark_of is) tt
 
 -- ---- one after another
 
@@ -37,14 +33,14 @@ repeated test last item = loop (repeated_turn test last item) []
 
 -- ---- with a separator between each two, and a last one or none
 
-abbrev pub LastSeparator : {T : Type 0} → (T → Bool) → Form T
-LastSeparator separates ts = Nothing ts ⊎ Mark separates ts
+abbrev pub LastSeparator : {T : Type 0} → Form T → Form T
+LastSeparator Separator ts = Nothing ts ⊎ Separator ts
 
 -- items with a separator between each two, and a last one or none
-abbrev pub Separated : {T A : Type 0} → (T → Bool) → (A → Form T) → List A → Form T
-Separated separates Item [] = Nothing
-Separated separates Item (item ∷ []) = Item item ⋯ LastSeparator separates
-Separated separates Item (item ∷ next ∷ items) = Item item ⋯ Mark separates ⋯ Separated separates Item (next ∷ items)
+abbrev pub Separated : {T A : Type 0} → Form T → (A → Form T) → List A → Form T
+Separated Separator Item [] = Nothing
+Separated Separator Item (item ∷ []) = Item item ⋯ LastSeparator Separator
+Separated Separator Item (item ∷ next ∷ items) = Item item ⋯ Separator ⋯ Separated Separator Item (next ∷ items)
 
 -- after a step: a separator, with which the steps may go on, or their end
 unfoldable pub separator_turn : {T S : Type 0} → (T → Bool) → S → Reader T (Turn S)
@@ -64,10 +60,10 @@ separated test last separates item = steps test last separates (λ found. (λ x.
 
 -- ---- joined: one at least, with a joint between each two
 
-abbrev pub Joined : {T A : Type 0} → (T → Bool) → (A → Form T) → List A → Form T
-Joined joins Item [] = λ _. ⊥
-Joined joins Item (item ∷ []) = Item item
-Joined joins Item (item ∷ next ∷ items) = Item item ⋯ Mark joins ⋯ Joined joins Item (next ∷ items)
+abbrev pub Joined : {T A : Type 0} → Form T → (A → Form T) → List A → Form T
+Joined Joint Item [] = λ _. ⊥
+Joined Joint Item (item ∷ []) = Item item
+Joined Joint Item (item ∷ next ∷ items) = Item item ⋯ Joint ⋯ Joined Joint Item (next ∷ items)
 
 -- items with a joint between each two, one at least
 unfoldable pub joined : {T A : Type 0} → (T → Bool) → Reader T A → Reader T (List A)

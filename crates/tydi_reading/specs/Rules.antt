@@ -1,5 +1,5 @@
 -- What makes a reader a rule: it reads exactly what its form spells, and where it stops nothing of the form goes on. This project's own.
-use Rattle.std.specs.Prelude.{◌≡◌, ◌≤◌, ◌⊎◌, List, [], ◌∷◌, ◌++◌, length}
+use Rattle.std.specs.Prelude.{◌≡◌, ◌≤◌, ◌⊎◌, List, [], ◌∷◌, ◌++◌, length, All}
 use Rattle.tydi_reading.specs.declared.fault.Fault.{Fault}
 use Rattle.tydi_reading.specs.declared.fault.Fault.TheVariants as faults
 use Rattle.tydi_reading.specs.Forms.{Form, GoesOn}
@@ -74,6 +74,6 @@ pub record IsRule {T A : Type 0} (Good : T → Type 0) (read : Reader T A) (Spel
   pub example : GoesOn Good Spelled []
   pub local : (ts : List T) → Local read ts (read ts)
   pub sound : (ts rest : List T) (x : A) → read ts ≡ took x rest → Found Spelled Within ts rest x
-  pub complete : (front rest : List T) (x : A) → Spelled x front → Next x rest → Reached Within rest x (read (front ++ rest))
+  pub complete : (front rest : List T) (x : A) → All Good front → Spelled x front → Next x rest → Reached Within rest x (read (front ++ rest))
   pub finishes : (ts rest : List T) (e : Fault) → read ts ≡ stopped e rest → Finishes Good Spelled Deep ts rest e
-  pub stops : (front rest : List T) → Deep front → Stops rest (read (front ++ rest))
+  pub stops : (front rest : List T) → All Good front → Deep front → Stops rest (read (front ++ rest))
