@@ -120,6 +120,47 @@ choose-rule {T} {A} Good test last p q One OneNext OneDeep Other OtherNext Other
         (λ d. rw (chosen test last p q (front ++ rest) true (c.one_deep_begins front rest d)) (a.stops front rest good d))
         (λ d. rw (chosen test last p q (front ++ rest) false (c.other_deep_begins front rest d)) (b.stops front rest good d))
 
+-- a choice of a rule, or of what refuses all
+pub stop-rule : {T A : Type 0} (Good : T → Type 0) (test : T → Bool) (last : Bool) (p q : Reader T A) (One : A → Form T) (OneNext Next : A → Form T) (Within : A → Type 0) (Deep : Form T)
+    → ((ts : List T) → q ts ≡ stopped faults.Refused ts)
+    → ((x : A) (front rest : List T) → One x front → Next x rest → OneNext x rest)
+    → ((x : A) (front rest : List T) → One x front → Next x rest → tells test last (front ++ rest) ≡ true)
+    → ((front rest : List T) → Deep front → tells test last (front ++ rest) ≡ true)
+    → IsRule Good p One OneNext Within Deep → IsRule Good (choose test last p q) One Next Within Deep
+stop-rule {T} {A} Good test last p q One OneNext Next Within Deep refuses next begins begins_deep a = record {
+  example = a.example;
+  local = λ ts. local ts (tells test last ts) refl;
+  sound = λ ts rest x is. sound ts rest x (tells test last ts) refl is;
+  complete = λ front rest x good s after.
+      rw (chosen test last p q (front ++ rest) true (begins x front rest s after)) (a.complete front rest x good s (next x front rest s after));
+  finishes = λ ts rest e is. finishes ts rest e (tells test last ts) refl is;
+  stops = λ front rest good d. rw (chosen test last p q (front ++ rest) true (begins_deep front rest d)) (a.stops front rest good d);
+}
+  where
+    refused : (ts : List T) → Local q ts (q ts)
+    refused ts = rw (refuses ts) (record { front = []; split = refl; stays = λ u after more is. refuses (u ∷ more) })
+
+    local : (ts : List T) (v : Bool) → tells test last ts ≡ v → Local (choose test last p q) ts (choose test last p q ts)
+    local ts true is = local-choose test last p q ts true is (a.local ts)
+    local ts false is = local-choose test last p q ts false is (refused ts)
+
+    never : (ts rest : List T) (x : A) → q ts ≡ took x rest → ⊥
+    never ts rest x is = let no : ◌≡◌ {A = Outcome T A} (stopped faults.Refused ts) (took x rest) = sym (refuses ts) ∙ is in cc
+
+    sound : (ts rest : List T) (x : A) (v : Bool) → tells test last ts ≡ v → choose test last p q ts ≡ took x rest → Found One Within ts rest x
+    sound ts rest x true is read = a.sound ts rest x (sym (chosen test last p q ts true is) ∙ read)
+    sound ts rest x false is read = absurd (never ts rest x (sym (chosen test last p q ts false is) ∙ read))
+
+    cut : (ts rest : List T) (e : Fault) → ◌≡◌ {A = Outcome T A} (stopped faults.Refused ts) (stopped e rest) → Finishes Good One Deep ts rest e
+    cut ts rest e is =
+        let same : faults.Refused ≡ e = cc in
+        let place : ts ≡ rest = cc in
+        subst (Finishes Good One Deep ts rest) same (record { front = []; split = place; goes = a.example })
+
+    finishes : (ts rest : List T) (e : Fault) (v : Bool) → tells test last ts ≡ v → choose test last p q ts ≡ stopped e rest → Finishes Good One Deep ts rest e
+    finishes ts rest e true is read = a.finishes ts rest e (sym (chosen test last p q ts true is) ∙ read)
+    finishes ts rest e false is read = cut ts rest e (sym (refuses ts) ∙ sym (chosen test last p q ts false is) ∙ read)
+
 -- ---- both of two
 
 pub both-rule : {T A B : Type 0} (Good : T → Type 0) (p : Reader T A) (q : Reader T B) (One : A → Form T) (OneNext : A → Form T) (OneWithin : A → Type 0) (OneDeep : Form T)

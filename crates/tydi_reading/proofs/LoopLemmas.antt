@@ -3,7 +3,7 @@ use Rattle.std.proofs.Common.{◌≡◌, ℕ, zero, suc, ◌<◌, ◌≤◌, Boo
 use Rattle.std.specs.Prelude.{Result, OnOk}
 use Rattle.tydi_reading.specs.declared.fault.Fault.{Fault}
 use Rattle.tydi_reading.specs.declared.fault.Fault.TheVariants as faults
-use Rattle.tydi_reading.specs.Lists.{repeated_turn, steps_turn, separator_turn, mark, mark_of}
+use Rattle.tydi_reading.specs.Lists.{repeated_turn, steps_turn, separator_turn, mark}
 use Rattle.tydi_reading.specs.Reading.{Outcome, took, stopped, Reader, Reads, Shrinks, and_then, ◌>>=◌, ◌<$>◌, pure, choose, meant, leaf, Turn, again, done, turned, loop_from, loop, tells}
 
 -- each turn takes a thing where the loop goes on
@@ -66,16 +66,17 @@ repeated_turn-advances {T} {A} test last item shrinks = record { less = λ found
 
 -- a separator, or none, leaves no more things than there were
 separator-least : {T S : Type 0} (separates : T → Bool) (s : S) (ts rest : List T) (t : Turn S) → separator_turn separates s ts ≡ took t rest → length rest ≤ length ts
-unfolding separator_turn
+unfolding separator_turn mark
 separator-least {T} {S} separates s [] rest t is = let both = took-both (done s) t [] rest is in let same = ap length both.1 in omega arith
 separator-least {T} {S} separates s (u ∷ ts) rest t is = of_test (separates u) is
   where
-    of_meaning : (o : Option (Unit {0})) → and_then (meant o ts (u ∷ ts)) (λ _. pure (again s)) ≡ took t rest → length rest ≤ length (u ∷ ts)
-    of_meaning (Some _) is = let both = took-both (again s) t ts rest is in let same = ap length both.1 in omega arith
-    of_meaning None is = absurd cc
+    of_mark : (b : Bool) → and_then (cond {A = Outcome T (Unit {0})} b (took tt ts) (stopped faults.Refused (u ∷ ts))) (λ _. pure (again s)) ≡ took t rest
+        → length rest ≤ length (u ∷ ts)
+    of_mark true is = let both = took-both (again s) t ts rest is in let same = ap length both.1 in omega arith
+    of_mark false is = absurd cc
 
     of_test : (b : Bool) → (cond {A = Reader T (Turn S)} b ((λ _. again s) <$> mark separates) (pure (done s))) (u ∷ ts) ≡ took t rest → length rest ≤ length (u ∷ ts)
-    of_test true is = of_meaning (mark_of separates u) is
+    of_test true is = of_mark (separates u) is
     of_test false is = let both = took-both (done s) t (u ∷ ts) rest is in let same = ap length both.1 in omega arith
 
 pub steps_turn-advances : {T S : Type 0} (test : T → Bool) (last : Bool) (separates : T → Bool) (step : S → Reader T S) → ((s : S) → Shrinks (step s))

@@ -68,7 +68,7 @@ module _ {T A : Type 0} (Good : T → Type 0) (test : T → Bool) (last : Bool) 
   }
 
   abbrev Turning : List A → Turn (List A) → Form T
-  Turning = TurnOf Good test last separates Separator (λ found. (λ x. found ++ x ∷ []) <$> item) Push (λ _. ItemNext) PushWithin (λ _. Deep) (EachIs Within) separates-items push-rule
+  Turning = TurnOf Good test last separates Separator (λ found. (λ x. found ++ x ∷ []) <$> item) Push (λ _. ItemNext) PushWithin (λ _. Deep) (EachIs Within) separates-items (λ found. inl (push-rule found))
 
   -- ---- the list
 
@@ -189,4 +189,4 @@ module _ {T A : Type 0} (Good : T → Type 0) (test : T → Bool) (last : Bool) 
         first = λ ts d. adds_deep d.0 [] ts d.1;
         deep = λ ts d. runs_deep d.0 [] d.1.front d.1.back ts d.1.all d.1.begins d.1.ends;
       })
-      (steps-rule Good test last separates Separator (λ found. (λ x. found ++ x ∷ []) <$> item) Push (λ _. ItemNext) PushWithin (λ _. Deep) (EachIs Within) separates-items push-rule [] tt)
+      (steps-rule Good test last separates Separator (λ found. (λ x. found ++ x ∷ []) <$> item) Push (λ _. ItemNext) PushWithin (λ _. Deep) (EachIs Within) separates-items (λ found. inl (push-rule found)) [] tt)

@@ -36,6 +36,12 @@ pure-rule {T} {A} Good Within x within = record {
     differ : (ts rest : List T) (e : Fault) → ◌≡◌ {A = Outcome T A} (took x ts) (stopped e rest) → ⊥
     differ ts rest e is = cc
 
+-- ---- readers that read the same
+
+pub read-rule : {T A : Type 0} (Good : T → Type 0) (p q : Reader T A) (Spelled : A → Form T) (Next : A → Form T) (Within : A → Type 0) (Deep : Form T)
+    → ((ts : List T) → p ts ≡ q ts) → IsRule Good p Spelled Next Within Deep → IsRule Good q Spelled Next Within Deep
+read-rule Good p q Spelled Next Within Deep same rule = subst (λ r. IsRule Good r Spelled Next Within Deep) (λ i. λ ts. same ts i) rule
+
 -- ---- one thing
 
 -- what holds of the one thing holds of each

@@ -4,9 +4,10 @@ use Rattle.std.proofs.lemmas.List.{append-nil, length-append}
 use Rattle.std.proofs.lemmas.List.Elements.{All-nil}
 use Rattle.tydi_reading.specs.Forms.{Form, ◌⋯◌, Nothing, Never, Anything, GoesOn, Runs, Loop, RunsDeep, LoopDeep}
 use Rattle.tydi_reading.specs.Lists.{mark, separator_turn, steps_turn, steps}
-use Rattle.tydi_reading.specs.Reading.{Reader, Turn, again, done, tells, pure, ◌<$>◌, ◌>>=◌, choose, loop}
+use Rattle.tydi_reading.specs.declared.fault.Fault.TheVariants as faults
+use Rattle.tydi_reading.specs.Reading.{Reader, stopped, and_then, Turn, again, done, tells, pure, ◌<$>◌, ◌>>=◌, choose, loop}
 use Rattle.tydi_reading.specs.Rules.{IsRule}
-use Rattle.tydi_reading.proofs.ChoiceRules.{choose-rule}
+use Rattle.tydi_reading.proofs.ChoiceRules.{choose-rule, stop-rule}
 use Rattle.tydi_reading.proofs.LoopRules.{Turns, loop-rule}
 use Rattle.tydi_reading.proofs.MarkLemmas.{IsMark, Mark-tells, mark-rule}
 use Rattle.tydi_reading.proofs.StepRules.{Only, pure-rule, map-rule, same-rule, then-rule}
@@ -25,9 +26,15 @@ pub record Separates {T S : Type 0} (Good : T → Type 0) (test : T → Bool) (l
   pub within : (s next : S) (front : List T) → Step s next front → StepWithin s next → Within s → Within next
   pub unwithin : (s next : S) (front : List T) → Step s next front → Within next → StepWithin s next × Within s
 
+-- no step goes on from this state
+pub record IsStuck {T S : Type 0} (step : Reader T S) (Step : S → Form T) (Deep : Form T) : Type 0 where
+  pub refuses : (ts : List T) → step ts ≡ stopped faults.Refused ts
+  pub none : (next : S) (ts : List T) → Step next ts → ⊥
+  pub none_deep : (ts : List T) → Deep ts → ⊥
+
 module _ {T S : Type 0} (Good : T → Type 0) (test : T → Bool) (last : Bool) (separates : T → Bool) (Separator : Form T) (step : S → Reader T S) (Step : S → S → Form T) (StepNext : S → Form T)
     (StepWithin : S → S → Type 0) (Deep : S → Form T) (Within : S → Type 0) (between : Separates Good test last separates Separator Step StepNext StepWithin Deep Within)
-    (rule : (s : S) → IsRule Good (step s) (Step s) StepNext (StepWithin s) (Deep s)) where
+    (rule : (s : S) → IsRule Good (step s) (Step s) StepNext (StepWithin s) (Deep s) ⊎ IsStuck (step s) (Step s) (Deep s)) where
   -- ---- after a step
 
   abbrev After : S → Turn (S) → Form T
@@ -132,8 +139,8 @@ module _ {T S : Type 0} (Good : T → Type 0) (test : T → Bool) (last : Bool) 
   step_within s x (done end) back a inside = (subst (StepWithin s) a.0 inside, tt)
   step_within s x (again next) back a inside = (subst (StepWithin s) a.0 inside, tt)
 
-  part-rule : (s : S) → IsRule Good (step s >>= separator_turn separates) (Part s) Follow (Inside s) (Deep s)
-  part-rule s =
+  part-rule : (s : S) → IsRule Good (step s) (Step s) StepNext (StepWithin s) (Deep s) → IsRule Good (step s >>= separator_turn separates) (Part s) Follow (Inside s) (Deep s)
+  part-rule s one =
       then-rule Good (step s) (separator_turn separates) (Step s) StepNext (StepWithin s) (Deep s)
       After (λ x. AfterNext) (λ x t. Unit {0}) (λ x. Never) (Part s) Follow (Inside s) (Deep s)
       (record {
@@ -148,7 +155,7 @@ module _ {T S : Type 0} (Good : T → Type 0) (test : T → Bool) (last : Bool) 
         deep = λ ts d. inl d;
         follow_deep = λ x back rest d. absurd d;
       })
-      (rule s) after-rule
+      one after-rule
 
   -- ---- a turn
 
@@ -176,9 +183,32 @@ module _ {T S : Type 0} (Good : T → Type 0) (test : T → Bool) (last : Bool) 
   part_begins s (done end) front rest p next = between.starts s end front rest p
   part_begins s (again next) front rest b _ = rw (b.all, append_assoc b.front b.back rest) (between.starts s next b.front (b.back ++ rest) b.begins)
 
-  turn-rule : (s : S) → IsRule Good (steps_turn test last separates step s) (TurnOf s) Follow (Inside s) (Deep s)
+  no_part : (s : S) → IsStuck (step s) (Step s) (Deep s) → (t : Turn S) (ts : List T) → Part s t ts → ⊥
+  no_part s stuck (done end) ts p = stuck.none end ts p
+  no_part s stuck (again next) ts p = stuck.none next p.front p.begins
+
+  stuck-rule : (s : S) → IsStuck (step s) (Step s) (Deep s) → IsRule Good (steps_turn test last separates step s) (TurnOf s) Follow (Inside s) (Deep s)
   unfolding steps_turn
-  turn-rule s =
+  stuck-rule s stuck =
+      same-rule Good (choose test last (pure (done s)) (step s >>= separator_turn separates)) (Only (done s)) Follow (Inside s) Never
+      (TurnOf s) Follow (Inside s) (Deep s)
+      (record {
+        there = of_only s;
+        back = λ t ts one. ⊎_elim (λ o. o) (λ p. absurd (no_part s stuck t ts p)) (which s t ts one);
+        follow = λ t rest next. next;
+        within = λ t w. w;
+        apart = λ t w. w;
+        first = λ ts d. absurd d;
+        deep = λ ts d. stuck.none_deep ts d;
+      })
+      (stop-rule Good test last (pure (done s)) (step s >>= separator_turn separates) (Only (done s)) (λ _. Anything) Follow (Inside s) Never
+      (λ ts. ap (λ o. and_then o (separator_turn separates)) (stuck.refuses ts))
+      (λ t front rest o next. tt) (begins s) (λ front rest d. absurd d)
+      (pure-rule Good (Inside s) (done s) (between.idle s)))
+
+  go-rule : (s : S) → IsRule Good (step s) (Step s) StepNext (StepWithin s) (Deep s) → IsRule Good (steps_turn test last separates step s) (TurnOf s) Follow (Inside s) (Deep s)
+  unfolding steps_turn
+  go-rule s one =
       choose-rule Good test last (pure (done s)) (step s >>= separator_turn separates) (Only (done s)) (λ _. Anything) Never
       (Part s) Follow (Deep s) (TurnOf s) Follow (Inside s) (Deep s)
       (record {
@@ -196,7 +226,10 @@ module _ {T S : Type 0} (Good : T → Type 0) (test : T → Bool) (last : Bool) 
         other_deep_begins = between.starts_deep s;
       })
       (pure-rule Good (Inside s) (done s) (between.idle s))
-      (part-rule s)
+      (part-rule s one)
+
+  turn-rule : (s : S) → IsRule Good (steps_turn test last separates step s) (TurnOf s) Follow (Inside s) (Deep s)
+  turn-rule s = ⊎_elim (go-rule s) (stuck-rule s) (rule s)
 
   -- ---- the loop
 

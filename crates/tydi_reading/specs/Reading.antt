@@ -1,5 +1,5 @@
 -- The steps of which readers are made, over things of any type. This project's own.
-use Rattle.std.specs.Prelude.{◌≡◌, ◌≢◌, ◌<◌, ℕ, zero, suc, Bool, true, false, List, [], ◌∷◌, length, Option, Some, None, Result, Ok, Err, if◌then◌else◌}
+use Rattle.std.specs.Prelude.{◌≡◌, ◌≢◌, ◌<◌, ℕ, zero, suc, Bool, true, false, List, [], ◌∷◌, length, Option, Some, None, option_and_then, Result, Ok, Err, if◌then◌else◌}
 use Rattle.tydi_reading.specs.declared.fault.Fault.{Fault}
 use Rattle.tydi_reading.specs.declared.fault.Fault.TheVariants as faults
 
@@ -111,8 +111,7 @@ checked meaning p = p >>= (λ x. λ rest. meant (meaning x) rest rest)
 
 -- takes the next thing, which is to have a meaning, and gives the meaning
 abbrev pub leaf : {T A : Type 0} → (T → Option A) → Reader T A
-leaf meaning [] = refuse []
-leaf meaning (next ∷ rest) = meant (meaning next) rest (next ∷ rest)
+leaf meaning = λ ts. meant (option_and_then meaning (first ts)) (rest_of ts) ts
 
 -- what may not stand here, inside as many others as are allowed: told where it begins
 abbrev pub too_deep : {T A : Type 0} → (T → Bool) → Reader T A

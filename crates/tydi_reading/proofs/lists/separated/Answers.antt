@@ -1,6 +1,6 @@
 use Rattle.std.proofs.Common.{rules, arith, true, [], ◌∷◌, ◌++◌}
 use Rattle.std.proofs.lemmas.Grind.{common_steps}
-use Rattle.tydi_reading.specs.Lists.{separated, steps, steps_turn, separator_turn}
+use Rattle.tydi_reading.specs.Lists.{separated, steps, steps_turn, separator_turn, mark}
 use Rattle.tydi_reading.specs.Reading.{◌<$>◌}
 use Rattle.tydi_reading.proofs.LoopLemmas.{loop_unfolds, separated_turn-advances}
 use Rattle.tydi_reading.proofs.lists.separated.Goals as goal
@@ -15,7 +15,7 @@ returns-in_err-item g c read end separator reads shrinks d e =
     first_of (search rules, grind (arith, common_steps))
 
 pub returns-then-not-sees : goal.returns-then-not-sees
-unfolding separated steps steps_turn separator_turn
+unfolding separated steps steps_turn separator_turn mark
 returns-then-not-sees g c read end separator reads shrinks d e =
     let turn = loop_unfolds (steps_turn end true separator (λ found. (λ x. found ++ x ∷ []) <$> read)) (separated_turn-advances end true separator read shrinks) c.items.items c.items.cursor in
     let so_far = c.items.invariant read end separator reads shrinks d e in
@@ -25,7 +25,7 @@ returns-then-not-sees g c read end separator reads shrinks d e =
     first_of (search rules, grind (arith, common_steps))
 
 pub items-preserved : goal.items-preserved
-unfolding steps_turn separator_turn
+unfolding steps_turn separator_turn mark
 items-preserved g c read end separator reads shrinks d e =
     let turn = loop_unfolds (steps_turn end true separator (λ found. (λ x. found ++ x ∷ []) <$> read)) (separated_turn-advances end true separator read shrinks) c.items.items c.items.cursor in
     let so_far = c.items.invariant read end separator reads shrinks d e in
