@@ -179,7 +179,7 @@ both-rule {T} {A} {B} Good p q One OneNext OneWithin OneDeep Other OtherNext Oth
       follow = λ x z back rest s next. follow x z.1 back rest s.1 next;
       follows = λ x z back rest s next. next;
       within = λ x z back s w v. (subst OneWithin s.0 w, v);
-      apart = λ x z back s all. (subst OneWithin (sym s.0) all.0, all.1);
+      apart = λ x z front back _ s all. (subst OneWithin (sym s.0) all.0, all.1);
       first = λ ts d. inl d;
       last = λ x front back s d. inr (x, record { front = front; back = back; all = refl; begins = s; ends = d });
       deep = λ ts d. d;

@@ -123,7 +123,7 @@ module _ {T A : Type 0} (Good : T → Type 0) (joins : T → Bool) (Joint : Form
         follow = λ x all back rest a next. tt;
         follows = λ x all back rest a next. next;
         within = λ x all back a w v. tt;
-        apart = λ x all back a w. (tt, each_unit all);
+        apart = λ x all front back _ a w. (tt, each_unit all);
         first = λ ts d. d;
         last = λ x front back s d. no_deep d.0 back d.1;
         deep = λ ts d. absurd d;

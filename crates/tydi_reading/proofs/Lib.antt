@@ -11,3 +11,4 @@ pub mod StepsRule
 pub mod SeparatedRule
 pub mod JoinedRule
 pub mod CheckedRule
+pub mod FilledLemmas

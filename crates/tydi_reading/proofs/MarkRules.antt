@@ -19,7 +19,7 @@ skip-rule Good p q One Other Next Within Deep a b =
       follow = λ u x back rest o next. tt;
       follows = λ u x back rest o next. next;
       within = λ u x back o w v. v;
-      apart = λ u x back o all. (tt, all);
+      apart = λ u x front back _ o all. (tt, all);
       first = λ ts d. absurd d;
       last = λ u front back s d. record { front = front; back = back; all = refl; begins = s; ends = d };
       deep = λ ts d. inr (tt, d);
@@ -41,7 +41,7 @@ close-rule {T} {A} Good p q One OneNext Within Deep Other follow a b =
       follow = λ x y back rest o next. follow x back rest o.1;
       follows = λ x y back rest o next. tt;
       within = λ x y back o w v. subst Within o.0 w;
-      apart = λ x y back o all. (subst Within (sym o.0) all, tt);
+      apart = λ x y front back _ o all. (subst Within (sym o.0) all, tt);
       first = λ ts d. d;
       last = λ x front back s d. absurd d;
       deep = λ ts d. inl d;

@@ -122,7 +122,7 @@ pub record Joins {T A B : Type 0} (Spelled : A → Form T) (Follow : A → Form 
   pub follow : (x : A) (y : B) (back rest : List T) → Second x y back → Next y rest → Follow x (back ++ rest)
   pub follows : (x : A) (y : B) (back rest : List T) → Second x y back → Next y rest → Follows x y rest
   pub within : (x : A) (y : B) (back : List T) → Second x y back → Within x → Inside x y → All y
-  pub apart : (x : A) (y : B) (back : List T) → Second x y back → All y → Within x × Inside x y
+  pub apart : (x : A) (y : B) (front back : List T) → Spelled x front → Second x y back → All y → Within x × Inside x y
   pub first : (front : List T) → First front → Deep front
   pub last : (x : A) (front back : List T) → Spelled x front → Last x back → Deep (front ++ back)
   pub deep : (ts : List T) → Deep ts → First ts ⊎ ((x : A) × ((Spelled x ⋯ Last x) ts))
@@ -162,7 +162,7 @@ then-rule {T} {A} {B} Good p f Spelled Follow Within First Second Follows Inside
         let x = part.0 in
         let b = part.1 in
         rw b.all
-        (complete-then p f x b.front b.back rest Within (Inside x) All y (joins.apart x y b.back b.ends)
+        (complete-then p f x b.front b.back rest Within (Inside x) All y (joins.apart x y b.front b.back b.begins b.ends)
         (one.complete b.front (b.back ++ rest) x (All-front Good front b.front b.back b.all good) b.begins (joins.follow x y b.back rest b.ends next))
         ((two x).complete b.back rest y (All-back Good front b.front b.back b.all good) b.ends (joins.follows x y b.back rest b.ends next)))
 
@@ -202,7 +202,7 @@ map-rule {T} {A} {B} Good f p Spelled Follow Within First Whole Next All Deep ma
       follow = λ x y back rest s next. subst (Follow x) (sym (ap (λ l. l ++ rest) s.1)) (maps.follow x rest (subst (λ z. Next z rest) s.0 next));
       follows = λ x y back rest s next. tt;
       within = λ x y back s within _. subst All (sym s.0) (maps.within x within);
-      apart = λ x y back s all. (maps.apart x (subst All s.0 all), tt);
+      apart = λ x y front back _ s all. (maps.apart x (subst All s.0 all), tt);
       first = maps.first;
       last = λ x front back s d. absurd d;
       deep = λ ts d. inl (maps.deep ts d);

@@ -149,7 +149,7 @@ module _ {T S : Type 0} (Good : T → Type 0) (test : T → Bool) (last : Bool) 
         follow = follow;
         follows = follows;
         within = within_part s;
-        apart = step_within s;
+        apart = λ x t front back _ a inside. step_within s x t back a inside;
         first = λ ts d. d;
         last = λ x front back s d. absurd d;
         deep = λ ts d. inl d;
