@@ -1,0 +1,108 @@
+-- A loop that takes a thing whenever it goes on is its first turn, and the loop after it.
+use Rattle.std.proofs.Common.{◌≡◌, ℕ, zero, suc, ◌<◌, ◌≤◌, Bool, true, false, cond, Option, Some, None, List, [], ◌∷◌, ◌++◌, length, refl, arith, Ok, Err, ap, subst}
+use Rattle.std.specs.Prelude.{Result, OnOk}
+use Rattle.tydi_reading.specs.declared.fault.Fault.{Fault}
+use Rattle.tydi_reading.specs.declared.fault.Fault.TheVariants as faults
+use Rattle.tydi_reading.specs.Lists.{repeated_turn, steps_turn, separator_turn, mark}
+use Rattle.tydi_reading.specs.Reading.{Outcome, took, stopped, Reader, Reads, Shrinks, and_then, ◌>>=◌, ◌<$>◌, pure, choose, meant, leaf, Turn, again, done, turned, loop_from, loop, tells}
+
+-- each turn takes a thing where the loop goes on
+pub record Advances {T S : Type 0} (turn : S → Reader T (Turn S)) : Type 0 where
+  pub less : (s : S) (ts rest : List T) (next : S) → turn s ts ≡ took (again next) rest → length rest < length ts
+
+-- what follows a turn matters only where the loop goes on
+turned-same : {T S : Type 0} (made : Outcome T (Turn S)) (f g : S → Reader T S)
+    → ((next : S) (rest : List T) → made ≡ took (again next) rest → f next rest ≡ g next rest) → and_then made (turned f) ≡ and_then made (turned g)
+turned-same (stopped e rest) f g same = refl
+turned-same (took (again next) rest) f g same = same next rest refl
+turned-same (took (done s) rest) f g same = refl
+
+-- as many turns as things, and one, are enough
+loop_from-enough : {T S : Type 0} (turn : S → Reader T (Turn S)) → Advances turn → (n m : ℕ) (s : S) (ts : List T)
+    → length ts < n → length ts < m → loop_from turn n s ts ≡ loop_from turn m s ts
+unfolding loop_from
+loop_from-enough turn advances zero m s ts one other = absurd (omega arith)
+loop_from-enough turn advances (suc n) zero s ts one other = absurd (omega arith)
+loop_from-enough turn advances (suc n) (suc m) s ts one other =
+    turned-same (turn s ts) (loop_from turn n) (loop_from turn m)
+    (λ next rest is. let less = advances.less s ts rest next is in loop_from-enough turn advances n m next rest (omega arith) (omega arith))
+
+pub loop_unfolds : {T S : Type 0} (turn : S → Reader T (Turn S)) → Advances turn → (s : S) (ts : List T)
+    → loop turn s ts ≡ and_then (turn s ts) (turned (loop turn))
+unfolding loop loop_from
+loop_unfolds turn advances s ts =
+    turned-same (turn s ts) (loop_from turn (length ts)) (loop turn)
+    (λ next rest is.
+    let less = advances.less s ts rest next is in
+    loop_from-enough turn advances (length ts) (suc (length rest)) next rest (omega arith) (omega arith))
+
+-- ---- lists
+
+took-both : {T A : Type 0} (x y : A) (ts rest : List T) → ◌≡◌ {A = Outcome T A} (took x ts) (took y rest) → (x ≡ y) × (ts ≡ rest)
+took-both x y ts rest is = (cc, cc)
+
+no_again : {S : Type 0} (s next : S) (Goal : Type 0) → ◌≡◌ {A = Turn S} (done s) (again next) → Goal
+no_again s next Goal is = absurd cc
+
+mapped-less : {T A B : Type 0} (f : A → B) (read : Reader T A) → Shrinks read → Shrinks (f <$> read)
+mapped-less {T} {A} {B} f read shrinks = record { less = λ ts rest y is. of_made ts rest y (read ts) refl is }
+  where
+    of_made : (ts rest : List T) (y : B) (made : Outcome T A) → read ts ≡ made → and_then made (λ x. pure (f x)) ≡ took y rest → length rest < length ts
+    of_made ts rest y (stopped e middle) made is = absurd cc
+    of_made ts rest y (took x middle) made is =
+        let both = took-both (f x) y middle rest is in
+        let less = shrinks.less ts middle x made in
+        let same = ap length both.1 in
+        omega arith
+
+pub repeated_turn-advances : {T A : Type 0} (test : T → Bool) (last : Bool) (item : Reader T A) → Shrinks item → Advances (repeated_turn test last item)
+unfolding repeated_turn
+repeated_turn-advances {T} {A} test last item shrinks = record { less = λ found ts rest next is. of_test found ts rest next (tells test last ts) is }
+  where
+    of_test : (found : List A) (ts rest : List T) (next : List A) (b : Bool)
+        → (cond {A = Reader T (Turn (List A))} b (pure (done found)) ((λ x. again (found ++ x ∷ [])) <$> item)) ts ≡ took (again next) rest → length rest < length ts
+    of_test found ts rest next true is = no_again found next (length rest < length ts) (took-both (done found) (again next) ts rest is).0
+    of_test found ts rest next false is = (mapped-less (λ x. again (found ++ x ∷ [])) item shrinks).less ts rest (again next) is
+
+-- a separator, or none, leaves no more things than there were
+separator-least : {T S : Type 0} (separates : T → Bool) (s : S) (ts rest : List T) (t : Turn S) → separator_turn separates s ts ≡ took t rest → length rest ≤ length ts
+unfolding separator_turn mark
+separator-least {T} {S} separates s [] rest t is = let both = took-both (done s) t [] rest is in let same = ap length both.1 in omega arith
+separator-least {T} {S} separates s (u ∷ ts) rest t is = of_test (separates u) is
+  where
+    of_mark : (b : Bool) → and_then (cond {A = Outcome T (Unit {0})} b (took tt ts) (stopped faults.Refused (u ∷ ts))) (λ _. pure (again s)) ≡ took t rest
+        → length rest ≤ length (u ∷ ts)
+    of_mark true is = let both = took-both (again s) t ts rest is in let same = ap length both.1 in omega arith
+    of_mark false is = absurd cc
+
+    of_test : (b : Bool) → (cond {A = Reader T (Turn S)} b ((λ _. again s) <$> mark separates) (pure (done s))) (u ∷ ts) ≡ took t rest → length rest ≤ length (u ∷ ts)
+    of_test true is = of_mark (separates u) is
+    of_test false is = let both = took-both (done s) t (u ∷ ts) rest is in let same = ap length both.1 in omega arith
+
+pub steps_turn-advances : {T S : Type 0} (test : T → Bool) (last : Bool) (separates : T → Bool) (step : S → Reader T S) → ((s : S) → Shrinks (step s))
+    → Advances (steps_turn test last separates step)
+unfolding steps_turn
+steps_turn-advances {T} {S} test last separates step shrinks = record { less = λ s ts rest next is. of_test s ts rest next (tells test last ts) is }
+  where
+    of_made : (s : S) (ts rest : List T) (next : S) (made : Outcome T S) → step s ts ≡ made → and_then made (separator_turn separates) ≡ took (again next) rest → length rest < length ts
+    of_made s ts rest next (stopped e middle) made is = absurd cc
+    of_made s ts rest next (took x middle) made is =
+        let less = (shrinks s).less ts middle x made in
+        let least = separator-least separates x middle rest (again next) is in
+        omega arith
+
+    of_test : (s : S) (ts rest : List T) (next : S) (b : Bool)
+        → (cond {A = Reader T (Turn S)} b (pure (done s)) (step s >>= separator_turn separates)) ts ≡ took (again next) rest → length rest < length ts
+    of_test s ts rest next true is = no_again s next (length rest < length ts) (took-both (done s) (again next) ts rest is).0
+    of_test s ts rest next false is = of_made s ts rest next (step s ts) refl is
+
+pub separated_turn-advances : {T A : Type 0} (test : T → Bool) (last : Bool) (separates : T → Bool) (item : Reader T A) → Shrinks item
+    → Advances (steps_turn test last separates (λ found. (λ x. found ++ x ∷ []) <$> item))
+separated_turn-advances test last separates item shrinks =
+    steps_turn-advances test last separates (λ found. (λ x. found ++ x ∷ []) <$> item) (λ found. mapped-less (λ x. found ++ x ∷ []) item shrinks)
+
+-- a call that did what a reader does that takes a thing
+pub reads-less : {T A : Type 0} {read : Reader T A} → Shrinks read → (ts rest : List T) (made : Result A Fault) → Reads (read ts) made rest
+    → OnOk made (length rest < length ts)
+reads-less shrinks ts rest (Ok x) reads = shrinks.less ts rest x reads
+reads-less shrinks ts rest (Err e) reads = tt
