@@ -1,0 +1,6 @@
+pub mod Tree
+pub mod Width
+pub mod Names
+pub mod Throughput
+pub mod Faults
+pub mod Seen

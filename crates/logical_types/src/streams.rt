@@ -1,0 +1,63 @@
+//! What a Stream makes of what is around it: throughput, lanes and dimensions.
+
+ghost use Rattle.std.specs.Prelude.{◌≡◌, ◌-◌, ◌^◌, true, false, min, IfOk, IfSome, IfNone};
+ghost use Rattle.logical_types.specs.Faults.{Tells, effective_dims, inside, is_bad_throughput, rate_faults};
+ghost use Rattle.logical_types.specs.Throughput.{product_of};
+ghost use Rattle.logical_types.specs.Tree.{settings_of};
+
+use crate::fault::TypeFault;
+use crate::ltype::{StreamType, Sync};
+use tydi_base::Frac;
+
+const MOST_LANES: u64 = 128;
+
+const MOST_DIMS: u64 = 32;
+
+/// What is around a type: the product of the throughputs of the Streams that hold it, and the effective dimensionality of the
+/// innermost one.
+#[derive(Clone, Copy, Debug)]
+pub struct Around {
+    pub product: Frac,
+    pub dims: u64,
+}
+
+/// What is around the types inside a Stream, or the first fault of its throughput, its lanes and its dimensions.
+pub fn inside(stream: &StreamType, around: &Around) -> Result<Around, TypeFault>
+    ensures faults { Tells (rate_faults around.now (settings_of stream.now)) result }
+    ensures inside { IfOk result (λ inner. inner ≡ inside around.now (settings_of stream.now)) }
+{
+    let Some(product) = product_inside(stream.throughput, around.product) else {
+        return Err(TypeFault::BadThroughput);
+    };
+    if product.ceil() > MOST_LANES {
+        return Err(TypeFault::TooManyLanes);
+    }
+    let dims = dims_inside(stream.dims, stream.sync, around.dims);
+    if dims > MOST_DIMS {
+        return Err(TypeFault::TooManyDims);
+    }
+    Ok(Around { product, dims })
+}
+
+// The product of a throughput with that around it. None where it is zero or does not fit.
+fn product_inside(throughput: Frac, around: Frac) -> Option<Frac>
+    ensures none { IfNone result (is_bad_throughput around throughput ≡ true) }
+    ensures some { IfSome result (λ product. (is_bad_throughput around throughput ≡ false) × (product ≡ product_of around throughput)) }
+{
+    prove!(throughput.den() > 0);
+    prove!(around.den() > 0);
+    if throughput.num() == 0 {
+        return None;
+    }
+    around.times(throughput)
+}
+
+// The effective dimensionality of a Stream, or the greatest number of 64 bits where it is over that.
+fn dims_inside(dims: u64, sync: Sync, around: u64) -> u64
+    ensures { result ≡ min (effective_dims dims sync around) (2 ^ 64 - 1) }
+{
+    match sync {
+        Sync::Sync | Sync::Desync => dims.saturating_add(around),
+        Sync::Flatten | Sync::FlatDesync => dims,
+    }
+}

@@ -1,0 +1,64 @@
+//! How wide an element of a type is.
+
+ghost use Rattle.std.specs.Prelude.{◌≡◌};
+ghost use Rattle.logical_types.specs.Faults.{IsPlain};
+ghost use Rattle.logical_types.specs.Tree.{plain, plain_parts, union};
+ghost use Rattle.logical_types.specs.Width as spec;
+
+use crate::ltype::{LType, Part};
+
+/// The width in bits of an element of a type that has no fault but of throughputs, lanes and dimensions. So each part of a type
+/// that passed `check` may be asked for its width.
+pub fn width(ltype: &LType) -> u32
+    requires { IsPlain (plain ltype.now) }
+    ensures { result ≡ spec.width_of (plain ltype.now) }
+{
+    saturated_width(ltype)
+}
+
+#[cycle(width)]
+fn saturated_width(ltype: &LType) -> u32
+    ensures { result ≡ spec.saturated (spec.width_of (plain ltype.now)) }
+{
+    match ltype {
+        LType::Null => 0,
+        LType::Bits(width) => u32::try_from(*width).unwrap_or(u32::MAX),
+        LType::Group(parts) => total_width(parts.as_slice()),
+        LType::Union(parts) => union_width(parts.as_slice()),
+        LType::Stream(_) => 0,
+    }
+}
+
+/// The widths of the fields of a Group together, or the greatest number of 32 bits.
+#[cycle(width)]
+pub fn total_width(parts: &[Part]) -> u32
+    ensures { result ≡ spec.saturated (spec.total_width (plain_parts parts.now)) }
+{
+    let mut total: u32 = 0;
+    'parts: for part in parts {
+        total = total.saturating_add(saturated_width(&part.ltype));
+    }
+    total
+}
+
+/// The width of a Union of these variants, or the greatest number of 32 bits.
+#[cycle(width)]
+pub fn union_width(parts: &[Part]) -> u32
+    ensures { result ≡ spec.saturated (spec.width_of (union (plain_parts parts.now))) }
+{
+    let mut greatest: u32 = 0;
+    'parts: for part in parts {
+        greatest = greatest.max(saturated_width(&part.ltype));
+    }
+    greatest.saturating_add(tag_width(parts.len()))
+}
+
+// The bits of a tag that tells so many variants apart.
+fn tag_width(variants: usize) -> u32
+    ensures { result ≡ spec.tag_width variants }
+{
+    if variants <= 1 {
+        return 0;
+    }
+    (variants as u64 - 1).ilog2() + 1
+}
