@@ -49,7 +49,7 @@ fn word_field<'a>(
     let Some((digits, rest)) = words.sized_value(key, size) else {
         return Err(Misspelling::Unspelled);
     };
-    match Bits::from_hexadecimal(alloc, signal.width, digits)? {
+    match Bits::from_exact_hex(alloc, signal.width, digits)? {
         Some(bits) => Ok((bits, rest)),
         None => Err(Misspelling::Unspelled),
     }

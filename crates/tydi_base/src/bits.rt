@@ -73,17 +73,6 @@ impl Bits {
         }
     }
 
-    /// As `from_exact_hex`.
-    pub fn from_hexadecimal(
-        alloc: Global,
-        width: usize,
-        digits: &[u8],
-    ) -> Result<Option<Bits>, Memory>
-        ensures { IfOk result (λ read. read ≡ word_at width digits.now) }
-    {
-        Bits::from_exact_hex(alloc, width, digits)
-    }
-
     /// Becomes the word of its width that these hexadecimal digits spell, the highest first. False exactly where they spell
     /// none, as `from_exact_hex` says; then only its width is as before. It takes no memory.
     pub fn read_exact_hex(&mut self, digits: &[u8]) -> bool
