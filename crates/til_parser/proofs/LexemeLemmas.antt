@@ -1,5 +1,5 @@
 -- The tokens that are left.
-use Rattle.std.proofs.Common.{◌≡◌, ◌==◌, ◌+◌, ◌-◌, ◌<◌, ◌≤◌, ◌⊎◌, inl, inr, ℕ, true, List, [], ◌∷◌, length, get_or, slice_index_or, All}
+use Rattle.std.proofs.Common.{◌≡◌, ◌==◌, ◌+◌, ◌-◌, ◌<◌, ◌≤◌, ◌⊎◌, inl, inr, ℕ, suc, true, false, List, [], ◌∷◌, length, get_or, slice_index_or, All}
 use Rattle.std.proofs.Common.{length-append, refl, sym, ap, ◌∙◌, subst, rules, arith}
 use Rattle.std.proofs.Math.Seq.{get_or-append_seam}
 use Rattle.std.proofs.lemmas.Str.{IsCharBoundary-after_ascii, IsCharBoundary-before_ascii}
@@ -10,20 +10,19 @@ use Rattle.til_lexer.specs.declared.token.TokenKind.TheVariants as kinds
 use Rattle.til_lexer.specs.contracts.token.TokenKind.{the_type}
 use Rattle.til_lexer.specs.declared.token.Token.{Token}
 use Rattle.til_lexer.specs.declared.token.TokenKind.{TokenKind}
-use Rattle.til_parser.specs.declared.fault.ParseFault.TheVariants as faults
-use Rattle.til_parser.specs.Lexemes.{HasFormIn, lexemes_from}
-use Rattle.til_parser.specs.Reading.{at_end, refusal, same_kind}
+use Rattle.til_parser.specs.Lexemes.{HasFormIn, lexemes_of}
+use Rattle.til_parser.specs.Reading.{same_kind}
+use Rattle.tydi_reading.specs.Reading.{tells}
+
+-- as many are left as there are
+pub length-lexemes : (text : List ℕ) (tokens : List Token) → length (lexemes_of text tokens) ≡ length tokens
+length-lexemes text [] = refl
+length-lexemes text (token ∷ tokens) = ap suc (length-lexemes text tokens)
 
 -- none is left exactly where there are none
-pub at_end-lexemes : (number : ℕ) (text : List ℕ) (tokens : List Token) → at_end (lexemes_from number text tokens) ≡ (length tokens == 0)
-at_end-lexemes number text [] = refl
-at_end-lexemes number text (token ∷ tokens) = search rules
-
--- where one is left, it is refused by its number
-pub refusal-lexemes : (number : ℕ) (text : List ℕ) (tokens : List Token) → 1 ≤ length tokens
-    → refusal (lexemes_from number text tokens) ≡ faults.Unexpected number
-refusal-lexemes number text [] some = absurd (omega arith)
-refusal-lexemes number text (token ∷ tokens) some = refl
+pub at_end-lexemes : (text : List ℕ) (tokens : List Token) → tells (λ _. false) true (lexemes_of text tokens) ≡ (length tokens == 0)
+at_end-lexemes text [] = refl
+at_end-lexemes text (token ∷ tokens) = search rules
 
 -- a token of this kind has its form
 pub HasForm-first : (text : List ℕ) (tokens : List Token) (token : Token) (kind : TokenKind) (spelling : List ℕ) → All (HasFormIn text) tokens
