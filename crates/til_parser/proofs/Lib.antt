@@ -22,3 +22,7 @@ mod ListRules
 mod ArgumentRules
 mod StreamRules
 mod TypeRules
+mod BodyRules
+mod DeclRules
+mod ProjectRules
+mod Shrinking

@@ -33,7 +33,7 @@ use Rattle.til_parser.proofs.PlainLemmas.{plain_parts, settings_of, plain-Null, 
 use Rattle.til_parser.proofs.StreamRules.{ArgumentsOf, StreamTo, StreamWithin, stream-rule, data_null, good_null, null_spelled, null_stream, null_arguments}
 use Rattle.til_parser.proofs.TokenRules.{both, made, one, word_is, kind_is, kind-rule, word-rule, Word-not_word}
 
-abbrev S : AstType → Form
+abbrev pub S : AstType → Form
 S x = SpellsType (plain x)
 
 -- ---- parts

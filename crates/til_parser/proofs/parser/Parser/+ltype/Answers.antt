@@ -1,0 +1,159 @@
+use Rattle.std.proofs.Common.{◌≡◌, ℕ, zero, suc, ◌-◌, ◌<◌, false, [], ◌∷◌, ◌++◌, List, ap, rules, arith}
+use Rattle.std.proofs.lemmas.Grind.{common_steps}
+use Rattle.til_lexer.specs.declared.token.TokenKind.TheVariants as kinds
+use Rattle.til_parser.specs.declared.arguments.Arguments.{Arguments}
+use Rattle.til_parser.specs.declared.ltype.AstPart.{AstPart}
+use Rattle.til_parser.specs.declared.ltype.AstType.{the_lemmas}
+use Rattle.til_parser.specs.Lexemes.{Lexeme}
+use Rattle.til_parser.specs.Reading.{is_kind}
+use Rattle.til_parser.specs.ReadTypes.{argument, arguments, ltype, part, type_with}
+use Rattle.tydi_reading.specs.Lists.{separated, steps, steps_turn, separator_turn, mark}
+use Rattle.tydi_reading.specs.Reading.{and_then, turned, loop, ◌<$>◌}
+use Rattle.tydi_reading.proofs.LoopLemmas.{loop_unfolds, separated_turn-advances, steps_turn-advances, eaten-least}
+use Rattle.til_parser.proofs.Shrinking.{Shrinks-part, Shrinks-argument}
+use Rattle.til_parser.proofs.parser.Parser.+ltype.Goals as goal
+
+-- ---- a type
+
+deeper : (levels : ℕ) (ts : List Lexeme) → 0 < levels → ltype levels ts ≡ type_with (ltype (levels - 1)) ts
+unfolding ltype
+deeper zero ts some = absurd (omega arith)
+deeper (suc levels) ts some = let same : levels ≡ suc levels - 1 = omega arith in ap (λ (n : ℕ). type_with (ltype n) ts) same
+
+pub ltype-returns-then-eat_word : goal.ltype-returns-then-eat_word
+unfolding type_with mark
+ltype-returns-then-eat_word t c =
+    rw (deeper c.args.levels c.args.self.now (omega arith))
+    first_of (search rules, grind (arith, common_steps), search (rules, the_lemmas), grind (arith, the_lemmas))
+
+pub ltype-returns-in_err-bits : goal.ltype-returns-in_err-bits
+unfolding type_with mark
+ltype-returns-in_err-bits t c =
+    rw (deeper c.args.levels c.args.self.now (omega arith))
+    first_of (search rules, grind (arith, common_steps), search (rules, the_lemmas), grind (arith, the_lemmas))
+
+pub ltype-returns-then-eat_word-2 : goal.ltype-returns-then-eat_word-2
+unfolding type_with mark
+ltype-returns-then-eat_word-2 t c =
+    rw (deeper c.args.levels c.args.self.now (omega arith))
+    first_of (search rules, grind (arith, common_steps), search (rules, the_lemmas), grind (arith, the_lemmas))
+
+pub ltype-returns-in_err-parts : goal.ltype-returns-in_err-parts
+unfolding type_with mark
+ltype-returns-in_err-parts t c =
+    rw (deeper c.args.levels c.args.self.now (omega arith))
+    first_of (search rules, grind (arith, common_steps), search (rules, the_lemmas), grind (arith, the_lemmas))
+
+pub ltype-returns-then-eat_word-3 : goal.ltype-returns-then-eat_word-3
+unfolding type_with mark
+ltype-returns-then-eat_word-3 t c =
+    rw (deeper c.args.levels c.args.self.now (omega arith))
+    first_of (search rules, grind (arith, common_steps), search (rules, the_lemmas), grind (arith, the_lemmas))
+
+pub ltype-returns-in_err-parts-2 : goal.ltype-returns-in_err-parts-2
+unfolding type_with mark
+ltype-returns-in_err-parts-2 t c =
+    rw (deeper c.args.levels c.args.self.now (omega arith))
+    first_of (search rules, grind (arith, common_steps), search (rules, the_lemmas), grind (arith, the_lemmas))
+
+pub ltype-returns-then-eat_word-4 : goal.ltype-returns-then-eat_word-4
+unfolding type_with mark
+ltype-returns-then-eat_word-4 t c =
+    rw (deeper c.args.levels c.args.self.now (omega arith))
+    first_of (search rules, grind (arith, common_steps), search (rules, the_lemmas), grind (arith, the_lemmas))
+
+pub ltype-returns-in_err-stream : goal.ltype-returns-in_err-stream
+unfolding type_with mark
+ltype-returns-in_err-stream t c =
+    rw (deeper c.args.levels c.args.self.now (omega arith))
+    first_of (search rules, grind (arith, common_steps), search (rules, the_lemmas), grind (arith, the_lemmas))
+
+pub ltype-returns-then-eat_word-5 : goal.ltype-returns-then-eat_word-5
+unfolding type_with mark
+ltype-returns-then-eat_word-5 t c =
+    rw (deeper c.args.levels c.args.self.now (omega arith))
+    first_of (search rules, grind (arith, common_steps), search (rules, the_lemmas), grind (arith, the_lemmas))
+
+pub ltype-returns-in_err-path : goal.ltype-returns-in_err-path
+unfolding type_with mark
+ltype-returns-in_err-path t c =
+    rw (deeper c.args.levels c.args.self.now (omega arith))
+    first_of (search rules, grind (arith, common_steps), search (rules, the_lemmas), grind (arith, the_lemmas))
+
+pub ltype-returns : goal.ltype-returns
+unfolding type_with mark
+ltype-returns t c =
+    rw (deeper c.args.levels c.args.self.now (omega arith))
+    first_of (search rules, grind (arith, common_steps), search (rules, the_lemmas), grind (arith, the_lemmas))
+
+-- ---- parts
+
+parts-turn : (levels : ℕ) (found : List AstPart) (ts : List Lexeme)
+    → loop (steps_turn (is_kind kinds.CloseParen) false (is_kind kinds.Comma) (λ found. (λ x. found ++ x ∷ []) <$> part (ltype levels))) found ts ≡ and_then ((steps_turn (is_kind kinds.CloseParen) false (is_kind kinds.Comma) (λ found. (λ x. found ++ x ∷ []) <$> part (ltype levels))) found ts) (turned (loop (steps_turn (is_kind kinds.CloseParen) false (is_kind kinds.Comma) (λ found. (λ x. found ++ x ∷ []) <$> part (ltype levels)))))
+parts-turn levels = loop_unfolds (steps_turn (is_kind kinds.CloseParen) false (is_kind kinds.Comma) (λ found. (λ x. found ++ x ∷ []) <$> part (ltype levels))) (separated_turn-advances (is_kind kinds.CloseParen) false (is_kind kinds.Comma) (part (ltype levels)) (Shrinks-part levels))
+
+pub separated_parts-returns-in_err-part : goal.separated_parts-returns-in_err-part
+unfolding separated steps steps_turn
+separated_parts-returns-in_err-part t c =
+    let turn = parts-turn c.args.levels c.parts.parts c.parts.self in
+    first_of (search rules, grind (arith, common_steps))
+
+pub separated_parts-returns-then-not-eat : goal.separated_parts-returns-then-not-eat
+unfolding separated steps steps_turn separator_turn mark
+separated_parts-returns-then-not-eat t c =
+    let turn = parts-turn c.args.levels c.parts.parts c.parts.self in
+    first_of (search rules, grind (arith, common_steps))
+
+pub separated_parts-parts-preserved : goal.separated_parts-parts-preserved
+unfolding steps_turn separator_turn mark
+separated_parts-parts-preserved t c =
+    let turn = parts-turn c.args.levels c.parts.parts c.parts.self in
+    first_of (search rules, grind (arith, common_steps))
+
+pub separated_parts-returns : goal.separated_parts-returns
+unfolding separated steps steps_turn
+separated_parts-returns t c =
+    let turn = parts-turn c.args.levels c.parts.parts c.parts.self in
+    first_of (search rules, grind (arith, common_steps))
+
+pub separated_parts-parts-smaller : goal.separated_parts-parts-smaller
+separated_parts-parts-smaller t c =
+    let one = (Shrinks-part c.args.levels).less _ _ _ c.in_ok-part.ensures in
+    let other = eaten-least (is_kind kinds.Comma) c.part.new.self c.eat.result c.eat.new.self c.eat.ensures.taken in
+    omega arith
+
+-- ---- arguments
+
+arguments-turn : (levels : ℕ) (given : Arguments) (ts : List Lexeme)
+    → loop (steps_turn (is_kind kinds.CloseParen) false (is_kind kinds.Comma) (argument (ltype levels))) given ts ≡ and_then ((steps_turn (is_kind kinds.CloseParen) false (is_kind kinds.Comma) (argument (ltype levels))) given ts) (turned (loop (steps_turn (is_kind kinds.CloseParen) false (is_kind kinds.Comma) (argument (ltype levels)))))
+arguments-turn levels = loop_unfolds (steps_turn (is_kind kinds.CloseParen) false (is_kind kinds.Comma) (argument (ltype levels))) (steps_turn-advances (is_kind kinds.CloseParen) false (is_kind kinds.Comma) (argument (ltype levels)) (Shrinks-argument levels))
+
+pub arguments-returns-in_err-given : goal.arguments-returns-in_err-given
+unfolding arguments steps steps_turn
+arguments-returns-in_err-given t c =
+    let turn = arguments-turn c.args.levels c.arguments.given c.arguments.self in
+    first_of (search rules, grind (arith, common_steps))
+
+pub arguments-returns-then-not-eat : goal.arguments-returns-then-not-eat
+unfolding arguments steps steps_turn separator_turn mark
+arguments-returns-then-not-eat t c =
+    let turn = arguments-turn c.args.levels c.arguments.given c.arguments.self in
+    first_of (search rules, grind (arith, common_steps))
+
+pub arguments-arguments-preserved : goal.arguments-arguments-preserved
+unfolding steps_turn separator_turn mark
+arguments-arguments-preserved t c =
+    let turn = arguments-turn c.args.levels c.arguments.given c.arguments.self in
+    first_of (search rules, grind (arith, common_steps))
+
+pub arguments-returns : goal.arguments-returns
+unfolding arguments steps steps_turn
+arguments-returns t c =
+    let turn = arguments-turn c.args.levels c.arguments.given c.arguments.self in
+    first_of (search rules, grind (arith, common_steps))
+
+pub arguments-arguments-smaller : goal.arguments-arguments-smaller
+arguments-arguments-smaller t c =
+    let one = (Shrinks-argument c.args.levels _).less _ _ _ c.in_ok-given.ensures in
+    let other = eaten-least (is_kind kinds.Comma) c.argument.new.self c.eat.result c.eat.new.self c.eat.ensures.taken in
+    omega arith

@@ -1,0 +1,43 @@
+use Rattle.std.proofs.Common.{◌≡◌, ◌+◌, ◌*◌, false, [], ◌∷◌, ◌++◌, length}
+use Rattle.til_lexer.specs.declared.token.TokenKind.TheVariants as kinds
+use Rattle.til_parser.specs.Reading.{is_kind}
+use Rattle.tydi_reading.specs.Lists.{steps_turn}
+use Rattle.tydi_reading.specs.Reading.{loop, ◌<$>◌}
+use Rattle.til_parser.specs.ReadTypes.{argument, ltype, part}
+use Rattle.til_parser.proofs.parser.Parser.+ltype.Given as goal
+
+-- a type asks for parts and for a Stream of one level less, and these for a type of as many
+abbrev pub decreases-ltype : goal.decreases-ltype
+decreases-ltype l = 4 * l.levels
+
+abbrev pub decreases-parts : goal.decreases-parts
+decreases-parts l = 4 * l.levels + 3
+
+abbrev pub decreases-stream : goal.decreases-stream
+decreases-stream l = 4 * l.levels + 3
+
+abbrev pub decreases-separated_parts : goal.decreases-separated_parts
+decreases-separated_parts l = 4 * l.levels + 2
+
+abbrev pub decreases-arguments : goal.decreases-arguments
+decreases-arguments l = 4 * l.levels + 2
+
+abbrev pub decreases-part : goal.decreases-part
+decreases-part l = 4 * l.levels + 1
+
+abbrev pub decreases-argument : goal.decreases-argument
+decreases-argument l = 4 * l.levels + 1
+
+-- the parts so far go on as all parts do
+abbrev pub invariant-separated_parts-parts : goal.invariant-separated_parts-parts
+invariant-separated_parts-parts l = loop (steps_turn (is_kind kinds.CloseParen) false (is_kind kinds.Comma) (λ found. (λ x. found ++ x ∷ []) <$> part (ltype l.levels))) l.parts l.self ≡ loop (steps_turn (is_kind kinds.CloseParen) false (is_kind kinds.Comma) (λ found. (λ x. found ++ x ∷ []) <$> part (ltype l.levels))) l.initial.parts l.initial.self
+
+abbrev pub decreases-separated_parts-parts : goal.decreases-separated_parts-parts
+decreases-separated_parts-parts l = length l.self
+
+-- the arguments so far go on as all arguments do
+abbrev pub invariant-arguments-arguments : goal.invariant-arguments-arguments
+invariant-arguments-arguments l = loop (steps_turn (is_kind kinds.CloseParen) false (is_kind kinds.Comma) (argument (ltype l.levels))) l.given l.self ≡ loop (steps_turn (is_kind kinds.CloseParen) false (is_kind kinds.Comma) (argument (ltype l.levels))) l.initial.given l.initial.self
+
+abbrev pub decreases-arguments-arguments : goal.decreases-arguments-arguments
+decreases-arguments-arguments l = length l.self
