@@ -26,3 +26,4 @@ mod BodyRules
 mod DeclRules
 mod ProjectRules
 mod Shrinking
+mod WordLemmas

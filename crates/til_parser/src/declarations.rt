@@ -59,11 +59,19 @@ impl<'a> Parser<'a> {
         ensures { Reads (spec.braced (spec.decl levels) self.old) result self.new }
     {
         self.expect(TokenKind::OpenBrace)?;
+        let decls = self.repeated_decls(levels)?;
+        self.expect(TokenKind::CloseBrace)?;
+        Ok(decls)
+    }
+
+    /// `{ [doc] decl }`, up to a closing brace.
+    fn repeated_decls(&mut self, levels: usize) -> Result<List<AstDecl>, Fault>
+        ensures { Reads (repeated (reading.is_kind kinds.CloseBrace) false (spec.decl levels) self.old) result self.new }
+    {
         let mut decls = List::new(self.alloc());
         'decls: while !self.sees(TokenKind::CloseBrace) {
             decls.push(self.decl(levels)?)?;
         }
-        self.expect(TokenKind::CloseBrace)?;
         Ok(decls)
     }
 

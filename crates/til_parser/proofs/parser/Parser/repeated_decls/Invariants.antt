@@ -4,7 +4,7 @@ use Rattle.til_parser.specs.ReadDecls.{decl}
 use Rattle.til_parser.specs.Reading.{is_kind}
 use Rattle.tydi_reading.specs.Lists.{repeated_turn}
 use Rattle.tydi_reading.specs.Reading.{loop}
-use Rattle.til_parser.proofs.parser.Parser.decls.Given as goal
+use Rattle.til_parser.proofs.parser.Parser.repeated_decls.Given as goal
 
 -- the decls so far go on as all decls do
 abbrev pub invariant-decls : goal.invariant-decls

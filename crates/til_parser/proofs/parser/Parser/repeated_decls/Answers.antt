@@ -2,26 +2,20 @@ use Rattle.std.proofs.Common.{false, true, rules, arith}
 use Rattle.std.proofs.lemmas.Grind.{common_steps}
 use Rattle.til_lexer.specs.declared.token.TokenKind.TheVariants as kinds
 use Rattle.til_parser.specs.Reading.{is_kind}
-use Rattle.til_parser.specs.ReadDecls.{decl, braced}
+use Rattle.til_parser.specs.ReadDecls.{decl}
 use Rattle.tydi_reading.specs.Lists.{repeated, repeated_turn, mark}
 use Rattle.tydi_reading.proofs.LoopLemmas.{loop_unfolds, repeated_turn-advances}
 use Rattle.til_parser.proofs.Shrinking.{Shrinks-decl}
-use Rattle.til_parser.proofs.parser.Parser.decls.Goals as goal
+use Rattle.til_parser.proofs.parser.Parser.repeated_decls.Goals as goal
 
 pub returns-in_err-decl : goal.returns-in_err-decl
-unfolding braced repeated repeated_turn
+unfolding repeated repeated_turn
 returns-in_err-decl c =
     let turn = loop_unfolds (repeated_turn (is_kind kinds.CloseBrace) false (decl c.args.levels)) (repeated_turn-advances (is_kind kinds.CloseBrace) false (decl c.args.levels) (Shrinks-decl c.args.levels)) c.decls.decls c.decls.self in
     first_of (search rules, grind (arith, common_steps))
 
-pub returns-in_err-expect-2 : goal.returns-in_err-expect-2
-unfolding braced repeated repeated_turn
-returns-in_err-expect-2 c =
-    let turn = loop_unfolds (repeated_turn (is_kind kinds.CloseBrace) false (decl c.args.levels)) (repeated_turn-advances (is_kind kinds.CloseBrace) false (decl c.args.levels) (Shrinks-decl c.args.levels)) c.decls.decls c.decls.self in
-    first_of (search rules, grind (arith, common_steps))
-
 pub returns : goal.returns
-unfolding braced repeated repeated_turn
+unfolding repeated repeated_turn
 returns c =
     let turn = loop_unfolds (repeated_turn (is_kind kinds.CloseBrace) false (decl c.args.levels)) (repeated_turn-advances (is_kind kinds.CloseBrace) false (decl c.args.levels) (Shrinks-decl c.args.levels)) c.decls.decls c.decls.self in
     first_of (search rules, grind (arith, common_steps))
