@@ -27,3 +27,5 @@ mod DeclRules
 mod ProjectRules
 mod Shrinking
 mod WordLemmas
+mod ParseLemmas
+pub mod LawLemmas

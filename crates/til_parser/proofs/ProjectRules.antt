@@ -229,7 +229,7 @@ module _ (n : ℕ) where
   abbrev pub ProjectTo : Form
   ProjectTo = EachDeep IsFormed (λ _. false) true (namespace n) SpellsNamespace NamespaceWithin NamespaceTo repeats namespace-rule
 
-  abbrev AtEnd : Form
+  abbrev pub AtEnd : Form
   AtEnd rest = tells {T = Lexeme} (λ _. false) true rest ≡ true
 
   project_there : (all : List AstNamespace) (ast : Ast) (ts : List Lexeme) → project_of all ≡ Some ast → Each SpellsNamespace all ts → Spells ast ts

@@ -1,10 +1,10 @@
 //! The tree that tokens spell.
 
-ghost use Rattle.std.specs.Prelude.{◌≡◌, ◌≢◌, ◌≤◌, Ok, IfOk, IfErr, length};
+ghost use Rattle.std.specs.Prelude.{◌≡◌, ◌≢◌, Ok, IfOk, IfErr, length};
 ghost use Rattle.til_lexer.specs.Tokens.{tokens_of};
 ghost use Rattle.til_parser.specs.declared.fault.ParseFault.TheVariants as faults;
 ghost use Rattle.til_parser.specs.Faults as spec;
-ghost use Rattle.til_parser.specs.Faults.{NamesToken};
+ghost use Rattle.til_parser.specs.Faults.{NamesToken, IsFaultOf};
 ghost use Rattle.til_parser.specs.Grammar.{Spells, SpellNone, IsWithin, most_levels};
 ghost use Rattle.til_parser.specs.Lexemes.{lexemes_of};
 
@@ -27,6 +27,7 @@ pub fn parse(alloc: Global, text: &str, tokens: &[Token]) -> Result<Ast, ParseFa
     ensures within { IfOk result (λ ast. IsWithin most_levels ast) }
     ensures none { IfErr result (λ fault. fault ≢ faults.Memory → SpellNone (lexemes_of text.now tokens.now)) }
     ensures named { IfErr result (NamesToken (length tokens.now)) }
+    ensures exact { IfErr result (IsFaultOf (lexemes_of text.now tokens.now)) }
 {
     tokens_are_of_the_text();
     tokens_have_their_form();
@@ -39,13 +40,12 @@ pub fn parse(alloc: Global, text: &str, tokens: &[Token]) -> Result<Ast, ParseFa
 
 /// What a fault says of so many tokens, where so many are left.
 fn fault_at(fault: Fault, count: usize, left: usize) -> ParseFault
-    requires { left ≤ count }
     ensures { result ≡ spec.fault_at fault count left }
 {
     match fault {
         Fault::Refused if left == 0 => ParseFault::EndOfText,
-        Fault::Refused => ParseFault::Unexpected(count - left),
-        Fault::TooDeep => ParseFault::TooDeep(count - left),
+        Fault::Refused => ParseFault::Unexpected(count.saturating_sub(left)),
+        Fault::TooDeep => ParseFault::TooDeep(count.saturating_sub(left)),
         Fault::Memory => ParseFault::Memory,
     }
 }

@@ -3,7 +3,7 @@ use Rattle.std.proofs.Common.{◌≡◌, ℕ, zero, suc, ◌<◌, ◌≤◌, Boo
 use Rattle.std.specs.Prelude.{Result, OnOk}
 use Rattle.tydi_reading.specs.declared.fault.Fault.{Fault}
 use Rattle.tydi_reading.specs.declared.fault.Fault.TheVariants as faults
-use Rattle.tydi_reading.specs.Lists.{repeated_turn, steps_turn, separator_turn, joined_turn, mark}
+use Rattle.tydi_reading.specs.Lists.{repeated, repeated_turn, steps_turn, separator_turn, joined_turn, mark}
 use Rattle.tydi_reading.specs.Reading.{Outcome, took, stopped, Reader, Reads, Shrinks, and_then, ◌>>=◌, ◌<$>◌, pure, choose, rest_of, sees, ◌>>◌, meant, leaf, Turn, again, done, turned, loop_from, loop, tells}
 
 -- each turn takes a thing where the loop goes on
@@ -139,3 +139,37 @@ pub eaten-less : {T : Type 0} (is : T → Bool) (old : List T) (b : Bool) (new :
 eaten-less is [] b new seen taken test = absurd (let no : false ≡ true = sym seen ∙ test in cc)
 eaten-less is (t ∷ old) b new seen taken test =
     let same : length new ≡ length old = ap length taken ∙ ap (λ c. length (cond c old (t ∷ old))) test in omega arith
+
+-- ---- where a loop ends
+
+made-ends : {T S : Type 0} (P : List T → Type 0) (turn more : S → Reader T S) (next : S → Reader T (Turn S))
+    → ((s end : S) (ts rest : List T) → next s ts ≡ took (done end) rest → P rest) → ((s end : S) (ts rest : List T) → more s ts ≡ took end rest → P rest)
+    → (s end : S) (ts rest : List T) (made : Outcome T (Turn S)) → next s ts ≡ made → and_then made (turned more) ≡ took end rest → P rest
+made-ends P turn more next ends others s end ts rest (stopped e middle) made is = absurd cc
+made-ends P turn more next ends others s end ts rest (took (again x) middle) made is = others x end middle rest is
+made-ends P turn more next ends others s end ts rest (took (done x) middle) made is = subst P (took-both x end middle rest is).1 (ends s x ts middle made)
+
+loop_from-ends : {T S : Type 0} (P : List T → Type 0) (turn : S → Reader T (Turn S)) → ((s end : S) (ts rest : List T) → turn s ts ≡ took (done end) rest → P rest)
+    → (n : ℕ) (s end : S) (ts rest : List T) → loop_from turn n s ts ≡ took end rest → P rest
+unfolding loop_from
+loop_from-ends P turn ends zero s end ts rest is = absurd cc
+loop_from-ends P turn ends (suc n) s end ts rest is =
+    made-ends P (loop_from turn n) (loop_from turn n) turn ends (loop_from-ends P turn ends n) s end ts rest (turn s ts) refl is
+
+pub loop-ends : {T S : Type 0} (P : List T → Type 0) (turn : S → Reader T (Turn S)) → ((s end : S) (ts rest : List T) → turn s ts ≡ took (done end) rest → P rest)
+    → (s end : S) (ts rest : List T) → loop turn s ts ≡ took end rest → P rest
+unfolding loop
+loop-ends P turn ends s end ts rest is = loop_from-ends P turn ends (suc (length ts)) s end ts rest is
+
+no_done : {T A B : Type 0} (made : Outcome T A) (f : A → B) (end : B) (rest : List T) → and_then made (λ x. pure {A = Turn B} (again (f x))) ≡ took (done end) rest → ⊥
+no_done {T} {A} {B} (stopped e middle) f end rest is = cc
+no_done {T} {A} {B} (took x middle) f end rest is = let turns : again (f x) ≡ done end = (took-both (again (f x)) (done end) middle rest is).0 in cc
+
+-- what is read up to the end leaves nothing
+pub repeated-all : {T A : Type 0} (item : Reader T A) (items : List A) (ts rest : List T) → repeated (λ _. false) true item ts ≡ took items rest → rest ≡ []
+unfolding repeated repeated_turn
+repeated-all {T} {A} item items ts rest is = loop-ends (λ rest. rest ≡ []) (repeated_turn (λ _. false) true item) ends [] items ts rest is
+  where
+    ends : (found end : List A) (ts rest : List T) → repeated_turn (λ _. false) true item found ts ≡ took (done end) rest → rest ≡ []
+    ends found end [] rest is = sym (took-both (done found) (done end) [] rest is).1
+    ends found end (t ∷ ts) rest is = absurd (no_done (item (t ∷ ts)) (λ x. found ++ x ∷ []) end rest is)
