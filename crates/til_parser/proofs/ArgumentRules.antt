@@ -1,12 +1,10 @@
 -- The rule of one argument of a Stream, beside those that are given.
-use Rattle.std.proofs.Common.{◌≡◌, ℕ, ◌<◌, ◌⊎◌, inl, inr, ⊎_elim, Bool, true, false, cond, ◌&&◌, List, [], ◌∷◌, ◌++◌, All, length, Option, Some, None, option_and_then, refl, sym, ap, ◌∙◌, subst, bytes_eq, arith, codes, append_assoc}
+use Rattle.std.proofs.Common.{◌≡◌, ℕ, ◌⊎◌, inl, inr, ⊎_elim, Bool, true, false, cond, ◌&&◌, List, [], ◌∷◌, Option, Some, None, refl, sym, ap, ◌∙◌, subst, codes}
 use Rattle.std.specs.Option.{is_none}
 use Rattle.std.proofs.lemmas.Option.{none-some, same_Some}
-use Rattle.std.proofs.lemmas.List.{append-nil}
-use Rattle.tydi_base.specs.Frac.{Fraction}
 use Rattle.tydi_reading.specs.declared.fault.Fault.TheVariants as faults
 use Rattle.tydi_reading.specs.Forms.{Never, Anything, ◌⋯◌}
-use Rattle.tydi_reading.specs.Reading.{Outcome, took, stopped, Reader, and_then, meant, leaf, tells, pure, refuse, ◌>>=◌, ◌>>◌, ◌<$>◌}
+use Rattle.tydi_reading.specs.Reading.{stopped, Reader, and_then, meant, leaf, refuse, ◌>>=◌, ◌>>◌, ◌<$>◌}
 use Rattle.tydi_reading.specs.Rules.{IsRule}
 use Rattle.tydi_reading.proofs.MarkRules.{skip-rule}
 use Rattle.tydi_reading.proofs.StepRules.{IsLeaf, leaf-rule, then-rule, map-rule, read-rule, same-rule}
@@ -14,12 +12,11 @@ use Rattle.tydi_reading.proofs.StepsRule.{IsStuck}
 use Rattle.til_lexer.specs.declared.token.TokenKind.TheVariants as kinds
 use Rattle.til_parser.specs.declared.arguments.Arguments.{Arguments}
 use Rattle.til_parser.specs.declared.ltype.AstType.{AstType}
-use Rattle.til_parser.specs.declared.ltype.AstSync.{AstSync}
 use Rattle.til_parser.specs.Grammar.{Form, Of, IsWord, Word, Whole, Number, Level, sync_word, direction_word, truth_word}
 use Rattle.til_parser.specs.Grammar.{Argument, data_type, throughput, dimensionality, synchronicity, complexity, direction, user_type, keep}
 use Rattle.til_parser.specs.Lexemes.{Lexeme, IsFormed}
-use Rattle.til_parser.specs.Reading.{same_kind, is_kind, is_word, expect}
-use Rattle.til_parser.specs.ReadTypes.{whole, number, level, sync, either_word, labelled, awaits, setting, argument}
+use Rattle.til_parser.specs.Reading.{same_kind, is_word, expect}
+use Rattle.til_parser.specs.ReadTypes.{whole, number, level, sync, either_word, labelled, setting, argument}
 use Rattle.til_parser.specs.Tree.{plain}
 use Rattle.til_parser.proofs.ArgumentFields.{Value, field, put, field-put, field-put_other, one_or_two}
 use Rattle.til_parser.proofs.LeafRules.{PathNext, number-rule, whole-rule, level-rule, sync-rule, either-rule}
@@ -327,13 +324,16 @@ module _ (inner : Reader Lexeme AstType) (W : AstType → Type 0) (D : Form) (ru
           added = r.1;
           spelled = record { front = front; back = back; all = refl; begins = s.1; ends = r.2 };
         };
-        part = λ next ts s. (s.name, record {
-          front = s.spelled.front;
-          back = s.spelled.back;
-          all = s.spelled.all;
-          begins = (s.absent, s.spelled.begins);
-          ends = (s.is, s.added, s.spelled.ends);
-        });
+        part = λ next ts s. (
+          s.name,
+          record {
+            front = s.spelled.front;
+            back = s.spelled.back;
+            all = s.spelled.all;
+            begins = (s.absent, s.spelled.begins);
+            ends = (s.is, s.added, s.spelled.ends);
+          },
+        );
         follow = λ a next back rest r after. tt;
         follows = λ a next back rest r after. after;
         within = λ a next back r w inside. added-within given next a r.0 r.1 inside;
@@ -344,13 +344,16 @@ module _ (inner : Reader Lexeme AstType) (W : AstType → Type 0) (D : Form) (ru
           absent = s.0;
           leads = record { front = front; back = back; all = refl; begins = s.1; ends = d };
         };
-        deep = λ ts d. inr (d.name, record {
-          front = d.leads.front;
-          back = d.leads.back;
-          all = d.leads.all;
-          begins = (d.absent, d.leads.begins);
-          ends = d.leads.ends;
-        });
+        deep = λ ts d. inr (
+          d.name,
+          record {
+            front = d.leads.front;
+            back = d.leads.back;
+            all = d.leads.all;
+            begins = (d.absent, d.leads.begins);
+            ends = d.leads.ends;
+          },
+        );
         follow_deep = λ a back rest d. tt;
       })
       (name-rule given free_one none) (rest-rule given))

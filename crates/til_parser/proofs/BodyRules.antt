@@ -1,36 +1,29 @@
 -- The rules of ports, bodies and ends.
-use Rattle.std.proofs.Common.{◌≡◌, ℕ, ◌<◌, ◌≤◌, ◌⊎◌, inl, inr, ⊎_elim, Bool, true, false, List, [], ◌∷◌, ◌++◌, length, Option, Some, None, refl, sym, ap, ◌∙◌, subst, arith, codes, append_assoc, bytes_eq}
-use Rattle.std.proofs.lemmas.List.{append-nil, length-append}
-use Rattle.tydi_reading.specs.Forms.{Never, Anything, Nothing, ◌⋯◌}
+use Rattle.std.proofs.Common.{◌≡◌, ℕ, ◌<◌, ◌⊎◌, inl, inr, ⊎_elim, Bool, true, false, List, [], ◌∷◌, ◌++◌, length, Option, Some, None, refl, sym, ap, ◌∙◌, subst, arith, codes, append_assoc}
+use Rattle.tydi_reading.specs.Forms.{Never, Anything, ◌⋯◌}
 use Rattle.tydi_reading.specs.Lists.{Each, EachIs}
-use Rattle.tydi_reading.specs.Reading.{Reader, tells, choose, pure, ◌>>◌, ◌>>=◌, ◌<$>◌, ◌<&>◌, ◌<<◌}
+use Rattle.tydi_reading.specs.Reading.{Reader, tells, choose, pure, ◌>>◌, ◌<$>◌, ◌<&>◌, ◌<<◌}
 use Rattle.tydi_reading.specs.Rules.{IsRule}
 use Rattle.tydi_reading.proofs.ChoiceRules.{choose-rule, both-rule}
-use Rattle.tydi_reading.proofs.FilledLemmas.{filled-first, filled-second}
+use Rattle.tydi_reading.proofs.FilledLemmas.{filled-first}
 use Rattle.tydi_reading.proofs.MarkRules.{skip-rule, close-rule}
 use Rattle.tydi_reading.proofs.StepRules.{Only, pure-rule, map-rule, same-rule, then-rule}
 use Rattle.til_lexer.specs.declared.token.TokenKind.TheVariants as kinds
-use Rattle.til_parser.specs.declared.ltype.AstType.{AstType}
 use Rattle.til_parser.specs.declared.tree.AstBody.{AstBody}
 use Rattle.til_parser.specs.declared.tree.AstBody.TheVariants as bodies
 use Rattle.til_parser.specs.declared.tree.AstEnd.{AstEnd}
 use Rattle.til_parser.specs.declared.tree.AstName.{AstName}
 use Rattle.til_parser.specs.declared.tree.AstPath.{AstPath}
-use Rattle.til_parser.specs.declared.tree.AstPort.{AstPort}
-use Rattle.til_parser.specs.declared.tree.AstPorts.{AstPorts}
-use Rattle.til_parser.specs.declared.tree.AstPorts.TheVariants as ports
 use Rattle.til_parser.specs.declared.tree.AstStmt.{AstStmt}
 use Rattle.til_parser.specs.declared.tree.AstStmt.TheVariants as stmts
-use Rattle.til_parser.specs.Grammar.{Form, Of, Word, Name, Path, Doc, Quoted, Commas, Bracketed, Braced, SpellsType, SpellsPort, SpellsPorts, SpellsEnd, Second, SpellsStmt, SpellsBody, SpellsStreamletPorts, StreamletWithin, PortsWithin, way_word}
+use Rattle.til_parser.specs.Grammar.{Form, Of, Name, Path, Quoted, Braced, SpellsEnd, Second, SpellsStmt, SpellsBody}
 use Rattle.til_parser.specs.Lexemes.{Lexeme, IsFormed}
-use Rattle.til_parser.specs.Reading.{same_kind, is_kind, is_word, expect, expect_word}
-use Rattle.til_parser.specs.ReadTypes.{name, path, doc, quoted, either_word, bracketed, ltype}
-use Rattle.til_parser.specs.ReadDecls.{braced, second, end, link_from, instance_of, stmt, body, port, streamlet_ports}
-use Rattle.til_parser.specs.Tree.{plain}
-use Rattle.til_parser.proofs.LeafRules.{PathNext, NoDoc, name-rule, path-rule, doc-rule, quoted-rule, either-rule}
-use Rattle.til_parser.proofs.ListRules.{Lists, Braces, BracketedDeep, BracedDeep, bracketed-rule, braced-rule, kind-not, kind-path, Of-path}
-use Rattle.til_parser.proofs.TokenRules.{kind-mark, kind-rule, Of-not, Word-not, same_kind-is}
-use Rattle.til_parser.proofs.TypeRules.{S, Fits, ltype-rule, S-filled}
+use Rattle.til_parser.specs.Reading.{same_kind, is_kind, expect}
+use Rattle.til_parser.specs.ReadTypes.{name, path, quoted}
+use Rattle.til_parser.specs.ReadDecls.{braced, second, end, link_from, instance_of, stmt, body}
+use Rattle.til_parser.proofs.LeafRules.{PathNext, name-rule, path-rule, quoted-rule}
+use Rattle.til_parser.proofs.ListRules.{Braces, braced-rule, Of-path}
+use Rattle.til_parser.proofs.TokenRules.{kind-rule, Of-not, same_kind-is}
 
 -- ---- what begins with a name or a token
 
@@ -240,14 +233,16 @@ stmt_part : (x : AstStmt) (ts : List Lexeme) → SpellsStmt x ts → (called : A
 unfolding StmtRest InstanceRest LinkRest
 stmt_part (stmts.Instance called p) ts s = (called, record { front = s.front; back = s.back; all = s.all; begins = s.begins; ends = inl (p, refl, s.ends) })
 stmt_part (stmts.Link first other) ts s =
-    let e = s.begins in
-    (first.first, record {
-      front = e.front;
-      back = e.back ++ s.back;
-      all = s.all ∙ ap (λ l. l ++ s.back) e.all ∙ append_assoc e.front e.back s.back;
-      begins = e.begins;
-      ends = inr ((first.second, other), refl, record { front = e.back; back = s.back; all = refl; begins = e.ends; ends = s.ends });
-    })
+    let e = s.begins in (
+      first.first,
+      record {
+        front = e.front;
+        back = e.back ++ s.back;
+        all = s.all ∙ ap (λ l. l ++ s.back) e.all ∙ append_assoc e.front e.back s.back;
+        begins = e.begins;
+        ends = inr ((first.second, other), refl, record { front = e.back; back = s.back; all = refl; begins = e.ends; ends = s.ends });
+      },
+    )
 
 pub stmt-rule : IsRule IsFormed stmt SpellsStmt (λ _. Anything) (λ _. Unit {0}) Never
 unfolding stmt

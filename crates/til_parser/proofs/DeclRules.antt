@@ -1,22 +1,20 @@
 -- The rules of ports and declarations.
-use Rattle.std.proofs.Common.{◌≡◌, ℕ, ◌<◌, ◌≤◌, ◌⊎◌, inl, inr, ⊎_elim, Bool, true, false, List, [], ◌∷◌, ◌++◌, length, Option, Some, None, refl, sym, ap, ◌∙◌, subst, arith, codes, append_assoc, bytes_eq}
-use Rattle.std.proofs.lemmas.List.{append-nil, length-append}
+use Rattle.std.proofs.Common.{◌≡◌, ℕ, ◌⊎◌, inl, inr, ⊎_elim, Bool, true, false, List, [], ◌∷◌, ◌++◌, Option, Some, None, refl, sym, subst, codes, append_assoc}
 use Rattle.til_lexer.specs.Words.{has_name_form}
-use Rattle.tydi_reading.specs.Forms.{Form as FormOf, Never, Anything, Nothing, ◌⋯◌}
-use Rattle.tydi_reading.specs.Lists.{Each, EachIs, repeated}
-use Rattle.tydi_reading.specs.Reading.{Reader, tells, choose, pure, ◌>>◌, ◌>>=◌, ◌<$>◌, ◌<&>◌, ◌<<◌}
+use Rattle.tydi_reading.specs.Forms.{Never, Anything, ◌⋯◌}
+use Rattle.tydi_reading.specs.Lists.{EachIs}
+use Rattle.tydi_reading.specs.Reading.{tells, ◌>>◌, ◌<$>◌, ◌<&>◌}
 use Rattle.tydi_reading.specs.Rules.{IsRule}
 use Rattle.tydi_reading.proofs.ChoiceRules.{choose-rule, both-rule}
 use Rattle.tydi_reading.proofs.FilledLemmas.{filled-first, filled-second}
-use Rattle.tydi_reading.proofs.MarkRules.{skip-rule, close-rule}
-use Rattle.tydi_reading.proofs.StepRules.{Only, pure-rule, map-rule, same-rule, then-rule}
+use Rattle.tydi_reading.proofs.MarkRules.{skip-rule}
+use Rattle.tydi_reading.proofs.StepRules.{map-rule, same-rule}
 use Rattle.til_lexer.specs.declared.token.TokenKind.{TokenKind}
 use Rattle.til_lexer.specs.declared.token.TokenKind.TheVariants as kinds
 use Rattle.til_parser.specs.declared.keyword.Keyword.{Keyword}
 use Rattle.til_parser.specs.declared.keyword.Keyword.TheVariants as keywords
 use Rattle.til_parser.specs.declared.ltype.AstType.{AstType}
 use Rattle.til_parser.specs.declared.tree.AstBody.{AstBody}
-use Rattle.til_parser.specs.declared.tree.AstDecl.{AstDecl}
 use Rattle.til_parser.specs.declared.tree.AstKind.{AstKind}
 use Rattle.til_parser.specs.declared.tree.AstKind.TheVariants as decls
 use Rattle.til_parser.specs.declared.tree.AstName.{AstName}
@@ -24,17 +22,17 @@ use Rattle.til_parser.specs.declared.tree.AstPath.{AstPath}
 use Rattle.til_parser.specs.declared.tree.AstPort.{AstPort}
 use Rattle.til_parser.specs.declared.tree.AstPorts.{AstPorts}
 use Rattle.til_parser.specs.declared.tree.AstPorts.TheVariants as ports
-use Rattle.til_parser.specs.Grammar.{Form, Of, Word, Name, Path, Doc, Quoted, Commas, Bracketed, Braced, SpellsType, SpellsPort, SpellsPorts, SpellsBody, SpellsStreamletPorts, StreamletWithin, PortsWithin, way_word, SpellsKind, KindWithin, SpellsDecl}
+use Rattle.til_parser.specs.Grammar.{Form, Of, Word, Name, Path, Doc, Quoted, SpellsType, SpellsPort, SpellsPorts, SpellsBody, SpellsStreamletPorts, StreamletWithin, PortsWithin, way_word, SpellsKind, KindWithin}
 use Rattle.til_parser.specs.Lexemes.{Lexeme, IsFormed}
-use Rattle.til_parser.specs.Reading.{same_kind, is_kind, is_word, expect, expect_word}
+use Rattle.til_parser.specs.Reading.{same_kind, is_kind, expect, expect_word}
 use Rattle.til_parser.specs.ReadTypes.{name, path, doc, quoted, either_word, bracketed, ltype}
-use Rattle.til_parser.specs.ReadDecls.{braced, body, port, streamlet_ports, keyword, impl_kind, test_kind, kind_of, named_kind, decl}
+use Rattle.til_parser.specs.ReadDecls.{body, port, streamlet_ports, keyword, impl_kind, test_kind, kind_of}
 use Rattle.til_parser.specs.Tree.{plain}
 use Rattle.til_parser.proofs.BodyRules.{Name-not, Name-filled, front-tells, Of-tells, body-rule, no_deep-rule}
 use Rattle.til_parser.proofs.LeafRules.{PathNext, NoDoc, Fixed, plain-same, word_or-rule, fixed-rule, name-rule, path-rule, doc-rule, quoted-rule, either-rule}
 use Rattle.til_parser.proofs.ListRules.{Lists, BracketedDeep, bracketed-rule, Of-path}
-use Rattle.til_parser.proofs.TokenRules.{kind-rule, word-rule, Of-not, Word-not, Word-not_word, same_kind-is}
-use Rattle.til_parser.proofs.TypeRules.{S, Fits, LevelRule, ltype-rule}
+use Rattle.til_parser.proofs.TokenRules.{kind-rule, word-rule, Word-not_word}
+use Rattle.til_parser.proofs.TypeRules.{S, Fits, ltype-rule}
 
 -- ---- ports
 
@@ -77,38 +75,49 @@ module _ (n : ℕ) where
       → PortTo ts
   port_first ts = ⊎_elim (λ d. absurd d) (λ d.
       ⊎_elim (λ e. absurd e) (λ e.
-      ⊎_elim (λ f. absurd f) (λ f. (d.0, e.0, f.0, record {
-        front = d.1.front;
-        back = d.1.back;
-        all = d.1.all;
-        begins = d.1.begins;
-        ends = record {
-          front = e.1.front;
-          back = e.1.back;
-          all = e.1.all;
-          begins = e.1.begins;
-          ends = record { front = e.1.ends.front; back = e.1.ends.back; all = e.1.ends.all; begins = e.1.ends.begins; ends = f.1 };
-        };
-      })) e.1.ends.ends) d.1.ends)
+      ⊎_elim (λ f. absurd f) (λ f. (
+        d.0,
+        e.0,
+        f.0,
+        record {
+          front = d.1.front;
+          back = d.1.back;
+          all = d.1.all;
+          begins = d.1.begins;
+          ends = record {
+            front = e.1.front;
+            back = e.1.back;
+            all = e.1.all;
+            begins = e.1.begins;
+            ends = record { front = e.1.ends.front; back = e.1.ends.back; all = e.1.ends.all; begins = e.1.ends.begins; ends = f.1 };
+          };
+        },
+      )) e.1.ends.ends) d.1.ends)
 
   port_deep : (ts : List Lexeme) → PortTo ts
       → (Never ts ⊎ ((d : Option (List ℕ)) × ((Doc d ⋯ (λ ts. Never ts ⊎ ((x : AstName) × ((Name x ⋯ (Of kinds.Colon ⋯ (λ ts. Never ts ⊎ ((b : Bool) × ((Word (way_word b) ⋯ D) ts))))) ts)))) ts)))
   port_deep ts p =
       let s = p.3 in
       let m = s.ends in
-      inr (p.0, record {
-        front = s.front;
-        back = s.back;
-        all = s.all;
-        begins = s.begins;
-        ends = inr (p.1, record {
-          front = m.front;
-          back = m.back;
-          all = m.all;
-          begins = m.begins;
-          ends = record { front = m.ends.front; back = m.ends.back; all = m.ends.all; begins = m.ends.begins; ends = inr (p.2, m.ends.ends) };
-        });
-      })
+      inr (
+        p.0,
+        record {
+          front = s.front;
+          back = s.back;
+          all = s.all;
+          begins = s.begins;
+          ends = inr (
+            p.1,
+            record {
+              front = m.front;
+              back = m.back;
+              all = m.all;
+              begins = m.begins;
+              ends = record { front = m.ends.front; back = m.ends.back; all = m.ends.all; begins = m.ends.begins; ends = inr (p.2, m.ends.ends) };
+            },
+          );
+        },
+      )
 
   pub port-rule : IsRule IsFormed (port n) SpellsPort (λ _. PathNext) (λ p. Fits n p.ltype) PortTo
   unfolding port

@@ -1,5 +1,5 @@
 -- No text spells two trees.
-use Rattle.std.proofs.Common.{◌≡◌, ℕ, suc, max, List, [], ◌∷◌, All, sym, ap, ◌∙◌, subst, arith}
+use Rattle.std.proofs.Common.{◌≡◌, ℕ, max, List, [], ◌∷◌, All, sym, ◌∙◌, subst, arith}
 use Rattle.std.proofs.lemmas.List.Elements.{All-nil, All-cons, All-head, All-tail}
 use Rattle.til_lexer.proofs.FormLemmas.{tokens-have_form}
 use Rattle.til_lexer.specs.declared.token.Token.{Token}

@@ -5,19 +5,18 @@ use Rattle.std.specs.Prelude.{not}
 use Rattle.std.specs.Char.{is_ascii_digit}
 use Rattle.std.specs.List.{list_all}
 use Rattle.std.proofs.lemmas.Bool.Decides.{nat_tests}
-use Rattle.std.proofs.lemmas.List.{append-nil}
 use Rattle.std.proofs.lemmas.Option.{none-some, same_Some, cond_some}
 use Rattle.std.proofs.lemmas.Str.{IsUtf8-nil}
 use Rattle.std.proofs.Math.Nat.{pow-le-pow_right}
 use Rattle.std.proofs.lemmas.Int.Digits.{digits_value-lt}
 use Rattle.tydi_base.specs.Decimal.{read_on, below}
-use Rattle.tydi_base.specs.Frac.{Fraction, IsReduced}
+use Rattle.tydi_base.specs.Frac.{IsReduced}
 use Rattle.tydi_base.specs.Level.{IsLevel}
 use Rattle.tydi_base.specs.Name.{is_name, name_of}
 use Rattle.tydi_base.specs.declared.place.Place.{Place}
 use Rattle.tydi_base.proofs.DecimalLaws.{own}
-use Rattle.tydi_reading.specs.Forms.{Never, Anything, ◌⋯◌, Nothing}
-use Rattle.tydi_reading.specs.Lists.{Joined, joined}
+use Rattle.tydi_reading.specs.Forms.{Never, Anything}
+use Rattle.tydi_reading.specs.Lists.{joined}
 use Rattle.tydi_reading.specs.Reading.{Reader, tells, choose, pure, ◌<$>◌, and_then, meant}
 use Rattle.tydi_reading.specs.Rules.{IsRule}
 use Rattle.tydi_reading.proofs.ChoiceRules.{choose-rule, chosen}
@@ -36,9 +35,9 @@ use Rattle.til_parser.specs.Grammar.{Form, One, Of, Word, IsNamed, Name, IsWhole
 use Rattle.til_parser.specs.Lexemes.{Lexeme, IsFormed, between_marks}
 use Rattle.til_parser.specs.Numbers.{whole_of, numerator_of, denominator_of, lowest}
 use Rattle.til_parser.specs.ReadTypes.{name_at, name, whole, number, level_of, level, quoted, doc_of, doc, path, either_word, sync}
-use Rattle.til_parser.specs.Reading.{same_kind, is_kind, is_word, next_of, expect_word, token}
+use Rattle.til_parser.specs.Reading.{same_kind, is_kind, is_word, expect_word, token}
 use Rattle.til_parser.proofs.FractionLemmas.{IsReduced-lowest, lowest_from_IsReduced}
-use Rattle.til_parser.proofs.TokenRules.{both, one, made, kind_is, same_kind-is, is_word-is, kind-mark, word-rule, IsToken, token-rule, Word-not_word}
+use Rattle.til_parser.proofs.TokenRules.{both, one, made, same_kind-is, is_word-is, kind-mark, word-rule, IsToken, token-rule, Word-not_word}
 
 -- ---- names
 
@@ -149,8 +148,12 @@ level_token = record {
   there = λ x lexeme is means.
       let parts = level_within (whole_of lexeme.spelling) x means in
       record { whole = one (IsWhole x) lexeme (is_whole x lexeme is parts.0); within = parts.1 };
-  back = λ x ts s. (s.whole.lexeme, s.whole.all, s.whole.is.kind,
-      λ formed. ap level_of (means_whole x s.whole.lexeme formed s.whole.is) ∙ level_sees x s.within);
+  back = λ x ts s. (
+    s.whole.lexeme,
+    s.whole.all,
+    s.whole.is.kind,
+    λ formed. ap level_of (means_whole x s.whole.lexeme formed s.whole.is) ∙ level_sees x s.within,
+  );
 }
 
 pub level-rule : IsRule IsFormed level Level (λ _. Anything) (λ _. Unit {0}) Never
@@ -169,8 +172,13 @@ number_token = record {
     value = subst (IsReduced (numerator_of lexeme.spelling) (denominator_of lexeme.spelling)) (same_Some _ x means)
         (IsReduced-lowest (numerator_of lexeme.spelling) (denominator_of lexeme.spelling) (parts_are_some lexeme.spelling));
   });
-  back = λ x ts s. (s.lexeme, s.all, s.is.kind, λ formed. ap Some (sym (lowest_from_IsReduced (numerator_of s.lexeme.spelling)
-      (denominator_of s.lexeme.spelling) x (parts_are_some s.lexeme.spelling) s.is.value)));
+  back = λ x ts s. (
+    s.lexeme,
+    s.all,
+    s.is.kind,
+    λ formed. ap Some (sym (lowest_from_IsReduced (numerator_of s.lexeme.spelling)
+        (denominator_of s.lexeme.spelling) x (parts_are_some s.lexeme.spelling) s.is.value)),
+  );
 }
 
 pub number-rule : IsRule IsFormed number Number (λ _. Anything) (λ _. Unit {0}) Never

@@ -1,9 +1,8 @@
 -- The rules of lists in brackets and in braces.
-use Rattle.std.proofs.Common.{◌≡◌, ℕ, ◌<◌, Bool, true, false, List, [], ◌∷◌, ◌++◌, length, refl, sym, ap, ◌∙◌, subst, arith, codes}
-use Rattle.std.specs.Prelude.{not}
-use Rattle.tydi_reading.specs.Forms.{Never, Anything, ◌⋯◌}
+use Rattle.std.proofs.Common.{◌≡◌, ◌<◌, true, false, List, [], ◌∷◌, ◌++◌, length, refl, codes}
+use Rattle.tydi_reading.specs.Forms.{Anything, ◌⋯◌}
 use Rattle.tydi_reading.specs.Lists.{Each, EachIs, repeated, separated}
-use Rattle.tydi_reading.specs.Reading.{Reader, tells, ◌>>◌, ◌<<◌}
+use Rattle.tydi_reading.specs.Reading.{Reader, tells, ◌<<◌}
 use Rattle.tydi_reading.specs.Rules.{IsRule}
 use Rattle.tydi_reading.proofs.MarkRules.{skip-rule, close-rule}
 use Rattle.tydi_reading.proofs.RepeatedRule.{Repeats, EachDeep, repeated-rule}

@@ -1,12 +1,10 @@
 -- The reader of projects: what it reads, and why it stops.
-use Rattle.std.proofs.Common.{◌≡◌, ◌≢◌, ℕ, suc, ◌+◌, ◌-◌, ◌<◌, ◌≤◌, ⊎_elim, Bool, true, false, cond, List, [], ◌∷◌, ◌++◌, All, length, refl, sym, ap, ◌∙◌, subst, arith}
+use Rattle.std.proofs.Common.{◌≡◌, ◌≢◌, ℕ, ◌-◌, ◌≤◌, ⊎_elim, true, false, List, [], ◌∷◌, ◌++◌, All, length, refl, sym, ap, ◌∙◌, subst, arith}
 use Rattle.std.proofs.lemmas.List.{append-nil, length-append}
 use Rattle.tydi_reading.specs.declared.fault.Fault.{Fault}
 use Rattle.tydi_reading.specs.declared.fault.Fault.TheVariants as reading
-use Rattle.tydi_reading.specs.Faults.{IsRefusedAt, IsCutOff}
-use Rattle.tydi_reading.specs.Forms.{Never, GoesOn}
 use Rattle.tydi_reading.specs.Lists.{repeated}
-use Rattle.tydi_reading.specs.Reading.{Outcome, took, stopped, Reads, and_then, meant, tells}
+use Rattle.tydi_reading.specs.Reading.{Outcome, took, stopped, and_then, meant}
 use Rattle.tydi_reading.proofs.ExactLemmas.{refused-exact, cut_off-exact, too_deep-exact, memory-never}
 use Rattle.tydi_reading.proofs.LoopLemmas.{repeated-all}
 use Rattle.til_parser.specs.declared.fault.ParseFault.{ParseFault}

@@ -1,17 +1,17 @@
 -- The rules of declarations, namespaces and projects.
-use Rattle.std.proofs.Common.{◌≡◌, ℕ, ◌<◌, ◌≤◌, ◌⊎◌, inl, inr, ⊎_elim, Bool, true, false, List, [], ◌∷◌, ◌++◌, length, Option, Some, None, refl, sym, ap, ◌∙◌, subst, arith, codes, append_assoc}
+use Rattle.std.proofs.Common.{◌≡◌, ℕ, ◌<◌, ◌⊎◌, inr, ⊎_elim, true, false, List, [], ◌∷◌, ◌++◌, length, Option, Some, None, refl, sym, ap, subst, arith, codes, append_assoc}
 use Rattle.std.proofs.lemmas.Option.{none-some, same_Some}
-use Rattle.std.proofs.lemmas.List.{append-nil, length-append}
-use Rattle.tydi_reading.specs.Forms.{Never, Anything, Nothing, ◌⋯◌, GoesOn}
+use Rattle.std.proofs.lemmas.List.{append-nil}
+use Rattle.tydi_reading.specs.Forms.{Never, Anything, ◌⋯◌, GoesOn}
 use Rattle.tydi_reading.specs.Lists.{Each, EachIs, repeated}
-use Rattle.tydi_reading.specs.Reading.{Reader, tells, took, checked, ◌>>◌, ◌>>=◌, ◌<$>◌, ◌<&>◌, ◌<<◌}
+use Rattle.tydi_reading.specs.Reading.{tells, ◌>>◌, ◌<&>◌, ◌<<◌}
 use Rattle.tydi_reading.specs.Rules.{IsRule}
 use Rattle.tydi_reading.proofs.CheckedRule.{Checks, checked-rule}
 use Rattle.tydi_reading.proofs.ChoiceRules.{both-rule}
 use Rattle.tydi_reading.proofs.FilledLemmas.{filled-first, filled-second}
 use Rattle.tydi_reading.proofs.MarkRules.{skip-rule, close-rule}
 use Rattle.tydi_reading.proofs.RepeatedRule.{Repeats, EachDeep, repeated-rule}
-use Rattle.tydi_reading.proofs.StepRules.{map-rule, same-rule, then-rule}
+use Rattle.tydi_reading.proofs.StepRules.{map-rule, then-rule}
 use Rattle.til_lexer.specs.declared.token.TokenKind.{TokenKind}
 use Rattle.til_lexer.specs.declared.token.TokenKind.TheVariants as kinds
 use Rattle.til_parser.specs.declared.keyword.Keyword.{Keyword}
@@ -26,11 +26,11 @@ use Rattle.til_parser.specs.Lexemes.{Lexeme, IsFormed}
 use Rattle.til_parser.specs.Reading.{same_kind, is_kind, expect, expect_word}
 use Rattle.til_parser.specs.ReadTypes.{name, path, doc}
 use Rattle.til_parser.specs.ReadDecls.{braced, keyword, kind_of, named_kind, decl, namespace, project_of, project}
-use Rattle.til_parser.proofs.BodyRules.{Name-filled, front-tells, Of-tells}
-use Rattle.til_parser.proofs.DeclRules.{doc_tells, keyword_word, keyword_of, SpellsRest, kind_parts, kind_of_parts, KindForm, KindTo, keyword-rule, kind-rule_of}
+use Rattle.til_parser.proofs.BodyRules.{front-tells}
+use Rattle.til_parser.proofs.DeclRules.{doc_tells, keyword_word, keyword_of, kind_parts, kind_of_parts, KindForm, KindTo, keyword-rule, kind-rule_of}
 use Rattle.til_parser.proofs.LeafRules.{PathNext, NoDoc, name-rule, path-rule, doc-rule}
 use Rattle.til_parser.proofs.ListRules.{Braces, BracedDeep, braced-rule, Of-path}
-use Rattle.til_parser.proofs.TokenRules.{kind-rule, word-rule, Of-not, Word-not}
+use Rattle.til_parser.proofs.TokenRules.{kind-rule, word-rule, Word-not}
 
 Word-filled : (word : List ℕ) (ts : List Lexeme) → Word word ts → 0 < length ts
 Word-filled word ts s = let size = ap length s.all in omega arith
@@ -69,14 +69,16 @@ module _ (n : ℕ) where
   named_part : (z : AstName × AstKind) (ts : List Lexeme) → SpellsKind z.0 z.1 ts → (begun : Keyword) × ((Word (keyword_word begun) ⋯ NamedForm begun z) ts)
   unfolding NamedForm
   named_part z ts s =
-      let p = kind_parts z.0 z.1 ts s in
-      (keyword_of z.1, record {
-        front = p.front;
-        back = p.back;
-        all = p.all;
-        begins = p.begins;
-        ends = record { front = p.ends.front; back = p.ends.back; all = p.ends.all; begins = p.ends.begins; ends = (refl, p.ends.ends) };
-      })
+      let p = kind_parts z.0 z.1 ts s in (
+        keyword_of z.1,
+        record {
+          front = p.front;
+          back = p.back;
+          all = p.all;
+          begins = p.begins;
+          ends = record { front = p.ends.front; back = p.ends.back; all = p.ends.all; begins = p.ends.begins; ends = (refl, p.ends.ends) };
+        },
+      )
 
   -- what leads to something too deep from the keyword on
   abbrev pub DeclTo : Form

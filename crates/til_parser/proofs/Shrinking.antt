@@ -1,12 +1,12 @@
 -- The readers that take a token at least.
-use Rattle.std.proofs.Common.{◌≡◌, ℕ, ◌<◌, ⊎_elim, List, length, sym, ap, ◌∙◌, arith}
+use Rattle.std.proofs.Common.{◌≡◌, ℕ, ⊎_elim, length, sym, ap, ◌∙◌, arith}
 use Rattle.tydi_reading.specs.declared.fault.Fault.TheVariants as faults
 use Rattle.tydi_reading.specs.Forms.{Never, Anything, ◌⋯◌}
 use Rattle.tydi_reading.specs.Reading.{Outcome, took, stopped, Shrinks}
-use Rattle.tydi_reading.proofs.FilledLemmas.{shrinks-rule, filled-first, filled-second}
+use Rattle.tydi_reading.proofs.FilledLemmas.{shrinks-rule, filled-first}
 use Rattle.til_lexer.specs.declared.token.TokenKind.TheVariants as kinds
 use Rattle.til_parser.specs.declared.arguments.Arguments.{Arguments}
-use Rattle.til_parser.specs.Grammar.{Of, Word, Name, Doc, SpellsPort, SpellsStmt, SpellsDecl, SpellsNamespace, KindWithin, DeclsWithin}
+use Rattle.til_parser.specs.Grammar.{Of, Word, Name, SpellsPort, SpellsStmt, SpellsDecl, SpellsNamespace, KindWithin, DeclsWithin}
 use Rattle.til_parser.specs.Lexemes.{Lexeme, IsFormed}
 use Rattle.til_parser.specs.ReadTypes.{name, ltype, part, argument}
 use Rattle.til_parser.specs.ReadDecls.{port, stmt, decl, namespace}

@@ -1,13 +1,12 @@
 -- The rule of the arguments of a Stream.
-use Rattle.std.proofs.Common.{◌≡◌, ℕ, zero, suc, ◌<◌, ◌⊎◌, inl, inr, ⊎_elim, Bool, true, false, List, [], ◌∷◌, ◌++◌, All, length, Option, Some, None, option_map, refl, sym, ap, ◌∙◌, subst, arith, codes, append_assoc}
+use Rattle.std.proofs.Common.{◌≡◌, ℕ, zero, suc, inl, inr, ⊎_elim, true, false, List, [], ◌∷◌, ◌++◌, All, length, Option, Some, None, option_map, refl, sym, ap, ◌∙◌, subst, arith, codes, append_assoc}
 use Rattle.std.specs.List.{Contains}
 use Rattle.std.specs.Option.{unwrap_or}
 use Rattle.std.proofs.lemmas.Option.{none-some, same_Some}
-use Rattle.std.proofs.lemmas.List.{append-nil, length-append}
+use Rattle.std.proofs.lemmas.List.{append-nil}
 use Rattle.std.proofs.lemmas.List.Elements.{All-nil, All-cons}
-use Rattle.tydi_reading.specs.Forms.{Never, Anything, ◌⋯◌, Runs, Loop, LoopDeep, GoesOn}
-use Rattle.tydi_reading.specs.Lists.{Separated}
-use Rattle.tydi_reading.specs.Reading.{Reader, Turn, tells, checked, ◌>>◌, ◌<<◌}
+use Rattle.tydi_reading.specs.Forms.{Anything, ◌⋯◌, Runs, Loop, LoopDeep, GoesOn}
+use Rattle.tydi_reading.specs.Reading.{Reader, Turn, tells, checked, ◌<<◌}
 use Rattle.tydi_reading.specs.Rules.{IsRule}
 use Rattle.tydi_reading.proofs.CheckedRule.{Checks, checked-rule}
 use Rattle.tydi_reading.proofs.FilledLemmas.{filled-first}
@@ -302,14 +301,19 @@ module _ (inner : Reader Lexeme AstType) (W : AstType → Type 0) (D : Form) (ru
 
   one_more : (s : AstStream) (a : Argument) (given end : Arguments) (front comma back ts : List Lexeme) → ts ≡ front ++ (comma ++ back) → field a given ≡ None
       → GivenOf s a front → Of kinds.Comma comma → Loop Turning (put a (value s a) given) end back → Loop Turning given end ts
-  one_more s a given end front comma back ts is none g m more =
-      (suc more.0, inr (put a (value s a) given, record {
+  one_more s a given end front comma back ts is none g m more = (
+    suc more.0,
+    inr (
+      put a (value s a) given,
+      record {
         front = front ++ comma;
         back = back;
         all = is ∙ sym (append_assoc front comma back);
         begins = record { front = front; back = comma; all = refl; begins = step-of s a given front none g; ends = m };
         ends = more.1;
-      }))
+      },
+    ),
+  )
 
   last_one : (s : AstStream) (a : Argument) (given : Arguments) (front back ts : List Lexeme) → ts ≡ front ++ back → field a given ≡ None → GivenOf s a front
       → LastComma back → Loop Turning given (put a (value s a) given) ts
@@ -371,13 +375,19 @@ module _ (inner : Reader Lexeme AstType) (W : AstType → Type 0) (D : Form) (ru
   mended_after given final ts none s = record {
     more = comma ∷ data_null;
     good = All-cons IsFormed comma data_null refl good_null;
-    walk = (2, inr (final, record {
-      front = ts ++ comma ∷ [];
-      back = data_null;
-      all = sym (append_assoc ts (comma ∷ []) data_null);
-      begins = record { front = ts; back = comma ∷ []; all = refl; begins = s; ends = one (λ lexeme. lexeme.kind ≡ kinds.Comma) comma refl };
-      ends = inl (inr (null_step final none));
-    }));
+    walk = (
+      2,
+      inr (
+        final,
+        record {
+          front = ts ++ comma ∷ [];
+          back = data_null;
+          all = sym (append_assoc ts (comma ∷ []) data_null);
+          begins = record { front = ts; back = comma ∷ []; all = refl; begins = s; ends = one (λ lexeme. lexeme.kind ≡ kinds.Comma) comma refl };
+          ends = inl (inr (null_step final none));
+        },
+      ),
+    );
   }
 
   mended : (n : ℕ) (given final : Arguments) (ts : List Lexeme) → final.element ≡ None → Runs Turning n given final ts → Mended given final ts
@@ -399,13 +409,19 @@ module _ (inner : Reader Lexeme AstType) (W : AstType → Type 0) (D : Form) (ru
       record {
         more = m.more;
         good = m.good;
-        walk = (suc m.walk.0, inr (more.0, record {
-          front = b.front;
-          back = b.back ++ m.more;
-          all = ap (λ l. l ++ m.more) b.all ∙ append_assoc b.front b.back m.more;
-          begins = b.begins;
-          ends = m.walk.1;
-        }));
+        walk = (
+          suc m.walk.0,
+          inr (
+            more.0,
+            record {
+              front = b.front;
+              back = b.back ++ m.more;
+              all = ap (λ l. l ++ m.more) b.all ∙ append_assoc b.front b.back m.more;
+              begins = b.begins;
+              ends = m.walk.1;
+            },
+          ),
+        );
       })
       walk
 

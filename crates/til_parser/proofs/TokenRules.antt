@@ -1,15 +1,15 @@
 -- The rules of one token: of a kind, a word, or a token of a kind with a meaning.
-use Rattle.std.proofs.Common.{◌≡◌, ℕ, ◌<◌, Bool, true, false, cond, ◌&&◌, List, [], ◌∷◌, ◌++◌, All, length, Option, Some, None, option_and_then, refl, sym, ap, ◌∙◌, subst, bytes_eq, T, IsTrue, arith}
+use Rattle.std.proofs.Common.{◌≡◌, ℕ, Bool, true, false, cond, ◌&&◌, List, [], ◌∷◌, ◌++◌, All, Option, Some, None, option_and_then, refl, sym, subst, bytes_eq, T}
 use Rattle.std.proofs.lemmas.Option.{none-some}
 use Rattle.std.proofs.lemmas.Slice.Eq.{bytes_eq-Decides}
 use Rattle.std.proofs.lemmas.List.Elements.{All-head}
 use denote.Enum.Bare.{same_true, true_same}
 use Rattle.tydi_base.specs.declared.place.Place.{Place}
-use Rattle.tydi_reading.specs.Forms.{Never, Anything, GoesOn}
+use Rattle.tydi_reading.specs.Forms.{Never, Anything}
 use Rattle.tydi_reading.specs.Reading.{meant, leaf, tells}
 use Rattle.tydi_reading.specs.Rules.{IsRule}
 use Rattle.tydi_reading.proofs.MarkLemmas.{IsMark, mark-rule}
-use Rattle.tydi_reading.proofs.StepRules.{IsLeaf, leaf-rule, read-rule}
+use Rattle.tydi_reading.proofs.StepRules.{leaf-rule, read-rule}
 use Rattle.til_lexer.specs.contracts.token.TokenKind.{the_type}
 use Rattle.til_lexer.specs.declared.token.TokenKind.{TokenKind}
 use Rattle.til_lexer.specs.declared.token.TokenKind.TheVariants as kinds
@@ -18,7 +18,7 @@ use Rattle.til_lexer.specs.Spelling.{HasForm}
 use Rattle.til_lexer.specs.Words.{has_name_form}
 use Rattle.til_parser.specs.Grammar.{Form, One, Of, IsWord, Word}
 use Rattle.til_parser.specs.Lexemes.{Lexeme, IsFormed}
-use Rattle.til_parser.specs.Reading.{Reader, same_kind, is_kind, is_word, expect, expect_word, next_of, token}
+use Rattle.til_parser.specs.Reading.{same_kind, is_kind, is_word, expect, expect_word, token}
 
 -- ---- kinds and words
 

@@ -1,12 +1,11 @@
 -- The rule of types of so many levels.
-use Rattle.std.proofs.Common.{◌≡◌, ℕ, zero, suc, max, ◌<◌, ◌≤◌, ◌⊎◌, inl, inr, ⊎_elim, Bool, true, false, ◌&&◌, List, [], ◌∷◌, ◌++◌, All, length, Option, Some, None, refl, sym, ap, ◌∙◌, subst, arith, codes, append_assoc, bytes_eq, true≢false}
+use Rattle.std.proofs.Common.{◌≡◌, ℕ, zero, suc, ◌<◌, ◌≤◌, ◌⊎◌, inl, inr, ⊎_elim, Bool, true, false, List, [], ◌∷◌, ◌++◌, All, length, refl, sym, ap, ◌∙◌, subst, arith, codes, append_assoc, bytes_eq, true≢false}
 use Rattle.std.proofs.lemmas.List.{append-nil, length-append}
 use Rattle.std.proofs.lemmas.List.Elements.{All-nil, All-cons, All-head}
-use Rattle.std.specs.Prelude.{not, ◌||◌}
-use Rattle.tydi_base.specs.Name.{is_name, is_reserved}
+use Rattle.tydi_base.specs.Name.{is_name}
 use Rattle.til_lexer.specs.Words.{has_name_form}
 use Rattle.tydi_reading.specs.Forms.{Never, Anything, Nothing, ◌⋯◌, GoesOn}
-use Rattle.tydi_reading.specs.Lists.{EachIs, Joined}
+use Rattle.tydi_reading.specs.Lists.{EachIs}
 use Rattle.tydi_reading.specs.Reading.{Reader, tells, choose, too_deep, ◌>>◌, ◌<$>◌, ◌<&>◌, ◌<<◌}
 use Rattle.tydi_reading.specs.Rules.{IsRule}
 use Rattle.tydi_reading.proofs.ChoiceRules.{choose-rule, both-rule, too_deep-rule}
@@ -275,14 +274,23 @@ of_stream element user settings = roll-AstStream (record {
 back_tree : (y : AstType) (t : Ltype) (ts : List Lexeme) → y ≡ of_plain t → SpellsType t ts → ByNull y ts
 back_tree y null ts is s = inl (is, s)
 back_tree y (tree.bits width) ts is s = inr (inl (width, is, s))
-back_tree y (tree.group parts) ts is s = inr (inr (inl (of_parts parts, is,
-    inside (Word (codes "Group")) (λ back p. parts-back (of_parts parts) back (subst (λ q. SpellsParts q back) (sym (plain_parts-of_parts parts)) p)) s)))
-back_tree y (tree.union parts) ts is s = inr (inr (inr (inl (of_parts parts, is,
-    inside (Word (codes "Union")) (λ back p. parts-back (of_parts parts) back (subst (λ q. SpellsParts q back) (sym (plain_parts-of_parts parts)) p)) s))))
-back_tree y (tree.stream element user settings) ts is s = inr (inr (inr (inr (inl (of_stream element user settings, is,
-    inside {Other = ArgumentsOf (of_stream element user settings)} (Word (codes "Stream")) (λ back a.
-    subst (λ t. grammar.Arguments (SpellsType t) (SpellsType (plain (of_plain user))) (plain (of_plain user)) settings back) (sym (plain-of_plain element))
-    (subst (λ t. grammar.Arguments (SpellsType element) (SpellsType t) t settings back) (sym (plain-of_plain user)) a)) s)))))
+back_tree y (tree.group parts) ts is s = inr (inr (inl (
+  of_parts parts,
+  is,
+  inside (Word (codes "Group")) (λ back p. parts-back (of_parts parts) back (subst (λ q. SpellsParts q back) (sym (plain_parts-of_parts parts)) p)) s,
+)))
+back_tree y (tree.union parts) ts is s = inr (inr (inr (inl (
+  of_parts parts,
+  is,
+  inside (Word (codes "Union")) (λ back p. parts-back (of_parts parts) back (subst (λ q. SpellsParts q back) (sym (plain_parts-of_parts parts)) p)) s,
+))))
+back_tree y (tree.stream element user settings) ts is s = inr (inr (inr (inr (inl (
+  of_stream element user settings,
+  is,
+  inside {Other = ArgumentsOf (of_stream element user settings)} (Word (codes "Stream")) (λ back a.
+      subst (λ t. grammar.Arguments (SpellsType t) (SpellsType (plain (of_plain user))) (plain (of_plain user)) settings back) (sym (plain-of_plain element))
+      (subst (λ t. grammar.Arguments (SpellsType element) (SpellsType t) t settings back) (sym (plain-of_plain user)) a)) s,
+)))))
 back_tree y (tree.path names) ts is s = inr (inr (inr (inr (inr (record { names = names }, is, s)))))
 
 back : (y : AstType) (ts : List Lexeme) → S y ts → ByNull y ts
@@ -499,8 +507,11 @@ name_goes t kind named =
       value = types.Path (record { names = x ∷ [] });
       more = [];
       good = All-nil IsFormed;
-      spelled = there (types.Path (record { names = x ∷ [] })) (t ∷ []) (inr (inr (inr (inr (inr (record { names = x ∷ [] }, refl,
-          one (grammar.IsNamed x) t (record { kind = kind; text = refl; place = refl; named = named })))))));
+      spelled = there (types.Path (record { names = x ∷ [] })) (t ∷ []) (inr (inr (inr (inr (inr (
+        record { names = x ∷ [] },
+        refl,
+        one (grammar.IsNamed x) t (record { kind = kind; text = refl; place = refl; named = named }),
+      ))))));
     }
 
 goes_by : (t : Lexeme) → t.kind ≡ kinds.Word → has_name_form t.spelling ≡ true → (a b c d e : Bool) → bytes_eq t.spelling (codes "Null") ≡ a → bytes_eq t.spelling (codes "Bits") ≡ b

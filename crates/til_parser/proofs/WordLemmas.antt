@@ -1,13 +1,12 @@
 -- Which of some words stands next.
 use Rattle.std.proofs.Common.{◌≡◌, ℕ, Bool, true, false, cond, List, refl, sym, ap, ◌∙◌, codes}
-use Rattle.til_parser.specs.declared.keyword.Keyword.{Keyword}
 use Rattle.til_parser.specs.declared.keyword.Keyword.TheVariants as keywords
 use Rattle.til_parser.specs.declared.ltype.AstSync.TheVariants as syncs
 use Rattle.til_parser.specs.declared.ltype.AstType.{AstType}
 use Rattle.til_parser.specs.declared.ltype.AstType.TheVariants as types
 use Rattle.til_parser.specs.Lexemes.{Lexeme}
 use Rattle.til_parser.specs.Reading.{is_word, expect_word}
-use Rattle.til_parser.specs.ReadTypes.{bits, bracketed, part, stream, path, type_with, sync}
+use Rattle.til_parser.specs.ReadTypes.{bracketed, part, stream, path, type_with, sync}
 use Rattle.til_parser.specs.ReadDecls.{keyword}
 use Rattle.tydi_reading.specs.Lists.{mark}
 use Rattle.tydi_reading.specs.Reading.{Reader, took, and_then, pure, tells, rest_of, ◌<$>◌, ◌>>◌}

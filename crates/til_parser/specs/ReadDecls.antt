@@ -1,5 +1,5 @@
 -- How `parse` reads declarations. No public clause names these. This project's own.
-use Rattle.std.specs.Prelude.{ℕ, Bool, true, false, List, [], ◌∷◌, Option, Some, None, if◌then◌else◌, codes}
+use Rattle.std.specs.Prelude.{ℕ, Bool, true, false, List, [], ◌∷◌, Option, Some, None, codes}
 use Rattle.til_lexer.specs.declared.token.TokenKind.TheVariants as kinds
 use Rattle.til_parser.specs.declared.keyword.Keyword.{Keyword}
 use Rattle.til_parser.specs.declared.keyword.Keyword.TheVariants as keywords
@@ -13,7 +13,6 @@ use Rattle.til_parser.specs.declared.tree.AstKind.TheVariants as decls
 use Rattle.til_parser.specs.declared.ltype.AstType.{AstType}
 use Rattle.til_parser.specs.declared.tree.AstName.{AstName}
 use Rattle.til_parser.specs.declared.tree.AstPath.{AstPath}
-use Rattle.til_parser.specs.Lexemes.{Lexeme}
 use Rattle.til_parser.specs.declared.tree.AstNamespace.{AstNamespace}
 use Rattle.til_parser.specs.declared.tree.AstPort.{AstPort}
 use Rattle.til_parser.specs.declared.tree.AstPorts.{AstPorts}
@@ -21,7 +20,7 @@ use Rattle.til_parser.specs.declared.tree.AstPorts.TheVariants as ports
 use Rattle.til_parser.specs.declared.tree.AstStmt.{AstStmt}
 use Rattle.til_parser.specs.declared.tree.AstStmt.TheVariants as stmts
 use Rattle.tydi_reading.specs.Lists.{repeated}
-use Rattle.tydi_reading.specs.Reading.{◌>>=◌, ◌>>◌, ◌<$>◌, ◌<&>◌, ◌<<◌, pure, tells, choose, checked}
+use Rattle.tydi_reading.specs.Reading.{◌>>=◌, ◌>>◌, ◌<$>◌, ◌<&>◌, ◌<<◌, pure, choose, checked}
 use Rattle.til_parser.specs.Reading.{Reader, is_kind, is_word, expect, expect_word}
 use Rattle.til_parser.specs.ReadTypes.{name, path, quoted, doc, either_word, bracketed, ltype}
 

@@ -1,8 +1,6 @@
-use Rattle.std.proofs.Common.{◌≡◌, List, length, All, sym, ap, ◌∙◌, subst}
-use Rattle.tydi_reading.specs.Reading.{stopped}
-use Rattle.til_parser.specs.declared.fault.ParseFault.{ParseFault}
+use Rattle.std.proofs.Common.{◌≡◌, length, sym, ap, ◌∙◌, subst}
 use Rattle.til_parser.specs.Faults.{NamesToken, IsFaultOf, fault_at}
-use Rattle.til_parser.specs.Lexemes.{Lexeme, IsFormed, lexemes_of}
+use Rattle.til_parser.specs.Lexemes.{lexemes_of}
 use Rattle.til_parser.specs.ReadDecls.{project}
 use Rattle.til_parser.proofs.LawLemmas.{AreFormed-lexemes}
 use Rattle.til_parser.proofs.LexemeLemmas.{length-lexemes}

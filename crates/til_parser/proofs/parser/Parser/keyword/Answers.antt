@@ -40,4 +40,3 @@ returns c =
     let p4 = passed (codes "impl") c.eat_word-3.new.self c.eat_word-4.new.self c.eat_word-4.result c.eat_word-4.ensures.seen c.eat_word-4.ensures.taken c.if-eat_word-4.false in
     let q4 = still (codes "streamlet") (codes "impl") c.args.self.now c.eat_word-3.new.self c.eat_word-4.new.self q3 p4 in
     rw (at_test c.args.self.now q1.test q2.test q3.test q4.test) first_of (search rules, grind (arith, common_steps))
-

@@ -1,6 +1,5 @@
 use Rattle.std.proofs.Common.{length, ◌∙◌, sym, ap}
 use Rattle.til_parser.proofs.LexemeLemmas.{length-lexemes}
-use Rattle.til_parser.proofs.Shrinking.{Shrinks-name}
 use Rattle.til_parser.proofs.parser.Parser.left.Goals as goal
 
 pub returns : goal.returns

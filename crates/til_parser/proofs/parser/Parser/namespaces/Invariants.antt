@@ -1,7 +1,5 @@
 use Rattle.std.proofs.Common.{◌≡◌, false, true, length}
-use Rattle.til_lexer.specs.declared.token.TokenKind.TheVariants as kinds
 use Rattle.til_parser.specs.ReadDecls.{namespace}
-use Rattle.til_parser.specs.Reading.{is_kind}
 use Rattle.tydi_reading.specs.Lists.{repeated_turn}
 use Rattle.tydi_reading.specs.Reading.{loop}
 use Rattle.til_parser.proofs.parser.Parser.namespaces.Given as goal

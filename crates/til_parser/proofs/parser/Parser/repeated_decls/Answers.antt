@@ -1,9 +1,9 @@
-use Rattle.std.proofs.Common.{false, true, rules, arith}
+use Rattle.std.proofs.Common.{false, rules, arith}
 use Rattle.std.proofs.lemmas.Grind.{common_steps}
 use Rattle.til_lexer.specs.declared.token.TokenKind.TheVariants as kinds
 use Rattle.til_parser.specs.Reading.{is_kind}
 use Rattle.til_parser.specs.ReadDecls.{decl}
-use Rattle.tydi_reading.specs.Lists.{repeated, repeated_turn, mark}
+use Rattle.tydi_reading.specs.Lists.{repeated, repeated_turn}
 use Rattle.tydi_reading.proofs.LoopLemmas.{loop_unfolds, repeated_turn-advances}
 use Rattle.til_parser.proofs.Shrinking.{Shrinks-decl}
 use Rattle.til_parser.proofs.parser.Parser.repeated_decls.Goals as goal

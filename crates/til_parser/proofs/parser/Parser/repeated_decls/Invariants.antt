@@ -1,4 +1,4 @@
-use Rattle.std.proofs.Common.{◌≡◌, false, true, length}
+use Rattle.std.proofs.Common.{◌≡◌, false, length}
 use Rattle.til_lexer.specs.declared.token.TokenKind.TheVariants as kinds
 use Rattle.til_parser.specs.ReadDecls.{decl}
 use Rattle.til_parser.specs.Reading.{is_kind}

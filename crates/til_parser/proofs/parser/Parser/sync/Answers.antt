@@ -1,7 +1,6 @@
 use Rattle.std.proofs.Common.{codes, rules, arith}
 use Rattle.std.proofs.lemmas.Grind.{common_steps}
-use Rattle.tydi_reading.specs.Lists.{mark}
-use Rattle.til_parser.proofs.WordLemmas.{passed, eaten, still, then_taken, at_flat}
+use Rattle.til_parser.proofs.WordLemmas.{passed, still, at_flat}
 use Rattle.til_parser.proofs.parser.Parser.sync.Goals as goal
 
 pub returns-in_err-expect_word : goal.returns-in_err-expect_word
