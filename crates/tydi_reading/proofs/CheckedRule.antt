@@ -1,12 +1,11 @@
 -- What is read and is to have a meaning.
 use Rattle.std.proofs.Common.{◌≡◌, ℕ, ◌≤◌, ◌⊎◌, inl, inr, ⊎_elim, List, [], ◌∷◌, ◌++◌, All, length, Option, Some, None, refl, sym, ap, ◌∙◌, subst, arith, append_assoc}
-use Rattle.std.proofs.lemmas.List.{append-nil}
 use Rattle.std.proofs.lemmas.List.Elements.{All-append}
 use Rattle.tydi_reading.specs.declared.fault.Fault.{Fault}
 use Rattle.tydi_reading.specs.declared.fault.Fault.TheVariants as faults
 use Rattle.tydi_reading.specs.Forms.{Form, GoesOn}
 use Rattle.tydi_reading.specs.Reading.{Outcome, took, stopped, Reader, and_then, meant, checked}
-use Rattle.tydi_reading.specs.Rules.{left, leaving, Local, Found, TooFar, Reached, Cut, CutDeep, Finishes, Stops, IsRule}
+use Rattle.tydi_reading.specs.Rules.{Local, Found, Reached, Finishes, IsRule}
 use Rattle.tydi_reading.proofs.StepLemmas.{local-then, stops-first}
 
 -- how the whole is of the part; what lacks a meaning can go on to what has one

@@ -1,12 +1,12 @@
 -- Rules of a choice by the next thing, of both of two, and of what is too deep.
-use Rattle.std.proofs.Common.{◌≡◌, ℕ, ◌≤◌, ◌⊎◌, inl, inr, ⊎_elim, Bool, true, false, cond, List, [], ◌∷◌, ◌++◌, All, length, Option, Some, None, refl, sym, ap, ◌∙◌, subst, arith, append_assoc}
-use Rattle.std.proofs.lemmas.List.{append-nil, length-append}
+use Rattle.std.proofs.Common.{◌≡◌, ◌⊎◌, inl, inr, ⊎_elim, Bool, true, false, cond, List, [], ◌∷◌, ◌++◌, All, refl, sym, ap, ◌∙◌, subst, arith}
+use Rattle.std.proofs.lemmas.List.{length-append}
 use Rattle.tydi_reading.specs.declared.fault.Fault.{Fault}
 use Rattle.tydi_reading.specs.declared.fault.Fault.TheVariants as faults
-use Rattle.tydi_reading.specs.Forms.{Form, ◌⋯◌, Nothing, Never, Anything, One, GoesOn}
-use Rattle.tydi_reading.specs.Reading.{Outcome, took, stopped, Reader, and_then, ◌>>=◌, ◌<$>◌, ◌<&>◌, pure, choose, tells, too_deep}
-use Rattle.tydi_reading.specs.Rules.{left, leaving, Local, Found, TooFar, Reached, Cut, CutDeep, Finishes, Stops, IsRule}
-use Rattle.tydi_reading.proofs.StepRules.{Joins, then-rule, Maps, map-rule}
+use Rattle.tydi_reading.specs.Forms.{Form, ◌⋯◌, Nothing, One, GoesOn}
+use Rattle.tydi_reading.specs.Reading.{Outcome, took, stopped, Reader, ◌<$>◌, ◌<&>◌, choose, tells, too_deep}
+use Rattle.tydi_reading.specs.Rules.{Local, Found, Reached, Finishes, Stops, IsRule}
+use Rattle.tydi_reading.proofs.StepRules.{then-rule, map-rule}
 
 -- ---- a choice by the next thing
 

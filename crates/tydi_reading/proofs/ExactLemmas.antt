@@ -1,5 +1,5 @@
 -- A rule that takes all: its faults are those that its form alone says.
-use Rattle.std.proofs.Common.{◌≡◌, ℕ, zero, suc, ◌<◌, ◌≤◌, ◌+◌, ◌⊎◌, ⊎_elim, List, [], ◌∷◌, ◌++◌, All, length, take, drop, refl, sym, ap, ◌∙◌, subst, arith, append_assoc}
+use Rattle.std.proofs.Common.{◌≡◌, ℕ, suc, ◌+◌, ⊎_elim, List, [], ◌∷◌, ◌++◌, All, length, take, drop, refl, sym, ap, ◌∙◌, subst, arith, append_assoc}
 use Rattle.std.proofs.lemmas.List.{append-nil, length-append, length-drop, take-append-drop}
 use Rattle.std.proofs.lemmas.List.Elements.{All-append, All-cons, All-head}
 use Rattle.std.proofs.Math.Seq.{take-append_seam}
@@ -9,7 +9,7 @@ use Rattle.tydi_reading.specs.Faults.{IsShallow, IsRefusedAt, IsTooDeepAt, IsCut
 use Rattle.tydi_reading.specs.Forms.{Form, GoesOn}
 use Rattle.tydi_reading.specs.Reading.{Outcome, took, stopped, Reader}
 use Rattle.tydi_reading.proofs.StepLemmas.{All-front, All-back}
-use Rattle.tydi_reading.specs.Rules.{left, leaving, Local, TooFar, Reached, Cut, CutDeep, Stops, IsRule}
+use Rattle.tydi_reading.specs.Rules.{Local, IsRule}
 
 take-one : {T : Type 0} (front rest : List T) (t : T) → take (suc (length front)) (front ++ t ∷ rest) ≡ front ++ t ∷ []
 take-one [] rest t = refl

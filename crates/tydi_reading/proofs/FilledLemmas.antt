@@ -1,5 +1,5 @@
 -- Rules that take a thing at least.
-use Rattle.std.proofs.Common.{◌≡◌, ℕ, ◌<◌, List, length, ap, ◌∙◌, arith}
+use Rattle.std.proofs.Common.{◌<◌, List, length, ap, ◌∙◌, arith}
 use Rattle.std.proofs.lemmas.List.{length-append}
 use Rattle.tydi_reading.specs.Forms.{Form, ◌⋯◌}
 use Rattle.tydi_reading.specs.Reading.{Reader, Shrinks}

@@ -1,10 +1,10 @@
 -- A loop that takes a thing whenever it goes on is its first turn, and the loop after it.
-use Rattle.std.proofs.Common.{◌≡◌, ℕ, zero, suc, ◌<◌, ◌≤◌, Bool, true, false, cond, Option, Some, None, List, [], ◌∷◌, ◌++◌, length, refl, arith, Ok, Err, ap, subst}
+use Rattle.std.proofs.Common.{◌≡◌, ℕ, zero, suc, ◌<◌, ◌≤◌, Bool, true, false, cond, List, [], ◌∷◌, ◌++◌, length, refl, arith, Ok, Err, ap, subst, sym, ◌∙◌}
 use Rattle.std.specs.Prelude.{Result, OnOk}
 use Rattle.tydi_reading.specs.declared.fault.Fault.{Fault}
 use Rattle.tydi_reading.specs.declared.fault.Fault.TheVariants as faults
-use Rattle.tydi_reading.specs.Lists.{repeated_turn, steps_turn, separator_turn, mark}
-use Rattle.tydi_reading.specs.Reading.{Outcome, took, stopped, Reader, Reads, Shrinks, and_then, ◌>>=◌, ◌<$>◌, pure, choose, meant, leaf, Turn, again, done, turned, loop_from, loop, tells}
+use Rattle.tydi_reading.specs.Lists.{repeated, repeated_turn, steps_turn, separator_turn, joined_turn, mark}
+use Rattle.tydi_reading.specs.Reading.{Outcome, took, stopped, Reader, Reads, Shrinks, and_then, ◌>>=◌, ◌<$>◌, pure, rest_of, sees, ◌>>◌, Turn, again, done, turned, loop_from, loop, tells}
 
 -- each turn takes a thing where the loop goes on
 pub record Advances {T S : Type 0} (turn : S → Reader T (Turn S)) : Type 0 where
@@ -106,3 +106,70 @@ pub reads-less : {T A : Type 0} {read : Reader T A} → Shrinks read → (ts res
     → OnOk made (length rest < length ts)
 reads-less shrinks ts rest (Ok x) reads = shrinks.less ts rest x reads
 reads-less shrinks ts rest (Err e) reads = tt
+
+rest_of-least : {T : Type 0} (ts : List T) → length (rest_of ts) ≤ length ts
+rest_of-least [] = omega arith
+rest_of-least (t ∷ ts) = omega arith
+
+pub joined_turn-advances : {T A : Type 0} (joins : T → Bool) (item : Reader T A) → Shrinks item → Advances (joined_turn joins item)
+unfolding joined_turn mark
+joined_turn-advances {T} {A} joins item shrinks = record { less = λ found ts rest next is. of_test found ts rest next (tells joins false ts) is }
+  where
+    of_mark : (found : List A) (ts rest : List T) (next : List A) (b : Bool)
+        → and_then (cond {A = Outcome T (Unit {0})} b (took tt (rest_of ts)) (stopped faults.Refused ts)) (λ _. (λ x. again (found ++ x ∷ [])) <$> item) ≡ took (again next) rest
+        → length rest < length ts
+    of_mark found ts rest next true is =
+        let less = (mapped-less (λ x. again (found ++ x ∷ [])) item shrinks).less (rest_of ts) rest (again next) is in
+        let least = rest_of-least ts in
+        omega arith
+    of_mark found ts rest next false is = absurd cc
+
+    of_test : (found : List A) (ts rest : List T) (next : List A) (b : Bool)
+        → (cond {A = Reader T (Turn (List A))} b (mark joins >> (λ x. again (found ++ x ∷ [])) <$> item) (pure (done found))) ts ≡ took (again next) rest → length rest < length ts
+    of_test found ts rest next true is = of_mark found ts rest next (sees joins ts) is
+    of_test found ts rest next false is = no_again found next (length rest < length ts) (took-both (done found) (again next) ts rest is).0
+
+-- ---- a thing that is eaten
+
+pub eaten-least : {T : Type 0} (is : T → Bool) (old : List T) (b : Bool) (new : List T) → new ≡ cond b (rest_of old) old → length new ≤ length old
+eaten-least is old true new taken = let same = ap length taken in let least = rest_of-least old in omega arith
+eaten-least is old false new taken = let same = ap length taken in omega arith
+
+pub eaten-less : {T : Type 0} (is : T → Bool) (old : List T) (b : Bool) (new : List T) → b ≡ tells is false old → new ≡ cond b (rest_of old) old → b ≡ true → length new < length old
+eaten-less is [] b new seen taken test = absurd (let no : false ≡ true = sym seen ∙ test in cc)
+eaten-less is (t ∷ old) b new seen taken test =
+    let same : length new ≡ length old = ap length taken ∙ ap (λ c. length (cond c old (t ∷ old))) test in omega arith
+
+-- ---- where a loop ends
+
+made-ends : {T S : Type 0} (P : List T → Type 0) (turn more : S → Reader T S) (next : S → Reader T (Turn S))
+    → ((s end : S) (ts rest : List T) → next s ts ≡ took (done end) rest → P rest) → ((s end : S) (ts rest : List T) → more s ts ≡ took end rest → P rest)
+    → (s end : S) (ts rest : List T) (made : Outcome T (Turn S)) → next s ts ≡ made → and_then made (turned more) ≡ took end rest → P rest
+made-ends P turn more next ends others s end ts rest (stopped e middle) made is = absurd cc
+made-ends P turn more next ends others s end ts rest (took (again x) middle) made is = others x end middle rest is
+made-ends P turn more next ends others s end ts rest (took (done x) middle) made is = subst P (took-both x end middle rest is).1 (ends s x ts middle made)
+
+loop_from-ends : {T S : Type 0} (P : List T → Type 0) (turn : S → Reader T (Turn S)) → ((s end : S) (ts rest : List T) → turn s ts ≡ took (done end) rest → P rest)
+    → (n : ℕ) (s end : S) (ts rest : List T) → loop_from turn n s ts ≡ took end rest → P rest
+unfolding loop_from
+loop_from-ends P turn ends zero s end ts rest is = absurd cc
+loop_from-ends P turn ends (suc n) s end ts rest is =
+    made-ends P (loop_from turn n) (loop_from turn n) turn ends (loop_from-ends P turn ends n) s end ts rest (turn s ts) refl is
+
+pub loop-ends : {T S : Type 0} (P : List T → Type 0) (turn : S → Reader T (Turn S)) → ((s end : S) (ts rest : List T) → turn s ts ≡ took (done end) rest → P rest)
+    → (s end : S) (ts rest : List T) → loop turn s ts ≡ took end rest → P rest
+unfolding loop
+loop-ends P turn ends s end ts rest is = loop_from-ends P turn ends (suc (length ts)) s end ts rest is
+
+no_done : {T A B : Type 0} (made : Outcome T A) (f : A → B) (end : B) (rest : List T) → and_then made (λ x. pure {A = Turn B} (again (f x))) ≡ took (done end) rest → ⊥
+no_done {T} {A} {B} (stopped e middle) f end rest is = cc
+no_done {T} {A} {B} (took x middle) f end rest is = let turns : again (f x) ≡ done end = (took-both (again (f x)) (done end) middle rest is).0 in cc
+
+-- what is read up to the end leaves nothing
+pub repeated-all : {T A : Type 0} (item : Reader T A) (items : List A) (ts rest : List T) → repeated (λ _. false) true item ts ≡ took items rest → rest ≡ []
+unfolding repeated repeated_turn
+repeated-all {T} {A} item items ts rest is = loop-ends (λ rest. rest ≡ []) (repeated_turn (λ _. false) true item) ends [] items ts rest is
+  where
+    ends : (found end : List A) (ts rest : List T) → repeated_turn (λ _. false) true item found ts ≡ took (done end) rest → rest ≡ []
+    ends found end [] rest is = sym (took-both (done found) (done end) [] rest is).1
+    ends found end (t ∷ ts) rest is = absurd (no_done (item (t ∷ ts)) (λ x. found ++ x ∷ []) end rest is)

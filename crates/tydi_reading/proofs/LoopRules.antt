@@ -1,12 +1,11 @@
 -- A loop of rules is a rule.
-use Rattle.std.proofs.Common.{◌≡◌, ℕ, zero, suc, ◌<◌, ◌≤◌, ◌⊎◌, inl, inr, ⊎_elim, List, [], ◌∷◌, ◌++◌, All, length, refl, sym, ap, ◌∙◌, subst, arith, append_assoc}
+use Rattle.std.proofs.Common.{◌≡◌, ℕ, zero, suc, ◌<◌, inl, inr, ⊎_elim, List, [], ◌++◌, All, length, refl, sym, ap, ◌∙◌, subst, arith}
 use Rattle.std.proofs.lemmas.List.{append-nil, length-append}
 use Rattle.std.proofs.lemmas.List.Elements.{All-nil}
 use Rattle.tydi_reading.specs.declared.fault.Fault.{Fault}
-use Rattle.tydi_reading.specs.declared.fault.Fault.TheVariants as faults
-use Rattle.tydi_reading.specs.Forms.{Form, ◌⋯◌, Never, GoesOn, Runs, Loop, RunsDeep, LoopDeep}
-use Rattle.tydi_reading.specs.Reading.{Outcome, took, stopped, Reader, and_then, ◌>>=◌, pure, Turn, again, done, turned, loop}
-use Rattle.tydi_reading.specs.Rules.{left, leaving, Local, Found, TooFar, Reached, Finishes, Stops, IsRule}
+use Rattle.tydi_reading.specs.Forms.{Form, Never, GoesOn, Runs, Loop, RunsDeep, LoopDeep}
+use Rattle.tydi_reading.specs.Reading.{Outcome, took, stopped, Reader, and_then, ◌>>=◌, Turn, again, done, turned, loop}
+use Rattle.tydi_reading.specs.Rules.{Local, Found, Reached, Finishes, Stops, IsRule}
 use Rattle.tydi_reading.proofs.LoopLemmas.{Advances, loop_unfolds}
 use Rattle.tydi_reading.proofs.StepLemmas.{All-front, All-back, local-then, local-same, sound-then, finishes-then, complete-then, stops-first, stops-second}
 use Rattle.tydi_reading.proofs.StepRules.{Only}

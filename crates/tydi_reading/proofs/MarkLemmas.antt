@@ -1,11 +1,11 @@
 -- One thing that a test holds of.
-use Rattle.std.proofs.Common.{◌≡◌, ℕ, ◌<◌, Bool, true, false, cond, List, [], ◌∷◌, ◌++◌, length, Option, Some, None, refl, sym, ap, ◌∙◌, subst, arith}
+use Rattle.std.proofs.Common.{◌≡◌, ◌<◌, Bool, true, false, cond, List, [], ◌∷◌, ◌++◌, length, Option, Some, None, refl, ap, arith}
 use Rattle.tydi_reading.specs.Forms.{Form, Never, Anything}
 use Rattle.tydi_reading.specs.Lists.{mark}
 use Rattle.tydi_reading.specs.declared.fault.Fault.TheVariants as faults
-use Rattle.tydi_reading.specs.Reading.{Outcome, Reader, took, stopped, meant, tells, leaf}
+use Rattle.tydi_reading.specs.Reading.{Outcome, took, stopped, meant, tells, leaf}
 use Rattle.tydi_reading.specs.Rules.{IsRule}
-use Rattle.tydi_reading.proofs.StepRules.{IsLeaf, leaf-rule, read-rule}
+use Rattle.tydi_reading.proofs.StepRules.{leaf-rule, read-rule}
 
 -- a form is that of one thing that the test holds of
 pub record IsMark {T : Type 0} (Good : T → Type 0) (is : T → Bool) (Mark : Form T) : Type 0 where

@@ -1,5 +1,5 @@
 -- Rules before and after a mark.
-use Rattle.std.proofs.Common.{◌≡◌, ℕ, ◌<◌, ◌⊎◌, inl, inr, ⊎_elim, Bool, true, false, List, [], ◌∷◌, ◌++◌, length, refl, sym, ap, ◌∙◌, subst, arith, append_assoc}
+use Rattle.std.proofs.Common.{◌≡◌, inl, inr, List, ◌++◌, refl, sym, subst}
 use Rattle.tydi_reading.specs.Forms.{Form, ◌⋯◌, Never, Anything}
 use Rattle.tydi_reading.specs.Reading.{Reader, ◌>>◌, ◌<<◌, ◌<$>◌}
 use Rattle.tydi_reading.specs.Rules.{IsRule}

@@ -1,10 +1,10 @@
 -- Items one after another are a rule.
-use Rattle.std.proofs.Common.{◌≡◌, ℕ, zero, suc, ◌<◌, ◌⊎◌, inl, inr, ⊎_elim, Bool, true, false, List, [], ◌∷◌, ◌++◌, length, refl, sym, ap, ◌∙◌, subst, arith, append_assoc}
-use Rattle.std.proofs.lemmas.List.{append-nil, length-append}
+use Rattle.std.proofs.Common.{◌≡◌, ℕ, zero, suc, ◌<◌, ◌⊎◌, inl, inr, ⊎_elim, Bool, true, false, List, [], ◌∷◌, ◌++◌, length, refl, sym, ap, ◌∙◌, subst, append_assoc}
+use Rattle.std.proofs.lemmas.List.{append-nil}
 use Rattle.std.proofs.lemmas.List.Elements.{All-nil}
-use Rattle.tydi_reading.specs.Forms.{Form, ◌⋯◌, Nothing, Never, Anything, GoesOn, Runs, Loop, RunsDeep, LoopDeep}
+use Rattle.tydi_reading.specs.Forms.{Form, ◌⋯◌, Never, Anything, Runs, Loop, RunsDeep, LoopDeep}
 use Rattle.tydi_reading.specs.Lists.{Each, EachIs, repeated_turn, repeated}
-use Rattle.tydi_reading.specs.Reading.{Reader, Turn, again, done, tells, pure, ◌<$>◌, choose, loop}
+use Rattle.tydi_reading.specs.Reading.{Reader, Turn, again, done, tells, pure, ◌<$>◌, loop}
 use Rattle.tydi_reading.specs.Rules.{IsRule}
 use Rattle.tydi_reading.proofs.ChoiceRules.{choose-rule}
 use Rattle.tydi_reading.proofs.LoopRules.{Turns, loop-rule}
@@ -139,27 +139,34 @@ module _ {T A : Type 0} (Good : T → Type 0) (test : T → Bool) (last : Bool) 
       (λ more.
       let b = more.1 in
       let others = adds_deep n more.0 b.back b.ends in
-      let o = others.1 in
-      (b.begins.0 ∷ others.0, record {
-        front = b.front ++ o.front;
-        back = o.back;
-        all = b.all ∙ ap (λ l. b.front ++ l) o.all ∙ sym (append_assoc b.front o.front o.back);
-        begins = record { front = b.front; back = o.front; all = refl; begins = b.begins.2; ends = o.begins };
-        ends = o.ends;
-      }))
+      let o = others.1 in (
+        b.begins.0 ∷ others.0,
+        record {
+          front = b.front ++ o.front;
+          back = o.back;
+          all = b.all ∙ ap (λ l. b.front ++ l) o.all ∙ sym (append_assoc b.front o.front o.back);
+          begins = record { front = b.front; back = o.front; all = refl; begins = b.begins.2; ends = o.begins };
+          ends = o.ends;
+        },
+      ))
       walk
 
   runs_deep : (items found : List A) (front back ts : List T) → ts ≡ front ++ back → Each Item items front → Deep back → LoopDeep TurnOf (λ _. Deep) found ts
   runs_deep [] found front back ts is s d = (1, inl (subst Deep (sym (is ∙ ap (λ l. l ++ back) s)) d))
   runs_deep (x ∷ items) found front back ts is s d =
-      let more = runs_deep items (found ++ x ∷ []) s.back back (s.back ++ back) refl s.ends d in
-      (suc more.0, inr (found ++ x ∷ [], record {
-        front = s.front;
-        back = s.back ++ back;
-        all = is ∙ ap (λ l. l ++ back) s.all ∙ append_assoc s.front s.back back;
-        begins = (x, refl, s.begins);
-        ends = more.1;
-      }))
+      let more = runs_deep items (found ++ x ∷ []) s.back back (s.back ++ back) refl s.ends d in (
+        suc more.0,
+        inr (
+          found ++ x ∷ [],
+          record {
+            front = s.front;
+            back = s.back ++ back;
+            all = is ∙ ap (λ l. l ++ back) s.all ∙ append_assoc s.front s.back back;
+            begins = (x, refl, s.begins);
+            ends = more.1;
+          },
+        ),
+      )
 
   turns : Turns Good (repeated_turn test last item) TurnOf Follow Inside (λ _. Deep) (λ _ rest. tells test last rest ≡ true) (EachIs Within)
   turns = record {

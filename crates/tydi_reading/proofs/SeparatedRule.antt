@@ -1,17 +1,14 @@
 -- Items with separators are a rule.
-use Rattle.std.proofs.Common.{◌≡◌, ℕ, zero, suc, ◌<◌, ◌⊎◌, inl, inr, ⊎_elim, Bool, true, false, List, [], ◌∷◌, ◌++◌, length, refl, sym, ap, ◌∙◌, subst, arith, append_assoc}
+use Rattle.std.proofs.Common.{◌≡◌, ℕ, zero, suc, ◌<◌, inl, inr, ⊎_elim, Bool, true, false, List, [], ◌∷◌, ◌++◌, length, refl, sym, ap, ◌∙◌, subst, arith, append_assoc}
 use Rattle.std.proofs.lemmas.List.{append-nil, length-append}
-use Rattle.std.proofs.lemmas.List.Elements.{All-nil}
-use Rattle.tydi_reading.specs.Forms.{Form, ◌⋯◌, Nothing, Never, Anything, GoesOn, Runs, Loop, RunsDeep, LoopDeep}
+use Rattle.tydi_reading.specs.Forms.{Form, ◌⋯◌, Runs, Loop, RunsDeep, LoopDeep}
 use Rattle.tydi_reading.specs.Lists.{Each, EachIs, Separated, LastSeparator, steps, separated}
-use Rattle.tydi_reading.specs.Reading.{Reader, Turn, again, done, tells, pure, ◌<$>◌, ◌>>=◌, choose, loop}
+use Rattle.tydi_reading.specs.Reading.{Reader, Turn, tells, ◌<$>◌}
 use Rattle.tydi_reading.specs.Rules.{IsRule}
-use Rattle.tydi_reading.proofs.ChoiceRules.{choose-rule}
-use Rattle.tydi_reading.proofs.LoopRules.{Turns, loop-rule}
 use Rattle.tydi_reading.proofs.MarkLemmas.{IsMark}
 use Rattle.tydi_reading.proofs.RepeatedRule.{Adds, last-same, EachIs-push, EachIs-pop}
 use Rattle.tydi_reading.proofs.StepsRule.{Separates, TurnOf, steps-rule}
-use Rattle.tydi_reading.proofs.StepRules.{Only, pure-rule, map-rule, same-rule, then-rule}
+use Rattle.tydi_reading.proofs.StepRules.{map-rule, same-rule}
 
 -- items of the rule may stand with such separators between them up to where the test holds
 pub record Between {T A : Type 0} (Good : T → Type 0) (test : T → Bool) (last : Bool) (separates : T → Bool) (Separator : Form T) (Item : A → Form T) (ItemNext : Form T) (Deep : Form T) : Type 0 where
@@ -106,14 +103,19 @@ module _ {T A : Type 0} (Good : T → Type 0) (test : T → Bool) (last : Bool) 
   one_more : (found items : List A) (x : A) (front comma back ts : List T) → ts ≡ front ++ (comma ++ back) → Item x front → Separator comma
       → Loop Turning (found ++ x ∷ []) ((found ++ x ∷ []) ++ items) back → Loop Turning found (found ++ x ∷ items) ts
   one_more found items x front comma back ts is s m more =
-      subst (λ end. Loop Turning found end ts) (append_assoc found (x ∷ []) items)
-      (suc more.0, inr (found ++ x ∷ [], record {
-        front = front ++ comma;
-        back = back;
-        all = is ∙ sym (append_assoc front comma back);
-        begins = record { front = front; back = comma; all = refl; begins = (x, refl, s); ends = m };
-        ends = more.1;
-      }))
+      subst (λ end. Loop Turning found end ts) (append_assoc found (x ∷ []) items) (
+        suc more.0,
+        inr (
+          found ++ x ∷ [],
+          record {
+            front = front ++ comma;
+            back = back;
+            all = is ∙ sym (append_assoc front comma back);
+            begins = record { front = front; back = comma; all = refl; begins = (x, refl, s); ends = m };
+            ends = more.1;
+          },
+        ),
+      )
 
   last_one : (found : List A) (x : A) (front back ts : List T) → ts ≡ front ++ back → Item x front → LastSeparator Separator back → Loop Turning found (found ++ x ∷ []) ts
   last_one found x front back ts is s =
@@ -145,34 +147,41 @@ module _ {T A : Type 0} (Good : T → Type 0) (test : T → Bool) (last : Bool) 
       let b = more.1 in
       let others = adds_deep n more.0 b.back b.ends in
       let o = others.1 in
-      let m = b.begins in
-      (m.begins.0 ∷ others.0, record {
-        front = b.front ++ o.front;
-        back = o.back;
-        all = b.all ∙ ap (λ l. b.front ++ l) o.all ∙ sym (append_assoc b.front o.front o.back);
-        begins = record {
-          front = b.front;
-          back = o.front;
-          all = refl;
-          begins = record { front = m.front; back = m.back; all = m.all; begins = m.begins.2; ends = m.ends };
-          ends = o.begins;
-        };
-        ends = o.ends;
-      }))
+      let m = b.begins in (
+        m.begins.0 ∷ others.0,
+        record {
+          front = b.front ++ o.front;
+          back = o.back;
+          all = b.all ∙ ap (λ l. b.front ++ l) o.all ∙ sym (append_assoc b.front o.front o.back);
+          begins = record {
+            front = b.front;
+            back = o.front;
+            all = refl;
+            begins = record { front = m.front; back = m.back; all = m.all; begins = m.begins.2; ends = m.ends };
+            ends = o.begins;
+          };
+          ends = o.ends;
+        },
+      ))
       walk
 
   runs_deep : (items found : List A) (front back ts : List T) → ts ≡ front ++ back → Each (λ x. Item x ⋯ Separator) items front → Deep back
       → LoopDeep Turning (λ _. Deep) found ts
   runs_deep [] found front back ts is s d = (1, inl (subst Deep (sym (is ∙ ap (λ l. l ++ back) s)) d))
   runs_deep (x ∷ items) found front back ts is s d =
-      let more = runs_deep items (found ++ x ∷ []) s.back back (s.back ++ back) refl s.ends d in
-      (suc more.0, inr (found ++ x ∷ [], record {
-        front = s.front;
-        back = s.back ++ back;
-        all = is ∙ ap (λ l. l ++ back) s.all ∙ append_assoc s.front s.back back;
-        begins = record { front = s.begins.front; back = s.begins.back; all = s.begins.all; begins = (x, refl, s.begins.begins); ends = s.begins.ends };
-        ends = more.1;
-      }))
+      let more = runs_deep items (found ++ x ∷ []) s.back back (s.back ++ back) refl s.ends d in (
+        suc more.0,
+        inr (
+          found ++ x ∷ [],
+          record {
+            front = s.front;
+            back = s.back ++ back;
+            all = is ∙ ap (λ l. l ++ back) s.all ∙ append_assoc s.front s.back back;
+            begins = record { front = s.begins.front; back = s.begins.back; all = s.begins.all; begins = (x, refl, s.begins.begins); ends = s.begins.ends };
+            ends = more.1;
+          },
+        ),
+      )
 
   -- items with separators up to where the test holds
   pub separated-rule : IsRule Good (separated test last separates item) (Separated Separator Item) (λ _ rest. tells test last rest ≡ true) (EachIs Within) SeparatedDeep

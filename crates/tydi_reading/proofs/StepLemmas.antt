@@ -1,12 +1,12 @@
 -- One reader and then another: each fact of the whole at given things, from those of the parts.
-use Rattle.std.proofs.Common.{◌≡◌, ℕ, ◌≤◌, ◌⊎◌, inl, inr, ⊎_elim, List, [], ◌∷◌, ◌++◌, All, length, refl, sym, ap, ◌∙◌, subst, arith, append_assoc}
-use Rattle.std.proofs.lemmas.List.{append-nil, length-append}
+use Rattle.std.proofs.Common.{◌≡◌, inl, inr, ⊎_elim, List, [], ◌∷◌, ◌++◌, All, refl, sym, ap, ◌∙◌, subst, arith, append_assoc}
+use Rattle.std.proofs.lemmas.List.{length-append}
 use Rattle.std.proofs.lemmas.List.Elements.{All-append, All-nil, All-cons, All-head, All-tail}
 use Rattle.tydi_reading.specs.declared.fault.Fault.{Fault}
 use Rattle.tydi_reading.specs.declared.fault.Fault.TheVariants as faults
-use Rattle.tydi_reading.specs.Forms.{Form, ◌⋯◌, GoesOn}
+use Rattle.tydi_reading.specs.Forms.{Form, GoesOn}
 use Rattle.tydi_reading.specs.Reading.{Outcome, took, stopped, Reader, and_then, ◌>>=◌}
-use Rattle.tydi_reading.specs.Rules.{left, leaving, Local, Found, TooFar, Reached, Cut, CutDeep, Finishes, Stops}
+use Rattle.tydi_reading.specs.Rules.{left, leaving, Local, Found, Reached, Finishes, Stops}
 
 -- what holds of each of a list holds of each of its parts
 pub All-front : {X : Type 0} (P : X → Type 0) (all front back : List X) → all ≡ front ++ back → All P all → All P front

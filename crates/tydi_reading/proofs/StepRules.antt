@@ -1,13 +1,13 @@
 -- Rules made of rules.
 use Rattle.std.proofs.Common.{◌≡◌, ℕ, ◌≤◌, ◌⊎◌, inl, inr, ⊎_elim, Bool, true, false, cond, List, [], ◌∷◌, ◌++◌, All, length, Option, Some, None, refl, sym, ap, ◌∙◌, subst, arith, append_assoc}
-use Rattle.std.proofs.lemmas.List.{append-nil, length-append}
+use Rattle.std.proofs.lemmas.List.{append-nil}
 use Rattle.std.proofs.lemmas.List.Elements.{All-append, All-nil, All-cons}
 use Rattle.tydi_reading.specs.declared.fault.Fault.{Fault}
 use Rattle.tydi_reading.specs.declared.fault.Fault.TheVariants as faults
-use Rattle.tydi_reading.specs.Forms.{Form, ◌⋯◌, Nothing, Never, Anything, One, GoesOn}
-use Rattle.tydi_reading.specs.Reading.{Outcome, took, stopped, Reader, and_then, ◌>>=◌, ◌<$>◌, ◌<&>◌, pure, choose, tells, leaf, meant, too_deep}
-use Rattle.tydi_reading.specs.Rules.{left, leaving, Local, Found, TooFar, Reached, Cut, CutDeep, Finishes, Stops, IsRule}
-use Rattle.tydi_reading.proofs.StepLemmas.{All-front, All-back, local-then, local-same, sound-then, finishes-then, complete-then, stops-first, stops-second}
+use Rattle.tydi_reading.specs.Forms.{Form, ◌⋯◌, Never, Anything, GoesOn}
+use Rattle.tydi_reading.specs.Reading.{Outcome, took, stopped, Reader, ◌>>=◌, ◌<$>◌, pure, leaf, meant}
+use Rattle.tydi_reading.specs.Rules.{Local, Found, Reached, Finishes, Stops, IsRule}
+use Rattle.tydi_reading.proofs.StepLemmas.{All-front, All-back, local-then, sound-then, finishes-then, complete-then, stops-first, stops-second}
 
 -- ---- what takes nothing
 

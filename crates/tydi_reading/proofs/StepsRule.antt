@@ -1,11 +1,11 @@
 -- Steps from one state to the next, with separators between them, are a rule.
-use Rattle.std.proofs.Common.{◌≡◌, ℕ, zero, suc, ◌<◌, ◌⊎◌, inl, inr, ⊎_elim, Bool, true, false, List, [], ◌∷◌, ◌++◌, length, refl, sym, ap, ◌∙◌, subst, arith, append_assoc}
+use Rattle.std.proofs.Common.{◌≡◌, ◌<◌, ◌⊎◌, inl, inr, ⊎_elim, Bool, true, false, List, [], ◌∷◌, ◌++◌, length, refl, sym, ap, ◌∙◌, subst, arith, append_assoc}
 use Rattle.std.proofs.lemmas.List.{append-nil, length-append}
 use Rattle.std.proofs.lemmas.List.Elements.{All-nil}
-use Rattle.tydi_reading.specs.Forms.{Form, ◌⋯◌, Nothing, Never, Anything, GoesOn, Runs, Loop, RunsDeep, LoopDeep}
+use Rattle.tydi_reading.specs.Forms.{Form, ◌⋯◌, Never, Anything, Loop, LoopDeep}
 use Rattle.tydi_reading.specs.Lists.{mark, separator_turn, steps_turn, steps}
 use Rattle.tydi_reading.specs.declared.fault.Fault.TheVariants as faults
-use Rattle.tydi_reading.specs.Reading.{Reader, stopped, and_then, Turn, again, done, tells, pure, ◌<$>◌, ◌>>=◌, choose, loop}
+use Rattle.tydi_reading.specs.Reading.{Reader, stopped, and_then, Turn, again, done, tells, pure, ◌<$>◌, ◌>>=◌, choose}
 use Rattle.tydi_reading.specs.Rules.{IsRule}
 use Rattle.tydi_reading.proofs.ChoiceRules.{choose-rule, stop-rule}
 use Rattle.tydi_reading.proofs.LoopRules.{Turns, loop-rule}

@@ -1,5 +1,5 @@
 -- Lists of things of one form: readers, under the names of the forms. This project's own.
-use Rattle.std.specs.Prelude.{◌≡◌, ◌⊎◌, Bool, false, List, [], ◌∷◌, ◌++◌, if◌then◌else◌}
+use Rattle.std.specs.Prelude.{◌⊎◌, Bool, false, List, [], ◌∷◌, ◌++◌, if◌then◌else◌}
 use Rattle.tydi_reading.specs.declared.fault.Fault.TheVariants as faults
 use Rattle.tydi_reading.specs.Forms.{Form, ◌⋯◌, Nothing}
 use Rattle.tydi_reading.specs.Reading.{Reader, took, stopped, sees, rest_of, ◌>>=◌, ◌>>◌, ◌<$>◌, pure, choose, Turn, again, done, loop}

@@ -11,13 +11,7 @@ use std::alloc::Global;
 use tydi_base::List;
 
 /// Items one after another, up to such a thing or to the end.
-pub fn repeated<
-    'a,
-    T,
-    A: Drop,
-    P: Fn(&mut Cursor<'a, T>) -> Result<A, Fault>,
-    F: Fn(&T) -> bool,
->(
+pub fn repeated<'a, T, A: Drop, P: Fn(&mut Cursor<'a, T>) -> Result<A, Fault>, F: Fn(&T) -> bool>(
     cursor: &mut Cursor<'a, T>,
     alloc: Global,
     item: P,
