@@ -44,6 +44,7 @@ fn product_inside(throughput: Frac, around: Frac) -> Option<Frac>
     ensures none { IfNone result (is_bad_throughput around throughput ≡ true) }
     ensures some { IfSome result (λ product. (is_bad_throughput around throughput ≡ false) × (product ≡ product_of around throughput)) }
 {
+    // What a fraction keeps of itself is known where `den` is called.
     prove!(throughput.den() > 0);
     prove!(around.den() > 0);
     if throughput.num() == 0 {
