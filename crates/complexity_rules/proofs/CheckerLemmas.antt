@@ -1,5 +1,5 @@
 -- What is kept of the cycles of a stream, when one comes more.
-use Rattle.std.proofs.Common.{◌≡◌, ◌∙◌, ℕ, ◌+◌, ◌<◌, Bool, true, false, List, [], ◌∷◌, ◌++◌, length, count_by, cond, Option, None, Some, is_some, not, zero, suc, refl, sym, ap, subst, if◌then◌else◌, arith}
+use Rattle.std.proofs.Common.{◌≡◌, ◌∙◌, ℕ, ◌+◌, ◌<◌, Bool, true, false, List, [], ◌∷◌, ◌++◌, length, count_by, cond, Option, None, Some, is_some, OnSome, not, zero, suc, refl, sym, ap, subst, if◌then◌else◌, arith}
 use Rattle.std.proofs.lemmas.List.{append-nil, length-append}
 use Rattle.std.proofs.lemmas.Grind.{flat_map-append}
 use Rattle.std.proofs.lemmas.List.Sums.{sum_by-append}
@@ -132,3 +132,20 @@ pub Steps-kept : (old : Checker) (before : List Cycle) (now : Cycle) (broken : O
     IsLowestBroken (params_in old) before now broken → Steps old old before now broken
 Steps-kept old before now None none tells is lowest = cc
 Steps-kept old before now (Some rule) none tells is lowest = (lowest, refl)
+
+-- what a step says where no rule is broken, and where one is
+pub none_kept : (broken : Option Rule) (none : Bool) (P : Type 0) → is_some broken ≡ not none → none ≡ true → OnSome broken P
+none_kept None none P tells is = tt
+none_kept (Some rule) none P tells is = cc
+
+pub none_seen : (broken : Option Rule) (none : Bool) (old new : ℕ) → is_some broken ≡ not none → none ≡ true → new ≡ old + 1 → new ≡ (if is_some broken then old else old + 1)
+none_seen None none old new tells is same = same
+none_seen (Some rule) none old new tells is same = cc
+
+pub some_kept : {A : Type 0} (broken : Option Rule) (old : A) → OnSome broken (old ≡ old)
+some_kept None old = tt
+some_kept (Some rule) old = refl
+
+pub some_seen : (broken : Option Rule) (none : Bool) (old : ℕ) → is_some broken ≡ not none → none ≡ false → old ≡ (if is_some broken then old else old + 1)
+some_seen None none old tells is = cc
+some_seen (Some rule) none old tells is = refl

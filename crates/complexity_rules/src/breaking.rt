@@ -29,6 +29,7 @@ macro_rules! lowest_broken {
 }
 
 /// The lowest rule that a cycle breaks that shows this transfer.
+#[inline(always)]
 pub(crate) fn lowest_of_shown(
     p: &Params,
     waiting: Option<&Transfer>,
@@ -71,6 +72,7 @@ pub(crate) fn lowest_of_pause(
 }
 
 /// The rule, where it binds at this level and the cycle does what it forbids; else what a rule of a greater number says.
+#[inline(always)]
 fn or_higher(level: Level, rule: Rule, forbidden: bool, higher: Option<Rule>) -> Option<Rule>
     ensures { result ≡ or_higher level rule forbidden higher }
 {
@@ -82,6 +84,7 @@ fn or_higher(level: Level, rule: Rule, forbidden: bool, higher: Option<Rule>) ->
 }
 
 /// Whether a transfer waits, and is not shown again, the same in every signal.
+#[inline(always)]
 fn changes(waiting: Option<&Transfer>, shown: Option<&Transfer>) -> bool
     ensures { IsTrue result ↔ Changes (option_copied waiting.entry) (option_copied shown.entry) }
 {
@@ -92,6 +95,7 @@ fn changes(waiting: Option<&Transfer>, shown: Option<&Transfer>) -> bool
 }
 
 /// Whether this transfer is shown.
+#[inline(always)]
 fn shows(shown: Option<&Transfer>, offered: &Transfer) -> bool
     ensures { IsTrue result ↔ (option_copied shown.entry ≡ Some offered.now) }
 {

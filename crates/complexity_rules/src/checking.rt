@@ -1,6 +1,6 @@
 //! What a checker says, cycle by cycle.
 
-ghost use Rattle.std.specs.Prelude.{◌≡◌, ◌↔◌, ◌+◌, ◌-◌, ◌*◌, ◌^◌, ◌<◌, ◌≤◌, ◌∷◌, ◌++◌, [], List, Bool, true, false, Option, Some, None, IfOk, IfSome, IsSome};
+ghost use Rattle.std.specs.Prelude.{◌≡◌, ◌↔◌, ◌+◌, ◌-◌, ◌*◌, ◌^◌, ◌<◌, ◌≤◌, ◌∷◌, ◌++◌, [], List, Bool, true, false, Option, Some, None, IfOk, IfSome, IsSome, OnSome, is_some, if◌then◌else◌};
 ghost use Rattle.std.specs.Option.{option_copied};
 ghost use Rattle.physical_stream.specs.Cycles.{Cycle, cycle_in, items_done};
 ghost use Rattle.physical_stream.specs.Counts.{transfers_of, packets_of};
@@ -59,6 +59,8 @@ impl Checker {
         requires room { seen_in self.old < 2 ^ 32 - 1 }
         ensures params { params_in self.new ≡ params_in self.old }
         ensures steps { (cycles : List Cycle) → StandsFor self.old cycles → Steps self.old self.new cycles (cycle_in row.entry) result }
+        ensures kept { OnSome result (self.new ≡ self.old) }
+        ensures seen { seen_in self.new ≡ (if is_some result then seen_in self.old else seen_in self.old + 1) }
     {
         match row.shown {
             Some(transfer) => self.step_shown(transfer, row.ready),
@@ -72,6 +74,8 @@ impl Checker {
         requires room { seen_in self.old < 2 ^ 32 - 1 }
         ensures params { params_in self.new ≡ params_in self.old }
         ensures steps { (cycles : List Cycle) → StandsFor self.old cycles → Steps self.old self.new cycles (record { ready = ready; shown = Some transfer.now }) result }
+        ensures kept { OnSome result (self.new ≡ self.old) }
+        ensures seen { seen_in self.new ≡ (if is_some result then seen_in self.old else seen_in self.old + 1) }
     {
         let judged = self.judge_shown(transfer);
         if judged.broken.is_none() {
@@ -85,6 +89,8 @@ impl Checker {
         requires room { seen_in self.old < 2 ^ 32 - 1 }
         ensures params { params_in self.new ≡ params_in self.old }
         ensures steps { (cycles : List Cycle) → StandsFor self.old cycles → Steps self.old self.new cycles (record { ready = _ready; shown = None }) result }
+        ensures kept { OnSome result (self.new ≡ self.old) }
+        ensures seen { seen_in self.new ≡ (if is_some result then seen_in self.old else seen_in self.old + 1) }
     {
         let broken = self.judge_pause();
         if broken.is_none() {
@@ -131,6 +137,7 @@ impl Checker {
         requires room { seen_in self.old < 2 ^ 32 - 1 }
         ensures params { params_in self.new ≡ params_in self.old }
         ensures stands { (cycles : List Cycle) (ready : Bool) → StandsFor self.old cycles → StandsFor self.new (cycles ++ record { ready = ready; shown = None } ∷ []) }
+        ensures seen { seen_in self.new ≡ seen_in self.old + 1 }
     {
         self.waits = false;
         self.seen += 1;
@@ -144,6 +151,7 @@ impl Checker {
         requires few { walk.packets ≤ 4224 }
         ensures params { params_in self.new ≡ params_in self.old }
         ensures stands { (cycles : List Cycle) → StandsFor self.old cycles → StandsFor self.new (cycles ++ record { ready = ready; shown = Some transfer.now } ∷ []) }
+        ensures seen { seen_in self.new ≡ seen_in self.old + 1 }
     {
         if ready {
             self.see_done(transfer, walk);
@@ -159,6 +167,7 @@ impl Checker {
         requires few { walk.packets ≤ 4224 }
         ensures params { params_in self.new ≡ params_in self.old }
         ensures stands { (cycles : List Cycle) → StandsFor self.old cycles → StandsFor self.new (cycles ++ record { ready = true; shown = Some _transfer.now } ∷ []) }
+        ensures seen { seen_in self.new ≡ seen_in self.old + 1 }
     {
         self.waits = false;
         self.tail = walk.tail;
@@ -173,6 +182,7 @@ impl Checker {
         requires room { seen_in self.old < 2 ^ 32 - 1 }
         ensures params { params_in self.new ≡ params_in self.old }
         ensures stands { (cycles : List Cycle) → StandsFor self.old cycles → StandsFor self.new (cycles ++ record { ready = false; shown = Some transfer.now } ∷ []) }
+        ensures seen { seen_in self.new ≡ seen_in self.old + 1 }
     {
         self.offered.copy_from(transfer);
         self.waits = true;

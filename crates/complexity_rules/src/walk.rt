@@ -29,6 +29,7 @@ pub(crate) struct Walk {
 
 impl Walk {
     /// A walk before its first item, after an item of this kind.
+    #[inline(always)]
     pub(crate) fn after(tail: Option<Tail>) -> Walk
         ensures found { (dims : ℕ) → Finds dims tail [] result }
         ensures few { result.packets ≡ 0 }
@@ -43,6 +44,7 @@ impl Walk {
     }
 
     /// The walk goes over an element.
+    #[inline(always)]
     fn over_element(self, p: &Params) -> Walk
         requires room { self.packets < 2 * 4224 }
         ensures found { (begins : Option Tail) (over : List Item) (word : List Bool) → Finds p.now.dims begins over self → Finds p.now.dims begins (over ++ items.Elem word ∷ []) result }
@@ -57,6 +59,7 @@ impl Walk {
     }
 
     /// The walk goes over a Close.
+    #[inline(always)]
     fn over_close(self, p: &Params, dim: u8) -> Walk
         requires within { dim < p.now.dims }
         requires room { self.packets < 2 * 4224 }
@@ -73,6 +76,7 @@ impl Walk {
     }
 
     /// The walk goes over the end of this dimension where this lane marks it.
+    #[inline(always)]
     fn over_mark(self, p: &Params, transfer: &Transfer, lane: u16, dim: u8) -> Walk
         requires fits { Fits p.now transfer.now }
         requires within { lane < p.now.lanes }
@@ -90,6 +94,7 @@ impl Walk {
     }
 
     /// The walk goes over the ends that this lane marks.
+    #[inline(always)]
     fn over_marks(self, p: &Params, transfer: &Transfer, lane: u16) -> Walk
         requires fits { Fits p.now transfer.now }
         requires within { lane < p.now.lanes }
@@ -105,6 +110,7 @@ impl Walk {
     }
 
     /// The walk goes over the element of this lane where it is active.
+    #[inline(always)]
     fn over_lane_element(self, p: &Params, transfer: &Transfer, lane: u16) -> Walk
         requires numbered { lane < 128 }
         requires room { self.packets ≤ 4224 }
@@ -120,6 +126,7 @@ impl Walk {
     }
 
     /// The walk goes over the items of this lane.
+    #[inline(always)]
     fn over_lane(self, p: &Params, transfer: &Transfer, lane: u16) -> Walk
         requires fits { Fits p.now transfer.now }
         requires within { lane < p.now.lanes }
@@ -133,6 +140,7 @@ impl Walk {
     }
 
     /// The walk goes over the items of the first lanes, so many of them.
+    #[inline(always)]
     fn over_lanes(self, p: &Params, transfer: &Transfer, count: u16) -> Walk
         requires fits { Fits p.now transfer.now }
         requires within { count ≤ p.now.lanes }
@@ -159,6 +167,7 @@ pub(crate) struct Shown {
 }
 
 /// Walks over the items of a transfer, after an item of this kind.
+#[inline(always)]
 pub(crate) fn walk_over(p: &Params, transfer: &Transfer, tail: Option<Tail>) -> Shown
     requires fits { Fits p.now transfer.now }
     ensures found { Finds p.now.dims tail (items_of p.now transfer.now) result.walk }
@@ -174,6 +183,7 @@ pub(crate) fn walk_over(p: &Params, transfer: &Transfer, tail: Option<Tail>) -> 
 }
 
 /// Whether this is the dimension of packets.
+#[inline(always)]
 fn is_outermost(p: &Params, dim: u8) -> bool
     ensures { result ≡ (dim + 1 == p.now.dims) }
 {
@@ -181,6 +191,7 @@ fn is_outermost(p: &Params, dim: u8) -> bool
 }
 
 /// 1 for true.
+#[inline(always)]
 fn counted(counts: bool) -> u64
     ensures { result ≡ cond counts 1 0 }
 {
@@ -188,6 +199,7 @@ fn counted(counts: bool) -> u64
 }
 
 /// Whether one of two holds. It looks at both, since neither is foreseen.
+#[inline(always)]
 fn either(one: bool, other: bool) -> bool
     ensures { result ≡ (one || other) }
 {
@@ -195,6 +207,7 @@ fn either(one: bool, other: bool) -> bool
 }
 
 /// The first of two dimensions, where there is one.
+#[inline(always)]
 fn first_of_two(first: Option<u8>, dim: u8) -> Option<u8>
     ensures { result ≡ first_of_two first (Some dim) }
 {
@@ -205,6 +218,7 @@ fn first_of_two(first: Option<u8>, dim: u8) -> Option<u8>
 }
 
 /// Whether a Close of this dimension may not stand after an item of this kind.
+#[inline(always)]
 fn is_misplaced(tail: Option<Tail>, dim: u8) -> bool
     ensures { result ≡ not (may_close tail dim) }
 {

@@ -1,5 +1,5 @@
 -- What the checkers of a trace say before its first row and after its last one.
-use Rattle.std.proofs.Common.{◌≡◌, ◌≢◌, ◌∙◌, ℕ, suc, ◌+◌, ◌<◌, ◌≤◌, inl, inr, false, nat_lt, List, [], ◌∷◌, ◌++◌, length, map, take, drop, get_or, slice_get, None, Some, Result, Ok, Err, refl, sym, ap, subst, arith}
+use Rattle.std.proofs.Common.{◌≡◌, ◌≢◌, ◌∙◌, ℕ, suc, ◌+◌, ◌*◌, ◌<◌, ◌≤◌, inl, inr, false, nat_lt, List, [], ◌∷◌, ◌++◌, length, map, take, drop, get_or, slice_get, None, Some, Result, Ok, Err, refl, sym, ap, subst, arith}
 use Rattle.std.proofs.lemmas.Bool.{cases_lt}
 use Rattle.std.proofs.lemmas.Bool.Decides.{nat_tests}
 use Rattle.std.proofs.lemmas.List.{length_push, drop_more, drop_all, map_more, take_all}
@@ -16,22 +16,14 @@ use Rattle.complexity_rules.specs.declared.checker.Checker.{Checker}
 use Rattle.cycle_trace.specs.declared.counts.Counts.{Counts}
 use Rattle.cycle_trace.specs.declared.counts.SurveyFault.{SurveyFault}
 use Rattle.cycle_trace.specs.declared.counts.SurveyFault.TheVariants as faults
-use Rattle.cycle_trace.specs.Trace.{TraceText, IsTrace, streams_of}
+use Rattle.cycle_trace.specs.Trace.{TraceText, cycles_of_stream, row_in, streams_of}
 use Rattle.cycle_trace.specs.Survey.{Answers, Surveys, counts_of, first_unfinished, or_unfinished}
-use Rattle.cycle_trace.specs.Surveying.{AreAt, HaveCheckers, NoneBefore, cycles_before, cycles_seen}
-use Rattle.cycle_trace.proofs.PartsLemmas.{slice_get-front, slice_get-next}
-use Rattle.cycle_trace.proofs.SurveyLemmas.{stream_at, stream_with, length-streams, cycle_within}
-
--- no stream comes before the first one
-none_before : (stream : ℕ) → nat_lt stream 0 ≡ false
-none_before stream = grind (arith, nat_tests)
-
--- before the row of the first stream in a cycle, the rows of the cycles before are seen
-stands_for : (t : TraceText) (cycle stream : ℕ) (checker : Checker) → StandsFor checker (cycles_before t stream (cycles_seen cycle 0 stream)) → StandsFor checker (cycles_before t stream cycle)
-stands_for t cycle stream checker stands = rw (none_before stream) at stands
-
-stands_seen : (t : TraceText) (cycle stream : ℕ) (checker : Checker) → StandsFor checker (cycles_before t stream cycle) → StandsFor checker (cycles_before t stream (cycles_seen cycle 0 stream))
-stands_seen t cycle stream checker stands = rw (none_before stream) stands
+use Rattle.cycle_trace.specs.Surveying.{AreChecked, HaveCheckers}
+use Rattle.std.specs.Option.{option_to_list}
+use Rattle.physical_stream.specs.Items.{parts_below}
+use Rattle.cycle_trace.proofs.PartsLemmas.{slice_get-front, slice_get-next, parts_below-tail}
+use Rattle.cycle_trace.proofs.RowAdded.{breaks_in}
+use Rattle.cycle_trace.proofs.StreamLemmas.{stream_at, stream_with, length-streams}
 
 -- ---- before the first row
 
@@ -54,13 +46,25 @@ HaveCheckers-more heads n checkers checker head have within is params stands = r
       | inr more ↦ at_end stream c h (omega (arith, slice_get_within (checkers ++ checker ∷ []) stream c here, length_push checkers checker, have.many)) here there
     ]
 
-pub HaveCheckers-all : (t : TraceText) (n : ℕ) (checkers : List Checker) → HaveCheckers t.heads n checkers → n ≡ length t.heads → AreAt t 0 0 checkers
-HaveCheckers-all t n checkers have all = record {
-  many = have.many ∙ all;
+-- no cycle stands in a trace without rows
+cycles-none : (t : TraceText) (stream : ℕ) → t.rows ≡ [] → cycles_of_stream t stream ≡ []
+cycles-none t stream none =
+    let all : t.cycles ≡ 0 + t.cycles = omega arith in
+    ap (parts_below (row_in t stream)) all ∙ parts_below-tail (row_in t stream) 0 t.cycles (λ i more. ap (λ (rows : List Cycle). option_to_list (slice_get rows (i * length t.heads + stream))) none)
+
+pub AreChecked-none : (t : TraceText) (checkers : List Checker) → t.rows ≡ [] → HaveCheckers t.heads (length t.heads) checkers → AreChecked t checkers
+AreChecked-none t checkers none have = record {
+  many = have.many;
   each = λ stream checker head here there.
       let found = have.each stream checker head here there in
-      record { params = found.0; stands = stands_seen t 0 stream checker found.1 };
+      record { params = found.0; stands = subst (λ (cycles : List Cycle). StandsFor checker cycles) (sym (cycles-none t stream none)) found.1 };
 }
+
+pub IsFirst-none_yet : (t : TraceText) → t.rows ≡ [] → IsFirst (Offends (streams_of t)) None
+IsFirst-none_yet t none o b =
+    let found = breaks_in t o b in
+    let stands = ap (λ (cycles : List Cycle). slice_get cycles o.cycle) (sym (cycles-none t o.stream none)) ∙ found.1.1.stands in
+    absurd cc
 
 -- ---- after the last row
 
@@ -71,7 +75,7 @@ pub record Checks (t : TraceText) (stream : ℕ) (checker : Checker) : Type 0 wh
   pub params : params_in checker ≡ trace.params
   pub seen : StandsFor checker trace.cycles
 
-pub checks_stream : (t : TraceText) (checkers : List Checker) (stream : ℕ) (checker : Checker) → AreAt t t.cycles 0 checkers → stream < length checkers → checker ≡ get_or checkers stream checker → Checks t stream checker
+pub checks_stream : (t : TraceText) (checkers : List Checker) (stream : ℕ) (checker : Checker) → AreChecked t checkers → stream < length checkers → checker ≡ get_or checkers stream checker → Checks t stream checker
 checks_stream t checkers stream checker at within is = elim (slice_get_cases t.heads stream).1 [
   | inl found ↦
       let here = slice_get_read checkers (length checkers) stream checker refl within is in
@@ -81,13 +85,13 @@ checks_stream t checkers stream checker at within is = elim (slice_get_cases t.h
         trace = stream_with t stream found.0;
         stands = stream_at t 0 t.heads stream found.0 found.2 ∙ ap (λ (s : ℕ). Some (stream_with t s found.0)) from_first;
         params = stood.params;
-        seen = stands_for t t.cycles stream checker stood.stands;
+        seen = stood.stands;
       }
   | inr past ↦ absurd (omega (arith, past.0, at.many))
 ]
 
 -- how many streams there are
-many_streams : (t : TraceText) (checkers : List Checker) → AreAt t t.cycles 0 checkers → length (streams_of t) ≡ length checkers
+many_streams : (t : TraceText) (checkers : List Checker) → AreChecked t checkers → length (streams_of t) ≡ length checkers
 many_streams t checkers at = length-streams t 0 t.heads ∙ sym at.many
 
 -- the streams from one on that ends so
@@ -109,7 +113,7 @@ GoesOn t i = (found : Result Counts SurveyFault) → first_unfinished 0 (streams
 abbrev pub TellsEnd : Checker → End → Type 0
 TellsEnd checker end = (cycles : List Cycle) → StandsFor checker cycles → end ≡ ending_of (params_in checker) cycles
 
-ends_here : (t : TraceText) (checkers : List Checker) (i : ℕ) (checker : Checker) (end : End) → AreAt t t.cycles 0 checkers → i < length checkers → checker ≡ get_or checkers i checker → TellsEnd checker end → GoesOn t i →
+ends_here : (t : TraceText) (checkers : List Checker) (i : ℕ) (checker : Checker) (end : End) → AreChecked t checkers → i < length checkers → checker ≡ get_or checkers i checker → TellsEnd checker end → GoesOn t i →
     (found : Result Counts SurveyFault) → first_unfinished 0 (streams_of t) found ≡ or_unfinished i end (first_unfinished (i + 1) (drop (i + 1) (streams_of t)) found)
 ends_here t checkers i checker end at within is tells goes found =
     let h = checks_stream t checkers i checker at within is in
@@ -117,7 +121,7 @@ ends_here t checkers i checker end at within is tells goes found =
     goes found ∙ first-here (streams_of t) i h.trace found h.stands
     ∙ ap (λ (e : End). or_unfinished i e (first_unfinished (i + 1) (drop (i + 1) (streams_of t)) found)) end_is
 
-pub GoesOn-more : (t : TraceText) (checkers : List Checker) (i : ℕ) (checker : Checker) (end : End) → AreAt t t.cycles 0 checkers → i < length checkers → checker ≡ get_or checkers i checker → TellsEnd checker end → GoesOn t i →
+pub GoesOn-more : (t : TraceText) (checkers : List Checker) (i : ℕ) (checker : Checker) (end : End) → AreChecked t checkers → i < length checkers → checker ≡ get_or checkers i checker → TellsEnd checker end → GoesOn t i →
     end ≡ ends.Whole → GoesOn t (i + 1)
 GoesOn-more t checkers i checker end at within is tells goes whole found =
     ends_here t checkers i checker end at within is tells goes found ∙ ap (λ (e : End). or_unfinished i e (first_unfinished (i + 1) (drop (i + 1) (streams_of t)) found)) whole
@@ -127,12 +131,12 @@ not_whole i ends.Whole found unlike = absurd (unlike refl)
 not_whole i ends.Pending found unlike = refl
 not_whole i (ends.Unclosed k) found unlike = refl
 
-pub GoesOn-ends : (t : TraceText) (checkers : List Checker) (i : ℕ) (checker : Checker) (end : End) → AreAt t t.cycles 0 checkers → i < length checkers → checker ≡ get_or checkers i checker → TellsEnd checker end → GoesOn t i →
+pub GoesOn-ends : (t : TraceText) (checkers : List Checker) (i : ℕ) (checker : Checker) (end : End) → AreChecked t checkers → i < length checkers → checker ≡ get_or checkers i checker → TellsEnd checker end → GoesOn t i →
     end ≢ ends.Whole → (found : Result Counts SurveyFault) → first_unfinished 0 (streams_of t) found ≡ Err (faults.Unfinished i end)
 GoesOn-ends t checkers i checker end at within is tells goes unlike found =
     ends_here t checkers i checker end at within is tells goes found ∙ not_whole i end (first_unfinished (i + 1) (drop (i + 1) (streams_of t)) found) unlike
 
-pub GoesOn-all : (t : TraceText) (checkers : List Checker) (i : ℕ) → AreAt t t.cycles 0 checkers → length checkers ≤ i → GoesOn t i → (found : Result Counts SurveyFault) → first_unfinished 0 (streams_of t) found ≡ found
+pub GoesOn-all : (t : TraceText) (checkers : List Checker) (i : ℕ) → AreChecked t checkers → length checkers ≤ i → GoesOn t i → (found : Result Counts SurveyFault) → first_unfinished 0 (streams_of t) found ≡ found
 GoesOn-all t checkers i at past goes found =
     goes found ∙ ap (λ (rest : List StreamTrace). first_unfinished i rest found) (drop_all i (streams_of t) (omega (arith, many_streams t checkers at)))
 
@@ -146,7 +150,7 @@ count_in s = (transfers_of s.cycles, packets_of s.params s.cycles)
 abbrev pub counts_in : TraceText → ℕ → List (ℕ × ℕ)
 counts_in t i = map count_in (take i (streams_of t))
 
-pub counts_in-more : (t : TraceText) (checkers : List Checker) (i : ℕ) (checker : Checker) (transfers packets : ℕ) → AreAt t t.cycles 0 checkers → i < length checkers → checker ≡ get_or checkers i checker →
+pub counts_in-more : (t : TraceText) (checkers : List Checker) (i : ℕ) (checker : Checker) (transfers packets : ℕ) → AreChecked t checkers → i < length checkers → checker ≡ get_or checkers i checker →
     ((cycles : List Cycle) → StandsFor checker cycles → transfers ≡ transfers_of cycles) → ((cycles : List Cycle) → StandsFor checker cycles → packets ≡ packets_of (params_in checker) cycles) →
     counts_in t i ++ (transfers, packets) ∷ [] ≡ counts_in t (i + 1)
 counts_in-more t checkers i checker transfers packets at within is tells_transfers tells_packets =
@@ -157,26 +161,22 @@ counts_in-more t checkers i checker transfers packets at within is tells_transfe
     let same : ◌≡◌ {A = ℕ × ℕ} (transfers, packets) (count_in h.trace) = ap (λ (n : ℕ). (n, packets)) done ∙ ap (λ (n : ℕ). (transfers_of h.trace.cycles, n)) packed in
     ap (λ (x : ℕ × ℕ). counts_in t i ++ x ∷ []) (same ∙ sym (ap count_in here)) ∙ sym (map_more count_in (streams_of t) i h.trace (slice_get_within (streams_of t) i h.trace h.stands))
 
-pub counts_in-all : (t : TraceText) (checkers : List Checker) (i : ℕ) → AreAt t t.cycles 0 checkers → length checkers ≤ i → counts_in t i ≡ (counts_of (streams_of t)).streams
+pub counts_in-all : (t : TraceText) (checkers : List Checker) (i : ℕ) → AreChecked t checkers → length checkers ≤ i → counts_in t i ≡ (counts_of (streams_of t)).streams
 counts_in-all t checkers i at past = ap (λ (streams : List StreamTrace). map count_in streams) (take_all i (streams_of t) (omega (arith, many_streams t checkers at)))
 
 -- ---- the whole survey
 
--- no row breaks a rule
-pub none_offends : (t : TraceText) → IsTrace t → NoneBefore t t.cycles 0 → IsFirst (Offends (streams_of t)) None
-none_offends t whole none o offends = none o offends (inl (cycle_within t whole o offends).0)
-
-pub answers_fault : (t : TraceText) (fault : SurveyFault) → IsTrace t → NoneBefore t t.cycles 0 → ((found : Result Counts SurveyFault) → first_unfinished 0 (streams_of t) found ≡ Err fault) → Answers (streams_of t) (Err fault)
-answers_fault t fault whole none is = by_fault fault (record { first = None; is_first = none_offends t whole none; says = sym (is (Ok (counts_of (streams_of t)))) })
+pub answers_fault : (t : TraceText) (fault : SurveyFault) → IsFirst (Offends (streams_of t)) None → ((found : Result Counts SurveyFault) → first_unfinished 0 (streams_of t) found ≡ Err fault) → Answers (streams_of t) (Err fault)
+answers_fault t fault legal is = by_fault fault (record { first = None; is_first = legal; says = sym (is (Ok (counts_of (streams_of t)))) })
   where
     by_fault : (f : SurveyFault) → Surveys (streams_of t) (Err f) → Answers (streams_of t) (Err f)
     by_fault (faults.Offence cycle stream rule) h = h
     by_fault (faults.Unfinished stream end) h = h
     by_fault faults.Memory h = tt
 
-pub surveys_counts : (t : TraceText) (counts : Counts) → IsTrace t → NoneBefore t t.cycles 0 → ((found : Result Counts SurveyFault) → first_unfinished 0 (streams_of t) found ≡ found) → counts ≡ counts_of (streams_of t) → Surveys (streams_of t) (Ok counts)
-surveys_counts t counts whole none is same = record {
+pub surveys_counts : (t : TraceText) (counts : Counts) → IsFirst (Offends (streams_of t)) None → ((found : Result Counts SurveyFault) → first_unfinished 0 (streams_of t) found ≡ found) → counts ≡ counts_of (streams_of t) → Surveys (streams_of t) (Ok counts)
+surveys_counts t counts legal is same = record {
   first = None;
-  is_first = none_offends t whole none;
+  is_first = legal;
   says = ap (λ (c : Counts). Ok c) same ∙ sym (is (Ok (counts_of (streams_of t))));
 }

@@ -1,10 +1,13 @@
 -- The form of a row of some stream.
-use Rattle.std.proofs.Common.{◌≡◌, ◌↔◌, ℕ, ◌+◌, ◌^◌, ◌<◌, ◌≤◌, Bool, true, false, not, ◌&&◌, IsTrue, nat_le, nat_lt, List, [], ◌∷◌, length, get_or, drop, Option, Some, None, is_some, if◌then◌else◌, add-one, refl, sym, ap, ◌∙◌, arith}
+use Rattle.std.proofs.Common.{◌≡◌, ◌↔◌, ℕ, ◌+◌, ◌^◌, ◌<◌, ◌≤◌, Bool, true, false, not, ◌&&◌, IsTrue, nat_le, nat_lt, List, [], ◌∷◌, length, get_or, drop, Option, Some, None, IsSome, is_some, if◌then◌else◌, add-one, refl, sym, ap, ◌∙◌, arith}
 use Rattle.std.proofs.Math.Seq.{drop-cons}
 use Rattle.std.proofs.Math.ListN.{drop_of_length-le}
 use Rattle.std.proofs.lemmas.Bool.Decides.{nat_tests}
 use Rattle.tydi_base.specs.Decimal.{read_on, is_decimal, decimal_of, below}
-use Rattle.cycle_trace.specs.RowText.{are_signals}
+use Rattle.tydi_base.specs.Pieces.{words_of}
+use Rattle.cycle_trace.specs.Faults.{fault_in}
+use Rattle.cycle_trace.specs.declared.fault.TraceFault.TheVariants.{BadRow, WrongSignals}
+use Rattle.cycle_trace.specs.RowText.{are_signals, has_form, row_fault}
 use Rattle.cycle_trace.proofs.HeaderLemmas.{below-short}
 
 some_if : (test : Bool) (n : ℕ) → is_some (if test then Some n else None) ≡ test
@@ -45,3 +48,11 @@ some_words true [] h = refl
 some_words true (word ∷ words) h = let e = h.0 refl in absurd cc
 some_words false [] h = let e = h.1 refl in absurd cc
 some_words false (word ∷ words) h = grind (arith, nat_tests)
+
+-- a line that is no row has a fault
+pub row_fault-some : (number : ℕ) (line : List ℕ) → IsSome (fault_in (row_fault number line))
+row_fault-some number line = by_form (has_form (words_of line))
+  where
+    by_form : (form : Bool) → IsSome (fault_in (if form then WrongSignals number else BadRow number))
+    by_form true = refl
+    by_form false = refl

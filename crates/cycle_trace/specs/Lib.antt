@@ -1,6 +1,5 @@
 pub mod Faults
 pub mod HeaderText
-pub mod OpeningView
 pub mod RowLayout
 pub mod RowStart
 pub mod RowText
@@ -10,9 +9,15 @@ pub mod Spelling
 pub mod Survey
 pub mod Surveying
 pub mod TextSet
-pub mod TextSurvey
 pub mod Trace
 pub mod TraceText
 pub mod TraceView
 pub mod WordsLeft
 pub mod Writing
+pub mod RowSink
+pub mod SurveyorView
+pub mod Widths
+pub mod RowKept
+pub mod Beginnings
+pub mod ReaderView
+pub mod KeepView

@@ -48,3 +48,7 @@ impl From<Memory> for Misspelling {
         Misspelling::Memory
     }
 }
+
+/// That words spell nothing.
+#[derive(Clone, Copy, Debug, PartialEq, Eq)]
+pub(crate) struct Unspelled;

@@ -2,75 +2,41 @@
 
 ghost use Rattle.std.specs.Prelude.{◌≡◌, ◌+◌, ◌<◌, ◌≤◌, ◌^◌, map, length, IfOk, OnOk, if◌then◌else◌, not, Some, None, true, [], ℕ, List};
 ghost use Rattle.tydi_base.specs.Reading.{Gives};
-ghost use Rattle.tydi_base.specs.Pieces.{words_of, lines_of};
+ghost use Rattle.tydi_base.specs.Pieces.{words_of};
 ghost use Rattle.tydi_base.specs.Path.{path_text};
 ghost use Rattle.cycle_trace.specs.Faults.{fault_in, misspelling_in, header_fault};
 ghost use Rattle.cycle_trace.specs.HeaderText as spec;
-ghost use Rattle.cycle_trace.specs.OpeningView.{opening_view, opening_with};
 ghost use Rattle.cycle_trace.specs.TextSet.{has_text, AddsText, HasTexts};
-ghost use Rattle.cycle_trace.specs.Trace.{are_heads};
 
 use crate::fault::{Misspelling, TraceFault};
 use physical_stream::{Head, Params};
 use std::alloc::Global;
 use std::collections::BTreeSet;
-use tydi_base::{Level, List, Memory, Path, first_piece, read_decimal};
-
-/// What a header says, and the text after it.
-#[derive(Debug, Drop)]
-pub(crate) struct Opening<'a> {
-    pub cycles: u64,
-    pub heads: List<Head>,
-    /// The rows.
-    pub rest: &'a [u8],
-}
+use tydi_base::{Level, List, Memory, Path, read_decimal};
 
 /// The most streams of a trace.
 const MOST_STREAMS: usize = 65536;
 
-/// The header that a text begins with.
-pub(crate) fn read_opening<'a>(alloc: Global, text: &'a [u8]) -> Result<Opening<'a>, TraceFault>
-    ensures gives { Gives fault_in opening_view result (spec.opening_of (lines_of text.now)) }
-    ensures streams { IfOk result (λ opening. are_heads opening.heads ≡ true) }
+/// That the first line is right.
+#[tactic(auto, unfolding(crate::specs::HeaderText::title_of))]
+pub(crate) fn read_title(line: &[u8]) -> Result<(), TraceFault>
+    ensures { Gives fault_in (λ fine. fine) result (spec.in_header 1 (spec.title_of line.now)) }
 {
-    let Some((first, after)) = first_piece(text, b'\n') else {
-        return Err(TraceFault::BadHeader(1));
-    };
-    if first != b"tydi-trace 1".as_slice() {
-        return Err(TraceFault::BadHeader(1));
+    if line == b"tydi-trace 1".as_slice() {
+        Ok(())
+    } else {
+        Err(TraceFault::BadHeader(1))
     }
-    opening_after(alloc, after)
 }
 
-/// The header that goes on after its first line.
-fn opening_after<'a>(alloc: Global, text: &'a [u8]) -> Result<Opening<'a>, TraceFault>
-    ensures gives { Gives fault_in opening_view result (spec.opening_after (lines_of text.now)) }
-    ensures streams { IfOk result (λ opening. are_heads opening.heads ≡ true) }
+/// The number of cycles that the second line spells.
+pub(crate) fn read_cycles(line: &[u8]) -> Result<u64, TraceFault>
+    ensures { Gives fault_in (λ n. n) result (spec.in_header 2 (spec.count_of_cycles line.now)) }
 {
-    let Some((second, after)) = first_piece(text, b'\n') else {
-        return Err(TraceFault::BadHeader(2));
-    };
-    match count_of_cycles(second) {
-        Ok(cycles) => opening_of_streams(alloc, cycles, after),
+    match count_of_cycles(line) {
+        Ok(cycles) => Ok(cycles),
         Err(e) => Err(header_fault(2, e)),
     }
-}
-
-/// The header of so many cycles that goes on after its second line.
-fn opening_of_streams<'a>(
-    alloc: Global,
-    cycles: u64,
-    text: &'a [u8],
-) -> Result<Opening<'a>, TraceFault>
-    ensures gives { Gives fault_in opening_view result (opening_with cycles (spec.heads_from 3 [] (lines_of text.now))) }
-    ensures streams { IfOk result (λ opening. are_heads opening.heads ≡ true) }
-{
-    let (heads, rest) = read_heads(alloc, text)?;
-    Ok(Opening {
-        cycles,
-        heads,
-        rest,
-    })
 }
 
 /// The fault of the header line of this number, of which this is what kept it from being read.
@@ -83,29 +49,9 @@ fn header_fault(line: u64, misspelling: Misspelling) -> TraceFault
     }
 }
 
-/// The heads of the stream lines that the text begins with, and what follows them.
-fn read_heads<'a>(alloc: Global, text: &'a [u8]) -> Result<(List<Head>, &'a [u8]), TraceFault>
-    ensures { Gives fault_in (λ found. (found.0, lines_of found.1.now)) result (spec.heads_from 3 [] (lines_of text.now)) }
-{
-    let mut heads = List::new(alloc);
-    let mut paths = BTreeSet::new(alloc);
-    let mut rest = text;
-    'heads: while let Some((line, after)) = first_piece(rest, b'\n') {
-        if !is_head_line(line) {
-            return Ok((heads, rest));
-        }
-        heads.push(next_head(alloc, &mut paths, heads.len(), line)?)?;
-        rest = after;
-    }
-    if is_head_line(rest) {
-        return Err(TraceFault::BadHeader(3 + heads.len() as u64));
-    }
-    Ok((heads, rest))
-}
-
 /// The head that a stream line spells after so many stream lines, the texts of whose paths are these; and its path is one of
 /// these from then on.
-fn next_head(
+pub(crate) fn next_head(
     alloc: Global,
     paths: &mut BTreeSet<Vec<u8>>,
     count: usize,
@@ -281,7 +227,7 @@ fn head_of(alloc: Global, line: &[u8]) -> Result<Head, Misspelling>
 }
 
 /// Whether a line begins with `stream` and a space.
-fn is_head_line(line: &[u8]) -> bool
+pub(crate) fn is_head_line(line: &[u8]) -> bool
     ensures { result ≡ spec.is_head_line line.now }
 {
     line.starts_with(b"stream ")

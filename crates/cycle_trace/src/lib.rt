@@ -8,22 +8,29 @@
 mod counts;
 mod fault;
 mod header_text;
+mod keep;
 mod laws;
+mod line_taking;
 mod own_row;
 mod reading;
+mod replaying;
 mod row_form;
 mod row_layout;
+mod row_sink;
 mod row_text;
 mod rows;
-mod rows_text;
-#[cfg(test)]
-mod survey_tests;
+mod rows_read;
+mod stream_rows;
+mod survey_run;
 mod surveyed;
 mod surveying;
+mod surveyor;
 #[cfg(test)]
 mod tests;
-mod text_survey;
+mod text_read;
 mod trace;
+mod trace_reader;
+mod turn;
 mod words_left;
 mod writing;
 #[cfg(test)]
@@ -31,11 +38,14 @@ mod writing_tests;
 
 pub use counts::{Counts, SurveyFault};
 pub use fault::TraceFault;
-pub use laws::traces_are_read_as_spelled;
+pub use keep::Keep;
+pub use laws::{heads_are_in_form, traces_are_read_as_spelled};
 pub use own_row::OwnRow;
 pub use reading::read;
+pub use replaying::survey;
+pub use row_sink::RowSink;
 pub use surveyed::Surveyed;
-pub use surveying::survey;
-pub use text_survey::survey_text;
+pub use surveyor::Surveyor;
 pub use trace::Trace;
+pub use trace_reader::TraceReader;
 pub use writing::{write_header, write_row};

@@ -1,73 +1,78 @@
 //! The rows of a trace text.
 
-ghost use Rattle.std.specs.Prelude.{◌≡◌, ◌≢◌, ◌≤◌, ◌<◌, ◌^◌, ℕ, length, [], ◌∷◌, Ok, option_map, IfSome};
+ghost use Rattle.std.specs.Prelude.{◌≡◌, ◌≢◌, ◌≤◌, ◌<◌, ◌^◌, ℕ, length, [], ◌∷◌, Ok, option_map, false, IfErr, IfSome, IsSome};
 ghost use Rattle.tydi_base.specs.Bits.{number_of_bits};
 ghost use Rattle.tydi_base.specs.Hex.{bits_of_digits};
 ghost use Rattle.tydi_base.specs.Pieces.{words_of};
 ghost use Rattle.tydi_base.specs.Reading.{Gives};
-ghost use Rattle.cycle_trace.specs.Faults.{misspelling_in};
+ghost use Rattle.cycle_trace.specs.Faults.{fault_in, unspelled_in};
 ghost use Rattle.cycle_trace.specs.RowStart.{row_start};
 ghost use Rattle.cycle_trace.specs.RowText as spec;
-ghost use Rattle.cycle_trace.specs.Trace.{cycle_of};
+ghost use Rattle.cycle_trace.specs.RowKept.{cycle_in, shown_in};
+ghost use Rattle.cycle_trace.specs.Widths.{HasWidths};
 ghost use Rattle.cycle_trace.specs.WordsLeft.{words_left};
 
-use crate::fault::Misspelling;
-use crate::own_row::OwnRow;
+use crate::fault::{TraceFault, Unspelled};
+use crate::row_form::row_fault;
 use crate::row_layout::{RowLayout, WordSignal};
 use crate::words_left::WordsLeft;
 use physical_stream::Transfer;
-use std::alloc::Global;
 use tydi_base::{Bits, digit_value, read_decimal};
 
 /// The value of the first word, which is this key, `=` and the value; and the words after it.
 #[inline(never)]
 #[tactic(auto, unfolding(crate::specs::RowText::value_of))]
-fn value_of<'a>(key: u8, words: WordsLeft<'a>) -> Result<(&'a [u8], WordsLeft<'a>), Misspelling>
-    ensures { Gives misspelling_in (λ x. (x.0.now, words_left x.1)) result (spec.value_of key (words_left words.entry)) }
+fn value_of<'a>(key: u8, words: WordsLeft<'a>) -> Result<(&'a [u8], WordsLeft<'a>), Unspelled>
+    ensures { Gives unspelled_in (λ x. (x.0.now, words_left x.1)) result (spec.value_of key (words_left words.entry)) }
 {
     match words.next_word() {
         Some(([k, b'=', value @ ..], rest)) if *k == key => Ok((value, rest)),
-        _ => Err(Misspelling::Unspelled),
+        _ => Err(Unspelled),
     }
 }
 
-/// A word of bits: zeros where the signal is absent, else exactly its hexadecimal digits.
+/// Reads a word of bits: nothing where the signal is absent, else exactly its hexadecimal digits. Only its width is as before
+/// where they spell no word.
 #[inline(always)]
 #[tactic(auto, unfolding(crate::specs::RowText::word_field))]
-fn word_field<'a>(
-    alloc: Global,
+fn read_word<'a>(
+    bits: &mut Bits,
     signal: WordSignal,
     key: u8,
     words: WordsLeft<'a>,
-) -> Result<(Bits, WordsLeft<'a>), Misspelling>
-    ensures { Gives misspelling_in (λ x. (x.0, words_left x.1)) result (spec.word_field signal.present key signal.width (words_left words.entry)) }
+) -> Result<WordsLeft<'a>, Unspelled>
+    requires wide { length bits.old ≡ signal.width }
+    requires absent { signal.present ≡ false → signal.width ≡ 0 }
+    ensures read { Gives unspelled_in (λ rest. (bits.new, words_left rest)) result (spec.word_field signal.present key signal.width (words_left words.entry)) }
+    ensures wide { length bits.new ≡ length bits.old }
 {
     if !signal.present {
-        return Ok((Bits::zeros(alloc, signal.width)?, words));
+        return Ok(words);
     }
     let size = signal.width.div_ceil(4);
     let Some((digits, rest)) = words.sized_value(key, size) else {
-        return Err(Misspelling::Unspelled);
+        return Err(Unspelled);
     };
-    match Bits::from_hexadecimal(alloc, signal.width, digits)? {
-        Some(bits) => Ok((bits, rest)),
-        None => Err(Misspelling::Unspelled),
+    if bits.read_exact_hex(digits) {
+        Ok(rest)
+    } else {
+        Err(Unspelled)
     }
 }
 
 /// The number of a lane that at most five digits spell, below a limit.
-fn index_of(limit: u32, digits: &[u8]) -> Result<u16, Misspelling>
+fn index_of(limit: u32, digits: &[u8]) -> Result<u16, Unspelled>
     requires { limit ≤ 2 ^ 16 }
-    ensures { (width : ℕ) → limit ≡ 2 ^ width → Gives misspelling_in (λ n. n) result (spec.index_of width digits.now) }
+    ensures { (width : ℕ) → limit ≡ 2 ^ width → Gives unspelled_in (λ n. n) result (spec.index_of width digits.now) }
 {
     if digits.len() > 5 {
-        return Err(Misspelling::Unspelled);
+        return Err(Unspelled);
     }
     let Some(n) = read_decimal(digits) else {
-        return Err(Misspelling::Unspelled);
+        return Err(Unspelled);
     };
     if n >= u64::from(limit) {
-        return Err(Misspelling::Unspelled);
+        return Err(Unspelled);
     }
     Ok(n as u16)
 }
@@ -81,9 +86,9 @@ fn index_field<'a>(
     limit: u32,
     default: u16,
     words: WordsLeft<'a>,
-) -> Result<(u16, WordsLeft<'a>), Misspelling>
+) -> Result<(u16, WordsLeft<'a>), Unspelled>
     requires { limit ≤ 2 ^ 16 }
-    ensures { (width : ℕ) → limit ≡ 2 ^ width → Gives misspelling_in (λ x. (x.0, words_left x.1)) result (spec.index_field present key width default (words_left words.entry)) }
+    ensures { (width : ℕ) → limit ≡ 2 ^ width → Gives unspelled_in (λ x. (x.0, words_left x.1)) result (spec.index_field present key width default (words_left words.entry)) }
 {
     if !present {
         return Ok((default, words));
@@ -110,21 +115,21 @@ fn number_of_digits(digits: &[u8]) -> Option<u128>
 fn strobe_field<'a>(
     layout: &RowLayout,
     words: WordsLeft<'a>,
-) -> Result<(u128, WordsLeft<'a>), Misspelling>
-    ensures { Gives misspelling_in (λ x. (x.0, words_left x.1)) result (spec.strobe_field layout.now.strb.present layout.now.params.lanes (words_left words.entry)) }
+) -> Result<(u128, WordsLeft<'a>), Unspelled>
+    ensures { Gives unspelled_in (λ x. (x.0, words_left x.1)) result (spec.strobe_field layout.now.strb.present layout.now.params.lanes (words_left words.entry)) }
 {
     if !layout.strb.present {
         return Ok((layout.all_lanes, words));
     }
     let size = layout.strb.width.div_ceil(4);
     let Some((digits, rest)) = words.sized_value(b'b', size) else {
-        return Err(Misspelling::Unspelled);
+        return Err(Unspelled);
     };
     let Some(number) = number_of_digits(digits) else {
-        return Err(Misspelling::Unspelled);
+        return Err(Unspelled);
     };
     if number > layout.all_lanes {
-        return Err(Misspelling::Unspelled);
+        return Err(Unspelled);
     }
     Ok((number, rest))
 }
@@ -132,37 +137,34 @@ fn strobe_field<'a>(
 /// That no word is left.
 #[inline(always)]
 #[tactic(auto, unfolding(crate::specs::RowText::no_more))]
-fn no_more(words: WordsLeft) -> Result<(), Misspelling>
-    ensures { Gives misspelling_in (λ fine. fine) result (spec.no_more (words_left words.entry)) }
+fn no_more(words: WordsLeft) -> Result<(), Unspelled>
+    ensures { Gives unspelled_in (λ fine. fine) result (spec.no_more (words_left words.entry)) }
 {
     if words.is_empty() {
         Ok(())
     } else {
-        Err(Misspelling::Unspelled)
+        Err(Unspelled)
     }
 }
 
-/// The transfer that the words of a payload spell.
+/// Reads the transfer that the words of a payload spell. Only the widths of its words are as before where they spell none.
 #[tactic(auto, unfolding(crate::specs::RowText::transfer_of))]
-fn transfer_of(alloc: Global, layout: &RowLayout, words: WordsLeft) -> Result<Transfer, Misspelling>
-    ensures { Gives misspelling_in (λ t. t) result (spec.transfer_of layout.now.params (words_left words.entry)) }
+fn read_transfer(layout: &RowLayout, kept: &mut Transfer, words: WordsLeft) -> Result<(), Unspelled>
+    requires { HasWidths layout.now.params kept.old }
+    ensures read { Gives unspelled_in (λ _. kept.new) result (spec.transfer_of layout.now.params (words_left words.entry)) }
+    ensures widths { HasWidths layout.now.params kept.new }
 {
     let limit = layout.index_limit;
-    let (content, words) = word_field(alloc, layout.content, b'd', words)?;
-    let (last, words) = word_field(alloc, layout.last, b'l', words)?;
+    let words = read_word(&mut kept.content, layout.content, b'd', words)?;
+    let words = read_word(&mut kept.last, layout.last, b'l', words)?;
     let (stai, words) = index_field(layout.has_stai, b's', limit, 0, words)?;
+    kept.stai = stai;
     let (endi, words) = index_field(layout.has_endi, b'e', limit, layout.last_lane, words)?;
+    kept.endi = endi;
     let (strb, words) = strobe_field(layout, words)?;
-    let (user, words) = word_field(alloc, layout.user, b'u', words)?;
-    no_more(words)?;
-    Ok(Transfer {
-        content,
-        last,
-        stai,
-        endi,
-        strb,
-        user,
-    })
+    kept.strb = strb;
+    let words = read_word(&mut kept.user, layout.user, b'u', words)?;
+    no_more(words)
 }
 
 /// Whether the payload is the word `-` alone.
@@ -177,50 +179,52 @@ pub(crate) fn is_dash(words: WordsLeft) -> bool
 
 /// The words of the payload of a cycle with valid: none where `-` stands for them.
 #[tactic(auto, unfolding(crate::specs::RowText::payload_of))]
-fn payload_of<'a>(layout: &RowLayout, words: WordsLeft<'a>) -> Result<WordsLeft<'a>, Misspelling>
-    ensures { Gives misspelling_in words_left result (spec.payload_of layout.now.params (words_left words.entry)) }
+fn payload_of<'a>(layout: &RowLayout, words: WordsLeft<'a>) -> Result<WordsLeft<'a>, Unspelled>
+    ensures { Gives unspelled_in words_left result (spec.payload_of layout.now.params (words_left words.entry)) }
 {
     if layout.has_payload {
         Ok(words)
     } else if is_dash(words) {
         Ok(WordsLeft::none())
     } else {
-        Err(Misspelling::Unspelled)
+        Err(Unspelled)
     }
 }
 
-/// What a cycle shows.
+/// Reads what a cycle shows.
 #[tactic(auto, unfolding(crate::specs::RowText::shown_of))]
-fn shown_of(
-    alloc: Global,
+fn read_shown(
     layout: &RowLayout,
+    kept: &mut Transfer,
     valid: bool,
     words: WordsLeft,
-) -> Result<Option<Transfer>, Misspelling>
-    ensures { Gives misspelling_in (λ shown. shown) result (spec.shown_of layout.now.params valid (words_left words.entry)) }
+) -> Result<(), Unspelled>
+    requires { HasWidths layout.now.params kept.old }
+    ensures read { Gives unspelled_in (λ _. shown_in kept.new valid) result (spec.shown_of layout.now.params valid (words_left words.entry)) }
+    ensures widths { HasWidths layout.now.params kept.new }
 {
     if valid {
         let payload = payload_of(layout, words)?;
-        return Ok(Some(transfer_of(alloc, layout, payload)?));
+        return read_transfer(layout, kept, payload);
     }
     if is_dash(words) {
-        Ok(None)
+        Ok(())
     } else {
-        Err(Misspelling::Unspelled)
+        Err(Unspelled)
     }
 }
 
 /// The bit that a word is.
 #[tactic(auto, unfolding(crate::specs::RowText::bit_of))]
-fn bit_of(word: &[u8]) -> Result<bool, Misspelling>
-    ensures { Gives misspelling_in (λ bit. bit) result (spec.bit_of word.now) }
+fn bit_of(word: &[u8]) -> Result<bool, Unspelled>
+    ensures { Gives unspelled_in (λ bit. bit) result (spec.bit_of word.now) }
 {
     if word == b"1".as_slice() {
         Ok(true)
     } else if word == b"0".as_slice() {
         Ok(false)
     } else {
-        Err(Misspelling::Unspelled)
+        Err(Unspelled)
     }
 }
 
@@ -256,31 +260,53 @@ fn two_bits(line: &[u8]) -> Option<(bool, bool, &[u8])>
 /// The valid bit and the ready bit of a row, and the words of its payload.
 #[inline(always)]
 #[tactic(auto, unfolding(crate::specs::RowStart::row_start))]
-fn start_of(line: &[u8]) -> Result<(bool, bool, WordsLeft<'_>), Misspelling>
-    ensures { Gives misspelling_in (λ x. (x.0, x.1, words_left x.2)) result (row_start (words_of line.now)) }
+fn start_of(line: &[u8]) -> Result<(bool, bool, WordsLeft<'_>), Unspelled>
+    ensures { Gives unspelled_in (λ x. (x.0, x.1, words_left x.2)) result (row_start (words_of line.now)) }
 {
     if let Some((valid, ready, payload)) = two_bits(line) {
         return Ok((valid, ready, WordsLeft::of(payload)));
     }
-    let (valid, words) = WordsLeft::of(line)
-        .next_word()
-        .ok_or(Misspelling::Unspelled)?;
-    let (ready, payload) = words.next_word().ok_or(Misspelling::Unspelled)?;
+    let (valid, words) = WordsLeft::of(line).next_word().ok_or(Unspelled)?;
+    let (ready, payload) = words.next_word().ok_or(Unspelled)?;
     let valid = bit_of(valid)?;
     let ready = bit_of(ready)?;
     Ok((valid, ready, payload))
 }
 
-/// The cycle that a row spells.
+/// The valid bit and the ready bit of a row.
+#[derive(Clone, Copy, Debug, PartialEq, Eq)]
+pub(crate) struct RowBits {
+    pub valid: bool,
+    pub ready: bool,
+}
+
+/// Reads the cycle that a row spells: its bits, and what it shows.
 #[tactic(auto, using(crate::proofs::RowStartLemmas::row_of_start))]
-pub(crate) fn read_row(
-    alloc: Global,
-    layout: &RowLayout,
-    line: &[u8],
-) -> Result<OwnRow, Misspelling>
-    ensures { Gives misspelling_in cycle_of result (spec.row_of layout.now.params line.now) }
+fn read_row(layout: &RowLayout, kept: &mut Transfer, line: &[u8]) -> Result<RowBits, Unspelled>
+    requires { HasWidths layout.now.params kept.old }
+    ensures read { Gives unspelled_in (cycle_in kept.new) result (spec.row_of layout.now.params line.now) }
+    ensures widths { HasWidths layout.now.params kept.new }
 {
     let (valid, ready, payload) = start_of(line)?;
-    let shown = shown_of(alloc, layout, valid, payload)?;
-    Ok(OwnRow { ready, shown })
+    read_shown(layout, kept, valid, payload)?;
+    Ok(RowBits { valid, ready })
+}
+
+/// Reads the cycle that the line of this number spells: its bits, and what it shows. It takes no memory.
+#[tactic(auto, unfolding(crate::specs::RowText::row_at))]
+pub(crate) fn row_at(
+    layout: &RowLayout,
+    kept: &mut Transfer,
+    number: u64,
+    line: &[u8],
+) -> Result<RowBits, TraceFault>
+    requires { HasWidths layout.now.params kept.old }
+    ensures read { Gives fault_in (cycle_in kept.new) result (spec.row_at number layout.now.params line.now) }
+    ensures widths { HasWidths layout.now.params kept.new }
+    ensures calm { IfErr result (λ e. IsSome (fault_in e)) }
+{
+    match read_row(layout, kept, line) {
+        Ok(bits) => Ok(bits),
+        Err(_) => Err(row_fault(number, line)),
+    }
 }

@@ -1,17 +1,15 @@
-//! The survey of a trace: a checker for each stream, which is shown the rows in their order.
+//! What a survey keeps of a trace: a checker for each stream, and the first offence.
 
-ghost use Rattle.std.specs.Prelude.{◌≡◌, ◌<◌, ◌≤◌, [], ◌+◌, length, map, slice_get, IfOk, MatchOption, Result, Some, None, Ok, Err};
+ghost use Rattle.std.specs.Prelude.{◌≡◌, ◌<◌, ◌≤◌, [], ◌+◌, length, map, slice_get, IfOk, MatchOption, Result, Option, Some, None, Ok, Err, IfSome, if◌then◌else◌, ◌==◌};
 ghost use Rattle.physical_stream.specs.First.{Offends, IsFirst};
 ghost use Rattle.cycle_trace.specs.Survey.{Answers, counts_of, first_unfinished};
 ghost use Rattle.cycle_trace.specs.declared.counts.Counts.{Counts};
 ghost use Rattle.cycle_trace.specs.declared.counts.SurveyFault.{SurveyFault};
 ghost use Rattle.cycle_trace.specs.declared.counts.SurveyFault.TheVariants as faults;
-ghost use Rattle.cycle_trace.specs.Surveying.{AreAt, HaveCheckers, NoneBefore, RowSays, RowsSay};
-ghost use Rattle.cycle_trace.specs.Trace.{IsTrace, TraceText, streams_of};
-ghost use Rattle.cycle_trace.specs.TraceView.{trace_view};
+ghost use Rattle.cycle_trace.specs.Surveying.{AreChecked, HaveCheckers, RowsSay};
+ghost use Rattle.cycle_trace.specs.Trace.{TraceText, streams_of};
 
 use crate::counts::{Counts, SurveyFault};
-use crate::trace::Trace;
 use complexity_rules::Checker;
 use physical_stream::{End, Head, Rule};
 use std::alloc::Global;
@@ -38,26 +36,6 @@ impl Found {
     }
 }
 
-/// What each stream of a trace has done by rules 1 to 10, where the trace has no offence and each stream ends whole; else the
-/// first offence, or the first stream that does not end whole.
-pub fn survey(alloc: Global, trace: &Trace) -> Result<Counts, SurveyFault>
-    ensures { Answers (streams_of (trace_view trace.now)) result }
-{
-    let mut checkers = checkers_of(alloc, trace.header().heads.as_slice())?;
-    survey_by(alloc, checkers.as_mut_slice(), trace)
-}
-
-/// The survey of a trace by checkers that have seen no row of it.
-fn survey_by(alloc: Global, checkers: &mut [Checker], trace: &Trace) -> Result<Counts, SurveyFault>
-    requires { AreAt (trace_view trace.now) 0 0 checkers.old }
-    ensures { Answers (streams_of (trace_view trace.now)) result }
-{
-    match first_offence(checkers, trace) {
-        Some(found) => Err(found.fault()),
-        None => count(alloc, checkers),
-    }
-}
-
 /// A checker for each stream, which has seen no row.
 pub(crate) fn checkers_of(alloc: Global, heads: &[Head]) -> Result<Vec<Checker>, Memory>
     ensures { IfOk result (λ checkers. HaveCheckers heads.now (length heads.now) checkers.items) }
@@ -69,52 +47,23 @@ pub(crate) fn checkers_of(alloc: Global, heads: &[Head]) -> Result<Vec<Checker>,
     Ok(checkers)
 }
 
-/// The first offence of a trace, of which the checkers have seen no row.
-fn first_offence(checkers: &mut [Checker], trace: &Trace) -> Option<Found>
-    requires { AreAt (trace_view trace.now) 0 0 checkers.old }
-    ensures { RowsSay (trace_view trace.now) (trace_view trace.now).cycles 0 checkers.new result }
+/// What the rows so far say: the first offence; else the counts, or the first stream that does not end whole.
+pub(crate) fn outcome_of(
+    alloc: Global,
+    found: Option<Found>,
+    checkers: &[Checker],
+) -> Result<Counts, SurveyFault>
+    ensures { (t : TraceText) → RowsSay t checkers.now found → Answers (streams_of t) result }
 {
-    'cycles: for cycle in 0..trace.header().cycles {
-        if let Some(found) = offence_in(checkers, trace, cycle) {
-            return Some(found);
-        }
+    match found {
+        Some(found) => Err(found.fault()),
+        None => count(alloc, checkers),
     }
-    None
 }
 
-/// The first offence in a cycle, where there is none before it.
-fn offence_in(checkers: &mut [Checker], trace: &Trace, cycle: u32) -> Option<Found>
-    requires cycle_in { cycle < (trace_view trace.now).cycles }
-    requires at { AreAt (trace_view trace.now) cycle 0 checkers.old }
-    requires before { NoneBefore (trace_view trace.now) cycle 0 }
-    ensures { RowsSay (trace_view trace.now) (cycle + 1) 0 checkers.new result }
-{
-    'streams: for stream in 0..checkers.len() {
-        if let Some(rule) = broken_by(checkers, trace, cycle, stream) {
-            return Some(Found {
-                cycle,
-                stream,
-                rule,
-            });
-        }
-    }
-    None
-}
-
-/// The lowest rule that the row of a stream in a cycle breaks.
-fn broken_by(checkers: &mut [Checker], trace: &Trace, cycle: u32, stream: usize) -> Option<Rule>
-    requires cycle_in { cycle < (trace_view trace.now).cycles }
-    requires stream_in { stream < length checkers.old }
-    requires at { AreAt (trace_view trace.now) cycle stream checkers.old }
-    ensures says { RowSays (trace_view trace.now) cycle stream checkers.new result }
-{
-    checkers[stream].step(trace.row(cycle, stream))
-}
-
-/// The counts of all streams, or the first one that does not end whole, where the checkers have seen all rows of a trace
-/// without offence.
-pub(crate) fn count(alloc: Global, checkers: &[Checker]) -> Result<Counts, SurveyFault>
-    ensures { (t : TraceText) → IsTrace t → AreAt t t.cycles 0 checkers.now → NoneBefore t t.cycles 0 → Answers (streams_of t) result }
+/// The counts of all streams, or the first one that does not end whole, where no row breaks a rule.
+fn count(alloc: Global, checkers: &[Checker]) -> Result<Counts, SurveyFault>
+    ensures { (t : TraceText) → AreChecked t checkers.now → IsFirst (Offends (streams_of t)) None → Answers (streams_of t) result }
 {
     if let Some(fault) = unfinished(checkers) {
         return Err(fault);
@@ -122,9 +71,9 @@ pub(crate) fn count(alloc: Global, checkers: &[Checker]) -> Result<Counts, Surve
     Ok(counts_of(alloc, checkers)?)
 }
 
-/// That a stream does not end whole, and which the first one is, where the checkers have seen all rows.
+/// That a stream does not end whole, and which the first one is.
 fn unfinished(checkers: &[Checker]) -> Option<SurveyFault>
-    ensures { (t : TraceText) → AreAt t t.cycles 0 checkers.now → (found : Result Counts SurveyFault) → MatchOption result
+    ensures { (t : TraceText) → AreChecked t checkers.now → (found : Result Counts SurveyFault) → MatchOption result
         (first_unfinished 0 (streams_of t) found ≡ found)
         (λ fault. first_unfinished 0 (streams_of t) found ≡ Err fault) }
 {
@@ -137,9 +86,9 @@ fn unfinished(checkers: &[Checker]) -> Option<SurveyFault>
     None
 }
 
-/// The transfers and the packets that each stream has done, where the checkers have seen all rows.
+/// The transfers and the packets that each stream has done.
 fn counts_of(alloc: Global, checkers: &[Checker]) -> Result<Counts, Memory>
-    ensures { IfOk result (λ counts. (t : TraceText) → AreAt t t.cycles 0 checkers.now → counts ≡ counts_of (streams_of t)) }
+    ensures { IfOk result (λ counts. (t : TraceText) → AreChecked t checkers.now → counts ≡ counts_of (streams_of t)) }
 {
     let mut streams = List::new(alloc);
     'checkers: for checker in checkers {

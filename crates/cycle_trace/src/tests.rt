@@ -1,137 +1,147 @@
+ghost use Rattle.std.specs.Prelude.{◌<◌, ◌≤◌, length};
+
 use super::*;
-use physical_stream::Transfer;
+use physical_stream::{End, Rule};
 use std::alloc::Global;
 use std::test::Fail;
 
-// Two cycles of two streams, the second of which has no payload.
-const TWO_STREAMS: &str =
-    "tydi-trace 1\ncycles 2\nstream a lanes 2 dims 1 level 8 element 4 user 0 forward\nstream b.c lanes 1 dims 0 level 1 element 0 user 0 reverse\n1 0 d=a5 l=2 s=0 e=1 b=3\n0 1 -\n0 1 -\n1 1 -\n";
-
+/// A text, and what a survey of it finds, by hand: the counts of the last stream, or the fault.
 struct Case {
+    text: &'static str,
+    found: Result<(u64, u64), SurveyFault>,
+}
+
+/// A text, and its first fault, by hand.
+struct Faulty {
     text: &'static str,
     fault: TraceFault,
 }
 
-// Texts, and the first fault of each, by hand.
-const CASES: [Case; 14] = [
-    Case {
-        text: "tydi-trace 2\ncycles 1\n",
-        fault: TraceFault::BadHeader(1),
-    },
-    Case {
-        text: "tydi-trace 1",
-        fault: TraceFault::BadHeader(1),
-    },
-    Case {
+const FAULTY: [Faulty; 8] = [
+    Faulty {
         text: "tydi-trace 1\ncycles 02\n",
         fault: TraceFault::BadHeader(2),
     },
-    Case {
-        text: "tydi-trace 1\ncycles 1\nstream a lanes 0 dims 0 level 1 element 4 user 0 forward\n",
-        fault: TraceFault::BadHeader(3),
-    },
-    Case {
-        text: "tydi-trace 1\ncycles 1\nstream a lanes 1 dims 0 level 1 element 4 user 0 forward\nstream a lanes 2 dims 0 level 1 element 4 user 0 forward\n",
-        fault: TraceFault::BadHeader(4),
-    },
-    Case {
+    Faulty {
         text: "tydi-trace 1\ncycles 1000001\nstream a",
         fault: TraceFault::BadHeader(3),
     },
-    Case {
+    Faulty {
         text: "tydi-trace 1\ncycles 1000001\nstream a lanes 1 dims 0 level 1 element 4 user 0 forward\n1 1 d=g\n",
         fault: TraceFault::TooManyCycles,
     },
-    Case {
-        text: "tydi-trace 1\ncycles 1\nstream a lanes 1 dims 0 level 1 element 4 user 0 forward\n1 1 d=g\n",
-        fault: TraceFault::BadRow(4),
-    },
-    Case {
+    Faulty {
         text: "tydi-trace 1\ncycles 2\nstream a lanes 1 dims 0 level 1 element 4 user 0 forward\n1 1 d=f\n0 1 -",
         fault: TraceFault::BadRow(5),
     },
-    Case {
-        text: "tydi-trace 1\ncycles 1\nstream a lanes 1 dims 0 level 1 element 4 user 0 forward\n1 1 s=00 d=f\n",
-        fault: TraceFault::BadRow(4),
-    },
-    Case {
-        text: "tydi-trace 1\ncycles 1\nstream a lanes 1 dims 0 level 1 element 4 user 0 forward\n1 1 d=f l=1\n",
+    Faulty {
+        text: "tydi-trace 1\ncycles 1\nstream a lanes 2 dims 0 level 6 element 4 user 0 forward\n1 1 d=ff s=0\n",
         fault: TraceFault::WrongSignals(4),
     },
-    Case {
-        text: "tydi-trace 1\ncycles 1\nstream a lanes 1 dims 0 level 1 element 4 user 0 forward\n1 1 d=0f\n",
+    Faulty {
+        text: "tydi-trace 1\ncycles 1\nstream a lanes 2 dims 0 level 6 element 4 user 0 forward\n1 1 d=ff e=1\n",
         fault: TraceFault::WrongSignals(4),
     },
-    Case {
-        text: "tydi-trace 1\ncycles 2\nstream a lanes 1 dims 0 level 1 element 4 user 0 forward\n1 1 d=f\n",
-        fault: TraceFault::RowsMissing { want: 2, got: 1 },
+    Faulty {
+        text: "tydi-trace 1\ncycles 1000000\nstream a lanes 1 dims 0 level 1 element 4 user 0 forward\n1 1 d=f\n",
+        fault: TraceFault::RowsMissing {
+            want: 1_000_000,
+            got: 1,
+        },
     },
-    Case {
+    Faulty {
         text: "tydi-trace 1\ncycles 1\nstream a lanes 1 dims 0 level 1 element 4 user 0 forward\n1 1 d=f\n0 1 -\n",
         fault: TraceFault::RowsLeft(5),
     },
 ];
 
-// The fault of a short text.
-fn fault_of(alloc: Global, text: &str) -> Option<TraceFault> {
-    if text.len() > 1000 {
-        return None;
+const CASES: [Case; 4] = [
+    Case {
+        text: "tydi-trace 1\ncycles 2\nstream a lanes 1 dims 0 level 1 element 4 user 0 forward\n1 1 d=f\n1 1 d=0\n",
+        found: Ok((2, 2)),
+    },
+    Case {
+        text: "tydi-trace 1\ncycles 0\nstream a lanes 1 dims 0 level 1 element 4 user 0 forward\n",
+        found: Ok((0, 0)),
+    },
+    Case {
+        text: "tydi-trace 1\ncycles 2\nstream a lanes 1 dims 0 level 1 element 4 user 0 forward\nstream b lanes 1 dims 1 level 1 element 4 user 0 forward\n0 1 -\n1 1 d=f l=0 b=1\n0 1 -\n0 1 -\n",
+        found: Err(SurveyFault::Offence {
+            cycle: 1,
+            stream: 1,
+            rule: Rule::InnerPause,
+        }),
+    },
+    Case {
+        text: "tydi-trace 1\ncycles 1\nstream a lanes 1 dims 0 level 1 element 4 user 0 forward\nstream b lanes 128 dims 1 level 1 element 0 user 0 forward\n1 1 d=f\n1 1 l=00000000000000000000000000000000 e=127 b=ffffffffffffffffffffffffffffffff\n",
+        found: Err(SurveyFault::Unfinished {
+            stream: 1,
+            end: End::Unclosed(0),
+        }),
+    },
+];
+
+const SIZES: [usize; 5] = [1, 2, 3, 7, 1000];
+
+/// The survey of a text that comes in pieces of this size.
+fn surveyed(alloc: Global, text: &[u8], size: usize) -> Result<Surveyed, TraceFault>
+    requires { 0 < size }
+{
+    let mut reader = TraceReader::new(alloc, Surveyor::new())?;
+    'pieces: for piece in text.chunks(size) {
+        reader.feed(alloc, piece)?;
     }
-    read(alloc, text.as_bytes()).err()
+    Ok(reader.finish(alloc)?.surveyed(alloc))
 }
 
-// The trace of a short text.
-fn trace_of(alloc: Global, text: &str) -> Option<Trace> {
-    if text.len() > 1000 {
-        return None;
+/// The counts of the last stream, or the fault.
+fn last_of(found: Result<Counts, SurveyFault>) -> Option<Result<(u64, u64), SurveyFault>> {
+    match found {
+        Ok(counts) => Some(Ok(*counts.streams.as_slice().last()?)),
+        Err(fault) => Some(Err(fault)),
     }
-    read(alloc, text.as_bytes()).ok()
 }
 
-// Whether a transfer is that of the first row of the two streams.
-fn is_first(shown: &Transfer) -> bool {
-    shown.content.number() == Some(0xa5)
-        && shown.last.number() == Some(2)
-        && (shown.stai, shown.endi, shown.strb) == (0, 1, 3)
+fn fault_of(alloc: Global, text: &str, size: usize) -> Option<TraceFault>
+    requires { 0 < size }
+{
+    surveyed(alloc, text.as_bytes(), size).err()
 }
 
-// Whether a transfer is one of the stream without payload.
-fn is_bare(shown: &Transfer) -> bool {
-    shown.content.len() == 0 && (shown.stai, shown.endi, shown.strb) == (0, 0, 1)
+fn found_in(alloc: Global, text: &str, size: usize) -> Option<Result<(u64, u64), SurveyFault>>
+    requires { 0 < size }
+{
+    last_of(surveyed(alloc, text.as_bytes(), size).ok()?.found)
 }
 
-// Whether the row of the first stream in the first cycle shows the first transfer, and no sink is ready.
-fn begins_well(trace: &Trace) -> bool {
-    let header = trace.header();
-    if header.cycles != 2 || header.heads.len() != 2 {
-        return false;
-    }
-    let row = trace.row(0, 0);
-    !row.ready && row.shown.is_some_and(is_first)
-}
-
-// Whether the row of the second stream in the last cycle shows a transfer without payload, and its sink is ready.
-fn ends_well(trace: &Trace) -> bool {
-    let header = trace.header();
-    if header.cycles != 2 || header.heads.len() != 2 {
-        return false;
-    }
-    let row = trace.row(1, 1);
-    row.ready && row.shown.is_some_and(is_bare) && trace.row(1, 0).shown.is_none()
+fn found_of_trace(alloc: Global, text: &str) -> Option<Result<(u64, u64), SurveyFault>> {
+    let trace = read(alloc, text.as_bytes()).ok()?;
+    last_of(survey(alloc, &trace))
 }
 
 #[test]
-fn two_streams_are_read(rt: HostRuntime) -> Result<(), Fail> {
-    let trace = trace_of(rt.alloc(), TWO_STREAMS).ok_or("a trace")?;
-    assert!(rt; begins_well(&trace));
-    assert!(rt; ends_well(&trace));
+fn a_text_in_pieces_has_one_fault(rt: HostRuntime) -> Result<(), Fail> {
+    for case in &FAULTY {
+        for size in SIZES {
+            assert!(rt; size > 0);
+            assert_eq!(rt; fault_of(rt.alloc(), case.text, size), Some(case.fault));
+        }
+        assert_eq!(rt;
+            read(rt.alloc(), case.text.as_bytes()).err(),
+            Some(case.fault)
+        );
+    }
     Ok(())
 }
 
 #[test]
-fn the_first_fault_is_told_with_its_line(rt: HostRuntime) -> Result<(), Fail> {
+fn a_text_in_pieces_is_surveyed(rt: HostRuntime) -> Result<(), Fail> {
     for case in &CASES {
-        assert_eq!(rt; fault_of(rt.alloc(), case.text), Some(case.fault));
+        for size in SIZES {
+            assert!(rt; size > 0);
+            assert!(rt; found_in(rt.alloc(), case.text, size) == Some(case.found));
+        }
+        assert!(rt; found_of_trace(rt.alloc(), case.text) == Some(case.found));
     }
     Ok(())
 }

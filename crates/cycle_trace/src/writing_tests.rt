@@ -63,7 +63,7 @@ fn write_two_heads(
 }
 
 fn word_of(alloc: Global, width: usize, digits: &str) -> Result<Bits, Memory> {
-    match Bits::from_hexadecimal(alloc, width, digits.as_bytes())? {
+    match Bits::from_exact_hex(alloc, width, digits.as_bytes())? {
         Some(word) => Ok(word),
         None => Err(Memory),
     }

@@ -8,6 +8,7 @@ use crate::params::Params;
 use crate::transfer::Transfer;
 
 /// Whether a lane is active: its strobe bit is 1, and it lies between stai and endi.
+#[inline(always)]
 pub fn is_active(transfer: &Transfer, lane: u16) -> bool
     requires { lane < 128 }
     ensures { result ≡ is_active transfer.now lane }
@@ -16,6 +17,7 @@ pub fn is_active(transfer: &Transfer, lane: u16) -> bool
 }
 
 /// Whether a lane marks the end of a sequence of this dimension.
+#[inline(always)]
 pub fn is_last(p: &Params, transfer: &Transfer, lane: u16, dim: u8) -> bool
     requires fits { Fits p.now transfer.now }
     requires within { lane < p.now.lanes }

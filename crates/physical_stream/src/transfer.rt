@@ -5,7 +5,7 @@ ghost use Rattle.tydi_base.specs.Bits.{zero_bits};
 use crate::params::Params;
 use crate::width::{is_index, is_strobe};
 use std::alloc::Global;
-use tydi_base::{Bits, Memory};
+use tydi_base::{Bits, Memory, TryClone};
 
 /// The payload of one transfer: every signal of a stream but valid and ready (Tydi specification, physical streams).
 /// A signal that the stream lacks stands at its default.
@@ -77,5 +77,18 @@ impl Transfer {
         ensures { IsTrue result ↔ (self.now ≡ other.now) }
     {
         self == other
+    }
+}
+
+impl TryClone for Transfer {
+    fn try_clone(&self, alloc: Global) -> Result<Transfer, Memory> {
+        Ok(Transfer {
+            content: self.content.try_clone(alloc)?,
+            last: self.last.try_clone(alloc)?,
+            stai: self.stai,
+            endi: self.endi,
+            strb: self.strb,
+            user: self.user.try_clone(alloc)?,
+        })
     }
 }

@@ -1,39 +1,37 @@
 -- No text spells two trees.
-use Rattle.std.proofs.Common.{◌≡◌, ℕ, suc, max, List, [], ◌∷◌, All, sym, ap, ◌∙◌, subst, arith}
+use Rattle.std.proofs.Common.{◌≡◌, ℕ, max, List, [], ◌∷◌, All, sym, ◌∙◌, subst, arith}
 use Rattle.std.proofs.lemmas.List.Elements.{All-nil, All-cons, All-head, All-tail}
 use Rattle.til_lexer.proofs.FormLemmas.{tokens-have_form}
-use Rattle.til_lexer.specs.Spelling.{HasForm}
 use Rattle.til_lexer.specs.declared.token.Token.{Token}
 use Rattle.til_parser.specs.declared.tree.Ast.{Ast}
 use Rattle.til_parser.specs.Grammar.{Spells}
 use Rattle.til_parser.specs.Laws.{TreesAreApart}
-use Rattle.til_parser.specs.Lexemes.{Lexeme, HasFormIn, lexeme_of, lexemes_from, lexemes_of}
+use Rattle.til_parser.specs.Lexemes.{Lexeme, HasFormIn, IsFormed, lexeme_of, lexemes_of}
 use Rattle.til_parser.proofs.LevelLemmas.{IsWithin-more, IsWithin-some}
 use Rattle.til_parser.proofs.ParseLemmas.{project_complete}
-use Rattle.til_parser.proofs.ReaderLemmas.{same_ok}
-use Rattle.til_parser.proofs.Readers.{AreFormed}
+use Rattle.tydi_reading.specs.Reading.{Outcome, took}
 
 -- tokens of a text with their form are lexemes with their form
-pub AreFormed-lexemes : (number : ℕ) (text : List ℕ) (tokens : List Token) → All (HasFormIn text) tokens → AreFormed (lexemes_from number text tokens)
-AreFormed-lexemes number text [] formed = All-nil (λ (lexeme : Lexeme). HasForm lexeme.kind lexeme.spelling)
-AreFormed-lexemes number text (token ∷ tokens) formed =
-    All-cons (λ (lexeme : Lexeme). HasForm lexeme.kind lexeme.spelling) (lexeme_of number text token) (lexemes_from (suc number) text tokens)
+pub AreFormed-lexemes : (text : List ℕ) (tokens : List Token) → All (HasFormIn text) tokens → All IsFormed (lexemes_of text tokens)
+AreFormed-lexemes text [] formed = All-nil IsFormed
+AreFormed-lexemes text (token ∷ tokens) formed =
+    All-cons IsFormed (lexeme_of text token) (lexemes_of text tokens)
     (All-head (HasFormIn text) token tokens formed)
-    (AreFormed-lexemes (suc number) text tokens (All-tail (HasFormIn text) token tokens formed))
+    (AreFormed-lexemes text tokens (All-tail (HasFormIn text) token tokens formed))
 
 -- tokens with their form spell one tree at most
-spelled_apart : (ts : List Lexeme) (one other : Ast) → AreFormed ts → Spells one ts → Spells other ts → one ≡ other
+spelled_apart : (ts : List Lexeme) (one other : Ast) → All IsFormed ts → Spells one ts → Spells other ts → one ≡ other
 spelled_apart ts one other formed s s' =
     let w = IsWithin-some one in
     let w' = IsWithin-some other in
     let levels = max w.0 w'.0 in
     let read = project_complete levels ts one formed (IsWithin-more w.0 levels one (omega arith) w.1) s in
     let read' = project_complete levels ts other formed (IsWithin-more w'.0 levels other (omega arith) w'.1) s' in
-    ap (λ r. r.0) (same_ok _ (one, []) (other, []) (sym read ∙ read'))
+    let same : ◌≡◌ {A = Outcome Lexeme Ast} (took one []) (took other []) = sym read ∙ read' in cc
 
 pub trees_apart : TreesAreApart
 trees_apart text one other s s' =
-    let tokens_are : s'.tokens ≡ s.tokens = same_ok _ s'.tokens s.tokens (sym s'.lexed ∙ s.lexed) in
-    let formed = AreFormed-lexemes 0 text s.tokens (tokens-have_form text s.tokens s.utf8 s.lexed) in
+    let tokens_are : s'.tokens ≡ s.tokens = (let same = sym s'.lexed ∙ s.lexed in cc) in
+    let formed = AreFormed-lexemes text s.tokens (tokens-have_form text s.tokens s.utf8 s.lexed) in
     spelled_apart (lexemes_of text s.tokens) one other formed s.spelled
     (subst (λ tokens. Spells other (lexemes_of text tokens)) tokens_are s'.spelled)

@@ -1,5 +1,5 @@
 -- The tokens that are left.
-use Rattle.std.proofs.Common.{◌≡◌, ◌==◌, ◌+◌, ◌-◌, ◌<◌, ◌≤◌, ◌⊎◌, inl, inr, ℕ, true, List, [], ◌∷◌, length, get_or, slice_index_or, All}
+use Rattle.std.proofs.Common.{◌≡◌, ◌==◌, ◌+◌, ◌-◌, ◌<◌, ◌≤◌, ◌⊎◌, inl, inr, ℕ, suc, true, false, List, [], ◌∷◌, length, get_or, slice_index_or, All}
 use Rattle.std.proofs.Common.{length-append, refl, sym, ap, ◌∙◌, subst, rules, arith}
 use Rattle.std.proofs.Math.Seq.{get_or-append_seam}
 use Rattle.std.proofs.lemmas.Str.{IsCharBoundary-after_ascii, IsCharBoundary-before_ascii}
@@ -10,20 +10,27 @@ use Rattle.til_lexer.specs.declared.token.TokenKind.TheVariants as kinds
 use Rattle.til_lexer.specs.contracts.token.TokenKind.{the_type}
 use Rattle.til_lexer.specs.declared.token.Token.{Token}
 use Rattle.til_lexer.specs.declared.token.TokenKind.{TokenKind}
-use Rattle.til_parser.specs.declared.fault.ParseFault.TheVariants as faults
-use Rattle.til_parser.specs.Lexemes.{HasFormIn, lexemes_from}
-use Rattle.til_parser.specs.Reading.{at_end, refusal, same_kind}
+use Rattle.til_parser.specs.Lexemes.{Lexeme, HasFormIn, lexeme_of, lexemes_of}
+use Rattle.til_parser.specs.Reading.{same_kind, begins_type}
+use Rattle.std.proofs.Common.{cond}
+use Rattle.std.proofs.lemmas.List.Elements.{All-head}
+use Rattle.tydi_reading.specs.declared.fault.Fault.TheVariants as reading
+use Rattle.tydi_reading.specs.Reading.{Outcome, stopped, too_deep, tells}
+use Rattle.til_parser.specs.declared.ltype.AstType.{AstType}
+
+-- as many are left as there are
+pub length-lexemes : (text : List ℕ) (tokens : List Token) → length (lexemes_of text tokens) ≡ length tokens
+length-lexemes text [] = refl
+length-lexemes text (token ∷ tokens) = ap suc (length-lexemes text tokens)
 
 -- none is left exactly where there are none
-pub at_end-lexemes : (number : ℕ) (text : List ℕ) (tokens : List Token) → at_end (lexemes_from number text tokens) ≡ (length tokens == 0)
-at_end-lexemes number text [] = refl
-at_end-lexemes number text (token ∷ tokens) = search rules
+pub at_end-lexemes : (text : List ℕ) (tokens : List Token) → tells (λ _. false) true (lexemes_of text tokens) ≡ (length tokens == 0)
+at_end-lexemes text [] = refl
+at_end-lexemes text (token ∷ tokens) = search rules
 
--- where one is left, it is refused by its number
-pub refusal-lexemes : (number : ℕ) (text : List ℕ) (tokens : List Token) → 1 ≤ length tokens
-    → refusal (lexemes_from number text tokens) ≡ faults.Unexpected number
-refusal-lexemes number text [] some = absurd (omega arith)
-refusal-lexemes number text (token ∷ tokens) some = refl
+word_kind : (kind : TokenKind) → same_kind kind kinds.Word ≡ true → kind ≡ kinds.Word
+unfolding same_kind
+word_kind kind same = same_true the_type tt kind kinds.Word same
 
 -- a token of this kind has its form
 pub HasForm-first : (text : List ℕ) (tokens : List Token) (token : Token) (kind : TokenKind) (spelling : List ℕ) → All (HasFormIn text) tokens
@@ -34,6 +41,20 @@ HasForm-first text tokens token kind spelling formed some same is =
     let kinds_are : (slice_index_or tokens 0 token).kind ≡ kind = same_true the_type (search rules) _ _ same in
     let own = formed 0 token (omega arith) in
     subst (HasForm kind) (sym is) (subst (λ (k : TokenKind). HasForm k (own_text text (slice_index_or tokens 0 token))) kinds_are own)
+
+-- a word, which has its form, begins a type
+pub TooDeep-first : (text : List ℕ) (tokens : List Token) (token : Token) → All (HasFormIn text) tokens → 1 ≤ length tokens
+    → same_kind (slice_index_or tokens 0 token).kind kinds.Word ≡ true
+    → ◌≡◌ {A = Outcome Lexeme AstType} (too_deep begins_type (lexemes_of text tokens)) (stopped reading.TooDeep (lexemes_of text tokens))
+TooDeep-first text [] token formed some same = absurd (omega arith)
+TooDeep-first text (t ∷ tokens) token formed some same =
+    let is : t.kind ≡ kinds.Word = kind_of t.kind same in
+    let form = subst (λ kind. HasForm kind (own_text text t)) is (All-head (HasFormIn text) t tokens formed) in
+    let test : begins_type (lexeme_of text t) ≡ true = rw (same) form in
+    ap (λ b. stopped (cond b reading.TooDeep reading.Refused) (lexemes_of text (t ∷ tokens))) test
+  where
+    kind_of : (kind : TokenKind) → same_kind kind kinds.Word ≡ true → kind ≡ kinds.Word
+    kind_of kind same = word_kind kind same
 
 -- ---- what stands between two marks
 

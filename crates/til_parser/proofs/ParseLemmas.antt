@@ -1,128 +1,98 @@
--- The reader of projects against the grammar.
-use Rattle.std.proofs.Common.{◌≡◌, ℕ, ◌<◌, Bool, true, false, inr, List, [], ◌∷◌, ◌++◌, length, Ok, refl, sym, ap, ◌∙◌, subst, arith, true≢false}
-use Rattle.std.proofs.lemmas.List.{append-nil}
+-- The reader of projects: what it reads, and why it stops.
+use Rattle.std.proofs.Common.{◌≡◌, ◌≢◌, ℕ, ◌-◌, ◌≤◌, ⊎_elim, true, false, List, [], ◌∷◌, ◌++◌, All, length, refl, sym, ap, ◌∙◌, subst, arith}
+use Rattle.std.proofs.lemmas.List.{append-nil, length-append}
+use Rattle.tydi_reading.specs.declared.fault.Fault.{Fault}
+use Rattle.tydi_reading.specs.declared.fault.Fault.TheVariants as reading
+use Rattle.tydi_reading.specs.Lists.{repeated}
+use Rattle.tydi_reading.specs.Reading.{Outcome, took, stopped, and_then, meant}
+use Rattle.tydi_reading.proofs.ExactLemmas.{refused-exact, cut_off-exact, too_deep-exact, memory-never}
+use Rattle.tydi_reading.proofs.LoopLemmas.{repeated-all}
+use Rattle.til_parser.specs.declared.fault.ParseFault.{ParseFault}
+use Rattle.til_parser.specs.declared.fault.ParseFault.TheVariants as faults
 use Rattle.til_parser.specs.declared.tree.Ast.{Ast}
 use Rattle.til_parser.specs.declared.tree.AstNamespace.{AstNamespace}
-use Rattle.til_parser.specs.Grammar.{Each, SpellsNamespace, Spells, NamespacesWithin, IsWithin}
-use Rattle.til_parser.specs.Lexemes.{Lexeme}
-use Rattle.til_parser.specs.ReadDecls.{namespace, project_turn, project}
-use Rattle.til_parser.specs.Reading.{Outcome, pure, at_end, Turn, again, done, loop}
-use Rattle.til_parser.proofs.Readers.{AreFormed, Anything}
-use Rattle.til_parser.proofs.ReaderLemmas.{same_ok, bind_ok, join, onto, first_as, IsSound, bind_sound, pure_sound, map_sound, if_sound}
-use Rattle.til_parser.proofs.ReaderLemmas.{Takes, then_takes, map_takes, takes_as, takes_else}
-use Rattle.til_parser.proofs.TurnLemmas.{TurnTo, loop_sound, loop_ends, Grows, grows_again, grows_done, filled_left, TurnsAt, goes_on, loop_takes}
-use Rattle.til_parser.proofs.DeclLemmas.{NamespaceWithin, namespace_sound, namespace_takes, namespace_filled}
+use Rattle.til_parser.specs.Faults.{NamesToken, fault_at, IsFaultOf}
+use Rattle.til_parser.specs.Grammar.{Spells, IsWithin}
+use Rattle.til_parser.specs.Lexemes.{Lexeme, IsFormed}
+use Rattle.til_parser.specs.ReadDecls.{namespace, project_of, project}
+use Rattle.til_parser.proofs.ProjectRules.{ProjectTo, AtEnd, project-rule}
 
--- ---- what is read is spelled so
+took-both : {A : Type 0} (x y : A) (ts rest : List Lexeme) → ◌≡◌ {A = Outcome Lexeme A} (took x ts) (took y rest) → (x ≡ y) × (ts ≡ rest)
+took-both x y ts rest is = (cc, cc)
 
-namespaces_parts : (levels : ℕ) (all : List AstNamespace) (ts : List Lexeme)
-    → Each (NamespaceWithin levels) all ts → Each SpellsNamespace all ts × NamespacesWithin levels all
-namespaces_parts levels [] ts s = (s, tt)
-namespaces_parts levels (x ∷ all) ts s =
-    let more = namespaces_parts levels all s.back s.ends in
-    (record { front = s.front; back = s.back; all = s.all; begins = s.begins.0; ends = more.0 }, (s.begins.1, more.1))
+-- ---- what is read
 
--- namespaces are spelled, one at least, and their types nest within so many levels
-record ProjectWithin (levels : ℕ) (ast : Ast) (ts : List Lexeme) : Type 0 where
-  some : 0 < length ast.namespaces
-  each : Each (NamespaceWithin levels) ast.namespaces ts
+made_ends : (made : Outcome Lexeme (List AstNamespace)) (ast : Ast) (rest : List Lexeme) → ((all : List AstNamespace) (middle : List Lexeme) → made ≡ took all middle → middle ≡ [])
+    → and_then made (λ all. λ us. meant (project_of all) us us) ≡ took ast rest → rest ≡ []
+made_ends (stopped e middle) ast rest none is = absurd cc
+made_ends (took [] middle) ast rest none is = absurd cc
+made_ends (took (x ∷ all) middle) ast rest none is = sym (took-both (record { namespaces = x ∷ all }) ast middle rest is).1 ∙ none (x ∷ all) middle refl
 
-project_turn_sound : (levels : ℕ) (found : List AstNamespace)
-    → IsSound (project_turn levels found) (TurnTo (Grows (Each (NamespaceWithin levels))) found)
-unfolding project_turn
-project_turn_sound levels found =
-    if_sound at_end
-    (pure_sound (done found) (grows_done (Each (NamespaceWithin levels)) found [] refl))
-    (map_sound (λ x. again (found ++ x ∷ [])) (namespace_sound levels)
-    (λ x front s. grows_again (Each (NamespaceWithin levels)) found x front (λ items back spelled. join front back s spelled)))
-
-project_within : (levels : ℕ) → IsSound (project levels) (ProjectWithin levels)
+project-ends : (n : ℕ) (ts rest : List Lexeme) (ast : Ast) → project n ts ≡ took ast rest → rest ≡ []
 unfolding project
-project_within levels = bind_sound (namespace_sound levels) (λ first. map_sound (λ all. record { namespaces = all })
-    (loop_sound (project_turn levels) (Grows (Each (NamespaceWithin levels))) (project_turn_sound levels) (first ∷ []))
-    (λ all back grows front s. subst (λ (l : List AstNamespace). ProjectWithin levels (record { namespaces = l }) (front ++ back)) (sym grows.added)
-    (record { some = omega arith; each = join front back s grows.spelled })))
+project-ends n ts rest ast is =
+    made_ends (repeated (λ _. false) true (namespace n) ts) ast rest (λ all middle made. repeated-all (namespace n) all ts middle made) is
 
--- ---- the loop ends where no token is left
+pub project_sound : (n : ℕ) (ts rest : List Lexeme) (ast : Ast) → project n ts ≡ took ast rest → Spells ast ts × IsWithin n ast
+project_sound n ts rest ast is =
+    let found = (project-rule n).sound ts rest ast is in
+    let whole : ts ≡ found.front = found.split ∙ ap (λ r. found.front ++ r) (project-ends n ts rest ast is) ∙ append-nil found.front in
+    (subst (Spells ast) (sym whole) found.spelled, found.within)
 
-not_done : {S : Type 0} (s t : S) (ts rest : List Lexeme) → ◌≡◌ {A = Outcome (Turn S)} (Ok (again s, ts)) (Ok (done t, rest)) → ⊥
-not_done {S} s t ts rest same = true≢false (ap (λ (r : Turn S × List Lexeme). goes r.0) (same_ok _ (again s, ts) (done t, rest) same))
+pub project_complete : (n : ℕ) (ts : List Lexeme) (ast : Ast) → All IsFormed ts → IsWithin n ast → Spells ast ts → project n ts ≡ took ast []
+project_complete n ts ast formed within spells =
+    ap (project n) (sym (append-nil ts)) ∙ ⊎_elim (λ is. is) (λ far. absurd (far.beyond within)) ((project-rule n).complete ts [] ast formed spells refl)
+
+-- ---- why it stops
+
+left-count : (ts rest : List Lexeme) (e : Fault) (n : ℕ) → project n ts ≡ stopped e rest → length rest ≤ length ts
+left-count ts rest e n is = by_fault e is
   where
-    goes : Turn S → Bool
-    goes (again s) = true
-    goes (done s) = false
+    by_fault : (e : Fault) → project n ts ≡ stopped e rest → length rest ≤ length ts
+    by_fault reading.Refused is = let c = (project-rule n).finishes ts rest reading.Refused is in
+        let sum = ap length c.split ∙ length-append c.front rest in omega arith
+    by_fault reading.TooDeep is = let c = (project-rule n).finishes ts rest reading.TooDeep is in
+        let sum = ap length c.split ∙ length-append c.front rest in omega arith
+    by_fault reading.Memory is = absurd ((project-rule n).finishes ts rest reading.Memory is)
 
-project_turn_ends : (levels : ℕ) (found all : List AstNamespace) (ts rest : List Lexeme) → project_turn levels found ts ≡ Ok (done all, rest)
-    → rest ≡ []
-unfolding project_turn
-project_turn_ends levels found all [] rest same = sym (ap (λ r. r.1) (same_ok _ (done found, []) (done all, rest) same))
-project_turn_ends levels found all (next ∷ ts) rest same =
-    let parts = bind_ok (namespace levels (next ∷ ts)) (λ x. pure (again (found ++ x ∷ []))) (done all, rest) same in
-    absurd (not_done (found ++ parts.0.0 ∷ []) all parts.0.1 rest parts.2)
+exact_refused : (n : ℕ) (ts rest : List Lexeme) → All IsFormed ts → project n ts ≡ stopped reading.Refused rest → IsFaultOf ts (fault_at reading.Refused (length ts) (length rest))
+exact_refused n ts [] formed is =
+    let cut = cut_off-exact IsFormed (project n) Spells (λ _. AtEnd n) (IsWithin n) (ProjectTo n) (project-rule n) (λ x. refl) ts formed is in
+    record { goes = cut.goes; none = cut.none; shallow = λ j less d. d }
+exact_refused n ts (t ∷ rest) formed is =
+    let most = left-count ts (t ∷ rest) reading.Refused n is in
+    let r = refused-exact IsFormed (project n) Spells (λ _. AtEnd n) (IsWithin n) (ProjectTo n) (project-rule n) (λ x. refl) ts rest t formed is (length ts - length (t ∷ rest)) (omega arith) in
+    record { there = r.there; goes = r.goes; ends = r.ends; shallow = λ j less d. d }
 
-project_ends : (levels : ℕ) (ts rest : List Lexeme) (ast : Ast) → project levels ts ≡ Ok (ast, rest) → rest ≡ []
-unfolding project
-project_ends levels ts rest ast same =
-    let first = bind_ok (namespace levels ts) _ (ast, rest) same in
-    let all = bind_ok (loop (project_turn levels) (first.0.0 ∷ []) first.0.1) _ (ast, rest) first.2 in
-    let left : all.0.1 ≡ [] = loop_ends (λ rest. rest ≡ []) (project_turn levels) (project_turn_ends levels)
-    (first.0.0 ∷ []) all.0.0 first.0.1 all.0.1 all.1 in
-    sym (ap (λ r. r.1) (same_ok _ (record { namespaces = all.0.0 }, all.0.1) (ast, rest) all.2)) ∙ left
+exact : (n : ℕ) (ts rest : List Lexeme) (e : Fault) → All IsFormed ts → project n ts ≡ stopped e rest → IsFaultOf ts (fault_at e (length ts) (length rest))
+exact n ts rest reading.Refused formed is = exact_refused n ts rest formed is
+exact n ts rest reading.TooDeep formed is =
+    let most = left-count ts rest reading.TooDeep n is in
+    let d = too_deep-exact IsFormed (project n) Spells (λ _. AtEnd n) (IsWithin n) (ProjectTo n) (project-rule n) (λ x. refl) ts rest formed is (length ts - length rest) (omega arith) in
+    (d.there, d.goes)
+exact n ts rest reading.Memory formed is = absurd (memory-never IsFormed (project n) Spells (λ _. AtEnd n) (IsWithin n) (ProjectTo n) (project-rule n) (λ x. refl) ts rest is)
 
--- what is read is spelled by all tokens
-pub project_sound : (levels : ℕ) (ts : List Lexeme) (ast : Ast) (rest : List Lexeme) → project levels ts ≡ Ok (ast, rest)
-    → Spells ast ts × IsWithin levels ast × (rest ≡ [])
-project_sound levels ts ast rest same =
-    let none = project_ends levels ts rest ast same in
-    let read = (project_within levels).sound ts rest ast same in
-    let all : ts ≡ read.0 = read.1 ∙ ap (λ l. read.0 ++ l) none ∙ append-nil read.0 in
-    let parts = namespaces_parts levels ast.namespaces ts (subst (Each (NamespaceWithin levels) ast.namespaces) (sym all) read.2.each) in
-    (record { some = read.2.some; each = parts.0 }, parts.1, none)
+pub names-token : (ts : List Lexeme) (fault : ParseFault) → IsFaultOf ts fault → NamesToken (length ts) fault
+names-token ts (faults.Unexpected k) is = is.there
+names-token ts faults.EndOfText is = tt
+names-token ts (faults.TooDeep k) is = is.0
+names-token ts faults.Memory is = tt
 
--- ---- what is spelled is read so
+-- ---- the clauses of `parse`
 
-namespaces_of_parts : (levels : ℕ) (all : List AstNamespace) (ts : List Lexeme)
-    → NamespacesWithin levels all → Each SpellsNamespace all ts → Each (NamespaceWithin levels) all ts
-namespaces_of_parts levels [] ts within s = s
-namespaces_of_parts levels (x ∷ all) ts within s = first_as (λ front p. (p, within.0))
-    (onto (λ back r. namespaces_of_parts levels all back within.1 r) s)
+not_memory : (count left : ℕ) (e : Fault) → fault_at e count left ≢ faults.Memory → e ≢ reading.Memory
+not_memory count left reading.Refused other is = absurd cc
+not_memory count left reading.TooDeep other is = absurd cc
+not_memory count left reading.Memory other is = other refl
 
--- nothing may follow
-abbrev IsEnd : List Lexeme → Type 0
-IsEnd rest = rest ≡ []
+pub said_none : (ts left : List Lexeme) (e : Fault) → All IsFormed ts → (e ≢ reading.Memory → project 64 ts ≡ stopped e left)
+    → fault_at e (length ts) (length left) ≢ faults.Memory → (ast : Ast) → Spells ast ts → IsWithin 64 ast → ⊥
+said_none ts left e formed reads other ast spells within =
+    let no : ◌≡◌ {A = Outcome Lexeme Ast} (took ast []) (stopped e left) =
+    sym (project_complete 64 ts ast formed within spells) ∙ reads (not_memory (length ts) (length left) e other) in cc
 
-project_turn_goes : (levels : ℕ) (found : List AstNamespace) (x : AstNamespace)
-    → Takes (project_turn levels found) (again (found ++ x ∷ [])) (NamespaceWithin levels x) Anything
-unfolding project_turn
-project_turn_goes levels found x =
-    takes_else _ at_end (filled_left (record { filled = λ ts s. (namespace_filled x).filled ts s.0 }))
-    (map_takes (λ z. again (found ++ z ∷ [])) reads)
-  where
-    reads : Takes (namespace levels) x (NamespaceWithin levels x) Anything
-    reads = record { takes = λ front rest formed next s. (namespace_takes levels x s.1).takes front rest formed next s.0 }
-
-project_turns : (levels : ℕ) (found items : List AstNamespace) (front rest : List Lexeme) → AreFormed front → IsEnd rest
-    → Each (NamespaceWithin levels) items front → TurnsAt (project_turn levels) (Each (NamespaceWithin levels)) found items front rest
-unfolding project_turn
-project_turns levels found [] front rest formed none s = rw (s, none, append-nil) refl
-project_turns levels found (x ∷ items) front rest formed none s = inr (goes_on {Next = IsEnd}
-    (project_turn_goes levels found x) (record { leads = λ back rest s none. tt })
-    (record { filled = λ ts s. (namespace_filled x).filled ts s.0 }) front rest formed none s)
-
-project_takes : (levels : ℕ) (first : AstNamespace) (more : List AstNamespace) → NamespacesWithin levels (first ∷ more)
-    → Takes (project levels) (record { namespaces = first ∷ more }) (Each SpellsNamespace (first ∷ more)) IsEnd
-unfolding project
-project_takes levels first more within = takes_as
-    (then_takes _ (namespace_takes levels first within.0)
-    (map_takes (λ all. record { namespaces = all }) (loop_takes (project_turns levels) (first ∷ []) more)))
-    (λ front s. onto (λ back r. namespaces_of_parts levels more back within.1 r) s)
-
--- what all tokens spell is read from them
-pub project_complete : (levels : ℕ) (ts : List Lexeme) (ast : Ast) → AreFormed ts → IsWithin levels ast → Spells ast ts
-    → project levels ts ≡ Ok (ast, [])
-project_complete levels ts ast formed within s = by_namespaces ast.namespaces within s.some s.each
-  where
-    by_namespaces : (all : List AstNamespace) → NamespacesWithin levels all → 0 < length all → Each SpellsNamespace all ts
-        → project levels ts ≡ Ok (record { namespaces = all }, [])
-    by_namespaces [] within some each = absurd (omega arith)
-    by_namespaces (first ∷ more) within some each = rw append-nil at ((project_takes levels first more within).takes ts [] formed refl each)
+pub said_exact : (ts left : List Lexeme) (e : Fault) → All IsFormed ts → (e ≢ reading.Memory → project 64 ts ≡ stopped e left)
+    → IsFaultOf ts (fault_at e (length ts) (length left))
+said_exact ts left reading.Refused formed reads = exact 64 ts left reading.Refused formed (reads (λ is. absurd cc))
+said_exact ts left reading.TooDeep formed reads = exact 64 ts left reading.TooDeep formed (reads (λ is. absurd cc))
+said_exact ts left reading.Memory formed reads = tt

@@ -15,7 +15,9 @@ use Rattle.til_parser.specs.declared.tree.AstPorts.{AstPorts}
 use Rattle.til_parser.specs.declared.tree.AstPorts.TheVariants as ports
 use Rattle.til_parser.specs.Canonical.{body_text, decl_text, doc_line, kind_text, names_text, namespace_text, ports_text, quoted_text, streamlet_text}
 use Rattle.til_parser.specs.Canonical.{type_text}
-use Rattle.til_parser.specs.Grammar.{Form, ◌⋯◌, DeclsWithin, Doc, Each, KindWithin, Name, NamespacesWithin, Of, Path, SpellsDecl, SpellsKind}
+use Rattle.tydi_reading.specs.Forms.{◌⋯◌}
+use Rattle.tydi_reading.specs.Lists.{Each}
+use Rattle.til_parser.specs.Grammar.{Form, DeclsWithin, Doc, KindWithin, Name, NamespacesWithin, Of, Path, SpellsDecl, SpellsKind}
 use Rattle.til_parser.specs.Grammar.{SpellsNamespace, SpellsStreamletPorts, StreamletWithin, Word}
 use Rattle.til_parser.specs.Same.{Alike, SameDecl, SameKind, SameName, SameNames, SameNamespace, SamePorts}
 use Rattle.til_parser.specs.Tree.{plain}

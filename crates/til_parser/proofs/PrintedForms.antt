@@ -7,7 +7,8 @@ use Rattle.til_lexer.specs.Spans.{is_space}
 use Rattle.til_lexer.specs.Spelling.{HasForm, runs_on}
 use Rattle.til_lexer.specs.declared.token.TokenKind.{TokenKind}
 use Rattle.til_lexer.specs.declared.token.TokenKind.TheVariants as kinds
-use Rattle.til_parser.specs.Grammar.{Form, ◌⋯◌, Bracketed, Nothing, Of, One, Word}
+use Rattle.tydi_reading.specs.Forms.{◌⋯◌, Nothing}
+use Rattle.til_parser.specs.Grammar.{Form, Bracketed, Of, One, Word}
 use Rattle.til_parser.specs.Lexemes.{Lexeme}
 
 -- ---- items

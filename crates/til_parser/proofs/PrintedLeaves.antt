@@ -23,7 +23,8 @@ use Rattle.til_lexer.specs.declared.token.TokenKind.{TokenKind}
 use Rattle.til_lexer.specs.declared.token.TokenKind.TheVariants as kinds
 use Rattle.til_parser.specs.declared.tree.AstName.{AstName}
 use Rattle.til_parser.specs.Canonical.{doc_text, names_text, number_text, quoted_text}
-use Rattle.til_parser.specs.Grammar.{Form, ◌⋯◌, Bracketed, Doc, IsMarked, Level, Name, Number, Of, One, Path, Quoted, Whole}
+use Rattle.tydi_reading.specs.Forms.{◌⋯◌}
+use Rattle.til_parser.specs.Grammar.{Form, Bracketed, Doc, IsMarked, Level, Name, Number, Of, One, Path, Quoted, Whole}
 use Rattle.til_parser.specs.Lexemes.{Lexeme, between_marks}
 use Rattle.til_parser.specs.Numbers.{denominator_of, numerator_of}
 use Rattle.til_parser.specs.Same.{SameName, SameNames}

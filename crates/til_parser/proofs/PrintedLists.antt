@@ -4,7 +4,9 @@ use Rattle.std.specs.Prelude.{codes}
 use Rattle.std.specs.List.{flat_map}
 use Rattle.std.proofs.lemmas.List.{append-nil}
 use Rattle.til_lexer.specs.declared.token.TokenKind.TheVariants as kinds
-use Rattle.til_parser.specs.Grammar.{Form, ◌⋯◌, Commas, Each, LastComma, Of}
+use Rattle.tydi_reading.specs.Forms.{◌⋯◌}
+use Rattle.tydi_reading.specs.Lists.{Each}
+use Rattle.til_parser.specs.Grammar.{Form, Commas, LastComma, Of}
 use Rattle.til_parser.specs.Lexemes.{Lexeme}
 use Rattle.til_parser.specs.Same.{Alike}
 use Rattle.til_parser.proofs.PrintedLeaves.{Again, Spelt, first_of, second_of}

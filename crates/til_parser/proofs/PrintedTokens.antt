@@ -17,7 +17,7 @@ use Rattle.til_lexer.proofs.FormBegins.{ascii_utf8, first_of_all, form_begins, f
 use Rattle.til_lexer.proofs.SpelledPieces.{first_of_front}
 use Rattle.til_lexer.proofs.SpelledTokens.{made_of, map-tokens_spelled, spelled_tokens-read}
 use Rattle.til_lexer.proofs.WordLemmas.{all_ascii}
-use Rattle.til_parser.specs.Lexemes.{lexemes_from, lexemes_of}
+use Rattle.til_parser.specs.Lexemes.{lexemes_of}
 use Rattle.til_parser.proofs.PrintedForms.{Fits, Item, blank, token, Matches, Stops, items_text}
 
 -- ---- items as tokens, each with the white space after it
@@ -95,16 +95,16 @@ made_of-shown place (token kind spelling ∷ items) = ap (λ l. (kind, spelling)
 abbrev shown_token : List ℕ → Token → TokenKind × List ℕ
 shown_token text one = (one.kind, own_text text one)
 
-lexemes-match : (number : ℕ) (text : List ℕ) (items : List Item) (tokens : List Token) → map (shown_token text) tokens ≡ shown items
-    → Matches items (lexemes_from number text tokens)
-lexemes-match number text [] [] same = refl
-lexemes-match number text [] (first ∷ tokens) same =
+lexemes-match : (text : List ℕ) (items : List Item) (tokens : List Token) → map (shown_token text) tokens ≡ shown items
+    → Matches items (lexemes_of text tokens)
+lexemes-match text [] [] same = refl
+lexemes-match text [] (first ∷ tokens) same =
     absurd (let size : suc (length (map (shown_token text) tokens)) ≡ 0 = ap length same in omega arith)
-lexemes-match number text (blank gap ∷ items) tokens same = lexemes-match number text items tokens same
-lexemes-match number text (token kind spelling ∷ items) [] same = absurd (let size : 0 ≡ suc (length (shown items)) = ap length same in omega arith)
-lexemes-match number text (token kind spelling ∷ items) (first ∷ tokens) same =
+lexemes-match text (blank gap ∷ items) tokens same = lexemes-match text items tokens same
+lexemes-match text (token kind spelling ∷ items) [] same = absurd (let size : 0 ≡ suc (length (shown items)) = ap length same in omega arith)
+lexemes-match text (token kind spelling ∷ items) (first ∷ tokens) same =
     let head : shown_token text first ≡ (kind, spelling) = ap (λ l. get_or l 0 (kind, spelling)) same in
-    (ap (λ p. p.0) head, ap (λ p. p.1) head, lexemes-match (suc number) text items tokens (ap (drop 1) same))
+    (ap (λ p. p.0) head, ap (λ p. p.1) head, lexemes-match text items tokens (ap (drop 1) same))
 
 -- ---- the text
 
@@ -133,5 +133,5 @@ items_text-lexed items fits first =
       utf8 = items_text-utf8 items fits;
       tokens = tokens;
       lexed = ap tokens_of text ∙ spelled_tokens-read (pieces_of items) (pieces_of-spelled items fits);
-      matches = lexemes-match 0 (items_text items) items tokens (subst (λ l. map (shown_token l) tokens ≡ shown items) (sym text) each);
+      matches = lexemes-match (items_text items) items tokens (subst (λ l. map (shown_token l) tokens ≡ shown items) (sym text) each);
     }

@@ -12,7 +12,8 @@ use Rattle.til_parser.specs.declared.ltype.AstSync.{AstSync}
 use Rattle.til_parser.specs.declared.ltype.AstSync.TheVariants as syncs
 use Rattle.til_parser.specs.declared.tree.AstName.{AstName}
 use Rattle.til_parser.specs.Canonical.{number_text, parts_text, type_text}
-use Rattle.til_parser.specs.Grammar.{Form, ◌⋯◌, Arguments, Bracketed, Name, Of, SpellsParts, SpellsType, Word, direction_word, sync_word, truth_word}
+use Rattle.tydi_reading.specs.Forms.{◌⋯◌}
+use Rattle.til_parser.specs.Grammar.{Form, Arguments, Bracketed, Name, Of, SpellsParts, SpellsType, Word, direction_word, sync_word, truth_word}
 use Rattle.til_parser.specs.Lexemes.{Lexeme}
 use Rattle.til_parser.specs.Same.{SameName, SameParts, SameType}
 use Rattle.til_parser.specs.Tree.{Ltype, null, bits, group, union, stream, path, Parts, no_parts, part, Settings, depth, depth_of_parts}

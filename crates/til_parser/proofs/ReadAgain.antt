@@ -1,5 +1,5 @@
 -- The canonical text of a tree that a text spells, spells that tree again.
-use Rattle.std.proofs.Common.{◌≡◌, ℕ, suc, ◌<◌, false, List, [], ◌∷◌, ◌++◌, length, get_or, Option, Some, None, All, refl, ap, subst, ◌∙◌, arith}
+use Rattle.std.proofs.Common.{◌≡◌, ℕ, ◌<◌, false, List, [], ◌∷◌, ◌++◌, length, get_or, Option, Some, None, All, refl, ap, subst, ◌∙◌, arith}
 use Rattle.std.specs.Prelude.{codes}
 use Rattle.std.specs.List.{flat_map}
 use Rattle.std.proofs.lemmas.List.{append-nil}
@@ -10,9 +10,10 @@ use Rattle.til_lexer.proofs.FormLemmas.{tokens-have_form}
 use Rattle.til_parser.specs.declared.tree.Ast.{Ast}
 use Rattle.til_parser.specs.declared.tree.AstNamespace.{AstNamespace}
 use Rattle.til_parser.specs.Canonical.{canonical, decl_text, doc_line, names_text, namespace_text}
-use Rattle.til_parser.specs.Grammar.{Each, SpellsNamespace}
+use Rattle.tydi_reading.specs.Lists.{Each}
+use Rattle.til_parser.specs.Grammar.{SpellsNamespace}
 use Rattle.til_parser.specs.Laws.{IsReadAgain, IsTreeOf, TreesAreReadAsPrinted}
-use Rattle.til_parser.specs.Lexemes.{HasFormIn, lexemes_from, lexemes_of}
+use Rattle.til_parser.specs.Lexemes.{HasFormIn, lexemes_of}
 use Rattle.til_parser.specs.Same.{Alike, SameNamespace}
 use Rattle.til_parser.proofs.PrintedDecls.{LikeNamespace, namespaces_within, printed_namespaces}
 use Rattle.til_parser.proofs.PrintedLeaves.{Again, Formed, Spelt}
@@ -20,15 +21,15 @@ use Rattle.til_parser.proofs.PrintedLists.{alike_as}
 use Rattle.til_parser.proofs.PrintedTokens.{IsLexed, items_text-lexed}
 use Rattle.til_parser.proofs.PrintedForms.{Fits, Printed, free, items_text}
 
-formed_lexemes : (number : ℕ) (text : List ℕ) (tokens : List Token) → All (HasFormIn text) tokens → Formed (lexemes_from number text tokens)
-formed_lexemes number text [] all = tt
-formed_lexemes number text (token ∷ tokens) all =
-    (All-head (HasFormIn text) token tokens all, formed_lexemes (suc number) text tokens (All-tail (HasFormIn text) token tokens all))
+formed_lexemes : (text : List ℕ) (tokens : List Token) → All (HasFormIn text) tokens → Formed (lexemes_of text tokens)
+formed_lexemes text [] all = tt
+formed_lexemes text (token ∷ tokens) all =
+    (All-head (HasFormIn text) token tokens all, formed_lexemes text tokens (All-tail (HasFormIn text) token tokens all))
 
 spelt_namespaces : (text : List ℕ) (ast : Ast) → IsTreeOf text ast → Spelt (Each SpellsNamespace ast.namespaces)
 spelt_namespaces text ast is = record {
-  tokens = lexemes_from 0 text is.tokens;
-  formed = formed_lexemes 0 text is.tokens (tokens-have_form text is.tokens is.utf8 is.lexed);
+  tokens = lexemes_of text is.tokens;
+  formed = formed_lexemes text is.tokens (tokens-have_form text is.tokens is.utf8 is.lexed);
   spelled = is.spelled.each;
 }
 

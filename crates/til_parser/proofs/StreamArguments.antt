@@ -6,7 +6,8 @@ use Rattle.std.specs.List.{list_all}
 use Rattle.std.proofs.lemmas.Bool.Decides.{nat_tests}
 use Rattle.tydi_base.specs.Level.{IsLevel}
 use Rattle.til_parser.specs.Canonical.{number_text}
-use Rattle.til_parser.specs.Grammar.{Form, ◌⋯◌, Argument, data_type, throughput, dimensionality, synchronicity, complexity, direction, user_type}
+use Rattle.tydi_reading.specs.Forms.{◌⋯◌}
+use Rattle.til_parser.specs.Grammar.{Form, Argument, data_type, throughput, dimensionality, synchronicity, complexity, direction, user_type}
 use Rattle.til_parser.specs.Grammar.{keep, AreApart, Arguments, Commas, Given, IsDefault}
 use Rattle.til_parser.specs.Tree.{Ltype, null, Settings}
 use Rattle.til_parser.proofs.NumberTextLemmas.{IsNumberText, one-is}

@@ -1,12 +1,14 @@
 -- The grammar of the Tydi Intermediate Language: which tokens spell which tree, by recursion on the tree. It is this project's
 -- own, after the published language. No reader is in it.
-use Rattle.std.specs.Prelude.{◌≡◌, ◌≤◌, ◌<◌, ℕ, ◌⊎◌, Bool, true, false, List, [], ◌∷◌, ◌++◌, length, Option, Some, None, IsTrue, Contains, codes}
+use Rattle.std.specs.Prelude.{◌≡◌, ◌≤◌, ◌<◌, ℕ, Bool, true, false, List, [], ◌∷◌, length, Option, Some, None, IsTrue, Contains, codes}
 use Rattle.std.specs.List.{list_all}
 use Rattle.std.specs.Char.{is_ascii_digit}
 use Rattle.tydi_base.specs.Decimal.{read_on}
 use Rattle.tydi_base.specs.Frac.{Fraction, IsReduced}
 use Rattle.tydi_base.specs.Level.{IsLevel}
 use Rattle.tydi_base.specs.Name.{is_name}
+use Rattle.tydi_reading.specs.Forms.{◌⋯◌, Nothing}
+use Rattle.tydi_reading.specs.Lists.{Each, Separated, LastSeparator, Joined}
 use Rattle.til_lexer.specs.declared.token.TokenKind.{TokenKind}
 use Rattle.til_lexer.specs.declared.token.TokenKind.TheVariants as kinds
 use Rattle.til_parser.specs.declared.ltype.AstSync.{AstSync}
@@ -32,21 +34,6 @@ use Rattle.til_parser.specs.Tree.{Ltype, null, bits, group, union, stream, path,
 -- which tokens have a form
 abbrev pub Form : Type 1
 Form = List Lexeme → Type 0
-
--- ---- one after another
-
--- tokens of the one form and then tokens of the other
-infixr 6 ◌⋯◌
-pub record ◌⋯◌ (First Second : Form) (ts : List Lexeme) : Type 0 where
-  pub front : List Lexeme
-  pub back : List Lexeme
-  pub all : ts ≡ front ++ back
-  pub begins : First front
-  pub ends : Second back
-
--- no tokens
-abbrev pub Nothing : Form
-Nothing ts = ts ≡ []
 
 -- one token, which is such a one
 pub record One (Is : Lexeme → Type 0) (ts : List Lexeme) : Type 0 where
@@ -115,26 +102,17 @@ Doc (Some text) = One (IsMarked kinds.Doc text)
 
 -- ---- lists
 
--- items, one after another
-abbrev pub Each : {A : Type 0} → (A → Form) → List A → Form
-Each Item [] = Nothing
-Each Item (item ∷ items) = Item item ⋯ Each Item items
-
 -- a comma, or none
 abbrev pub LastComma : Form
-LastComma ts = Nothing ts ⊎ Of kinds.Comma ts
+LastComma = LastSeparator (Of kinds.Comma)
 
 -- items with a comma between each two, and a last comma or none
 abbrev pub Commas : {A : Type 0} → (A → Form) → List A → Form
-Commas Item [] = Nothing
-Commas Item (item ∷ []) = Item item ⋯ LastComma
-Commas Item (item ∷ next ∷ items) = Item item ⋯ Of kinds.Comma ⋯ Commas Item (next ∷ items)
+Commas Item = Separated (Of kinds.Comma) Item
 
 -- names with `::` between each two, one at least
 abbrev pub Path : List AstName → Form
-Path [] = λ _. ⊥
-Path (name ∷ []) = Name name
-Path (name ∷ next ∷ names) = Name name ⋯ Of kinds.DoubleColon ⋯ Path (next ∷ names)
+Path = Joined (Of kinds.DoubleColon) Name
 
 -- in round brackets
 abbrev pub Bracketed : Form → Form
@@ -247,13 +225,14 @@ SpellsPort port = Doc port.doc ⋯ Name port.name ⋯ Of kinds.Colon ⋯ Word (w
 abbrev pub SpellsPorts : List AstPort → Form
 SpellsPorts all = Bracketed (Commas SpellsPort all)
 
+-- a second name after a point, if there is any
+abbrev pub Second : Option AstName → Form
+Second None = Nothing
+Second (Some name) = Of kinds.Point ⋯ Name name
+
 -- tokens spell an end of a link: one name, or two with a point between
 abbrev pub SpellsEnd : AstEnd → Form
 SpellsEnd end = Name end.first ⋯ Second end.second
-  where
-    Second : Option AstName → Form
-    Second None = Nothing
-    Second (Some name) = Of kinds.Point ⋯ Name name
 
 -- tokens spell a statement: an instance, or a link
 abbrev pub SpellsStmt : AstStmt → Form

@@ -1,5 +1,5 @@
 -- How `parse` reads declarations. No public clause names these. This project's own.
-use Rattle.std.specs.Prelude.{ℕ, List, [], ◌∷◌, ◌++◌, Some, None, if◌then◌else◌, codes}
+use Rattle.std.specs.Prelude.{ℕ, Bool, true, false, List, [], ◌∷◌, Option, Some, None, codes}
 use Rattle.til_lexer.specs.declared.token.TokenKind.TheVariants as kinds
 use Rattle.til_parser.specs.declared.keyword.Keyword.{Keyword}
 use Rattle.til_parser.specs.declared.keyword.Keyword.TheVariants as keywords
@@ -10,155 +10,115 @@ use Rattle.til_parser.specs.declared.tree.AstDecl.{AstDecl}
 use Rattle.til_parser.specs.declared.tree.AstEnd.{AstEnd}
 use Rattle.til_parser.specs.declared.tree.AstKind.{AstKind}
 use Rattle.til_parser.specs.declared.tree.AstKind.TheVariants as decls
+use Rattle.til_parser.specs.declared.ltype.AstType.{AstType}
 use Rattle.til_parser.specs.declared.tree.AstName.{AstName}
+use Rattle.til_parser.specs.declared.tree.AstPath.{AstPath}
 use Rattle.til_parser.specs.declared.tree.AstNamespace.{AstNamespace}
 use Rattle.til_parser.specs.declared.tree.AstPort.{AstPort}
 use Rattle.til_parser.specs.declared.tree.AstPorts.{AstPorts}
 use Rattle.til_parser.specs.declared.tree.AstPorts.TheVariants as ports
 use Rattle.til_parser.specs.declared.tree.AstStmt.{AstStmt}
 use Rattle.til_parser.specs.declared.tree.AstStmt.TheVariants as stmts
-use Rattle.til_parser.specs.Reading.{Reader, ◌>>=◌, ◌>>◌, ◌<$>◌, pure, at_end, sees, eat, eat_word, expect, expect_word, Turn, again, done, loop}
+use Rattle.tydi_reading.specs.Lists.{repeated}
+use Rattle.tydi_reading.specs.Reading.{◌>>=◌, ◌>>◌, ◌<$>◌, ◌<&>◌, ◌<<◌, pure, choose, checked}
+use Rattle.til_parser.specs.Reading.{Reader, is_kind, is_word, expect, expect_word}
 use Rattle.til_parser.specs.ReadTypes.{name, path, quoted, doc, either_word, bracketed, ltype}
 
 -- ---- lists in braces
 
--- one item more, or the closing brace
-unfoldable pub repeated_turn : {A : Type 0} → Reader A → List A → Reader (Turn (List A))
-repeated_turn item found = do
-  closed ← eat kinds.CloseBrace
-  if closed then pure (done found) else (do
-    x ← item
-    pure (again (found ++ x ∷ [])))
-
 -- items up to a closing brace, after an opening one
 unfoldable pub braced : {A : Type 0} → Reader A → Reader (List A)
-braced item = expect kinds.OpenBrace >> loop (repeated_turn item) []
+braced item = expect kinds.OpenBrace >> (repeated (is_kind kinds.CloseBrace) false item << expect kinds.CloseBrace)
 
 -- ---- bodies
 
--- an end that begins with this name
-unfoldable pub end_from : AstName → Reader AstEnd
-end_from first = do
-  dotted ← eat kinds.Point
-  if dotted then (do second ← name; pure (record { first = first; second = Some second })) else pure (record { first = first; second = None })
+-- the second name of an end, after its point
+unfoldable pub second : Reader (Option AstName)
+second = choose (is_kind kinds.Point) false (Some <$> (expect kinds.Point >> name)) (pure None)
 
 -- an end of a link
 unfoldable pub end : Reader AstEnd
-end = name >>= end_from
+end = (λ (e : AstName × Option AstName). record { first = e.0; second = e.1 }) <$> (name <&> second)
 
 -- a link that begins with this name
 unfoldable pub link_from : AstName → Reader AstStmt
-link_from called = do
-  first ← end_from called
-  expect kinds.DoubleDash
-  second ← end
-  expect kinds.Semicolon
-  pure (stmts.Link first second)
+link_from called =
+    (λ (l : Option AstName × AstEnd). stmts.Link (record { first = called; second = l.0 }) l.1)
+    <$> (second <&> (expect kinds.DoubleDash >> (end << expect kinds.Semicolon)))
 
--- an instance of this name, after its `=`
+-- an instance of this name
 unfoldable pub instance_of : AstName → Reader AstStmt
-instance_of called = do
-  streamlet ← path
-  expect kinds.Semicolon
-  pure (stmts.Instance called streamlet)
+instance_of called = (λ streamlet. stmts.Instance called streamlet) <$> (expect kinds.Equals >> (path << expect kinds.Semicolon))
 
 -- a statement: after the name with which both forms begin, the next token tells which it is
 unfoldable pub stmt : Reader AstStmt
-stmt = do
-  called ← name
-  is_instance ← eat kinds.Equals
-  if is_instance then instance_of called else link_from called
+stmt = name >>= (λ called. choose (is_kind kinds.Equals) false (instance_of called) (link_from called))
 
 -- the body of an implementation
 unfoldable pub body : Reader AstBody
-body = λ ts. (if sees kinds.Quoted ts then bodies.Linked <$> quoted else bodies.Structural <$> braced stmt) ts
+body = choose (is_kind kinds.Quoted) false (bodies.Linked <$> quoted) (bodies.Structural <$> braced stmt)
 
 -- ---- declarations, of types of at most so many levels
 
 -- a port
 unfoldable pub port : ℕ → Reader AstPort
-port levels = do
-  told ← doc
-  called ← name
-  expect kinds.Colon
-  inward ← either_word (codes "in") (codes "out")
-  written ← ltype levels
-  pure (record { doc = told; name = called; inward = inward; ltype = written })
+port levels =
+    (λ (p : Option (List ℕ) × (AstName × (Bool × AstType))). record { doc = p.0; name = p.1.0; inward = p.1.1.0; ltype = p.1.1.1 })
+    <$> (doc <&> (name <&> (expect kinds.Colon >> (either_word (codes "in") (codes "out") <&> ltype levels))))
 
 -- a streamlet's own ports, or the path of an interface
 unfoldable pub streamlet_ports : ℕ → Reader AstPorts
-streamlet_ports levels = λ ts. (if sees kinds.OpenParen ts then ports.Own <$> bracketed (port levels) else ports.Named <$> path) ts
+streamlet_ports levels = choose (is_kind kinds.OpenParen) false (ports.Own <$> bracketed (port levels)) (ports.Named <$> path)
 
 -- the word with which a declaration begins
 unfoldable pub keyword : Reader Keyword
-keyword = do
-  is_type ← eat_word (codes "type")
-  if is_type then pure keywords.Type else (do
-    is_interface ← eat_word (codes "interface")
-    if is_interface then pure keywords.Interface else (do
-      is_streamlet ← eat_word (codes "streamlet")
-      if is_streamlet then pure keywords.Streamlet else (do
-        is_impl ← eat_word (codes "impl")
-        if is_impl then pure keywords.Impl else expect_word (codes "test") >> pure keywords.Test)))
+keyword =
+    choose (is_word (codes "type")) false ((λ _. keywords.Type) <$> expect_word (codes "type"))
+    (choose (is_word (codes "interface")) false ((λ _. keywords.Interface) <$> expect_word (codes "interface"))
+    (choose (is_word (codes "streamlet")) false ((λ _. keywords.Streamlet) <$> expect_word (codes "streamlet"))
+    (choose (is_word (codes "impl")) false ((λ _. keywords.Impl) <$> expect_word (codes "impl"))
+    ((λ _. keywords.Test) <$> expect_word (codes "test")))))
 
 -- what follows the name of an implementation
 unfoldable pub impl_kind : Reader AstKind
-impl_kind = do
-  expect_word (codes "of")
-  target ← path
-  expect kinds.Equals
-  inside ← body
-  pure (decls.Impl target inside)
+impl_kind = (λ (i : AstPath × AstBody). decls.Impl i.0 i.1) <$> (expect_word (codes "of") >> (path <&> (expect kinds.Equals >> body)))
 
 -- what follows the name of a test
 unfoldable pub test_kind : Reader AstKind
-test_kind = do
-  expect_word (codes "of")
-  target ← path
-  expect_word (codes "drive")
-  port ← name
-  expect kinds.Equals
-  value ← quoted
-  expect_word (codes "plan")
-  plan ← quoted
-  pure (decls.Test target port value plan)
+test_kind =
+    (λ (t : AstPath × (AstName × (List ℕ × List ℕ))). decls.Test t.0 t.1.0 t.1.1.0 t.1.1.1)
+    <$> (expect_word (codes "of") >> (path <&> (expect_word (codes "drive") >> (name <&> (expect kinds.Equals
+    >> (quoted <&> (expect_word (codes "plan") >> quoted)))))))
 
 -- what follows the keyword and the name
 abbrev pub kind_of : ℕ → Keyword → Reader AstKind
-kind_of levels keywords.Type = expect kinds.Equals >> decls.Alias <$> ltype levels
-kind_of levels keywords.Interface = expect kinds.Equals >> decls.Interface <$> bracketed (port levels)
-kind_of levels keywords.Streamlet = expect kinds.Equals >> decls.Streamlet <$> streamlet_ports levels
+kind_of levels keywords.Type = decls.Alias <$> (expect kinds.Equals >> ltype levels)
+kind_of levels keywords.Interface = decls.Interface <$> (expect kinds.Equals >> bracketed (port levels))
+kind_of levels keywords.Streamlet = decls.Streamlet <$> (expect kinds.Equals >> streamlet_ports levels)
 kind_of levels keywords.Impl = impl_kind
 kind_of levels keywords.Test = test_kind
 
--- a declaration, after its documentation
+-- the name of a declaration and what follows it, after its keyword
+unfoldable pub named_kind : ℕ → Reader (AstName × AstKind)
+named_kind levels = keyword >>= (λ begun. name <&> kind_of levels begun)
+
+-- a declaration
 unfoldable pub decl : ℕ → Reader AstDecl
-decl levels = do
-  told ← doc
-  begun ← keyword
-  called ← name
-  kind ← kind_of levels begun
-  expect kinds.Semicolon
-  pure (record { doc = told; name = called; kind = kind })
+decl levels =
+    (λ (d : Option (List ℕ) × (AstName × AstKind)). record { doc = d.0; name = d.1.0; kind = d.1.1 })
+    <$> (doc <&> (named_kind levels << expect kinds.Semicolon))
 
--- a namespace, after its documentation
+-- a namespace
 unfoldable pub namespace : ℕ → Reader AstNamespace
-namespace levels = do
-  told ← doc
-  expect_word (codes "namespace")
-  named ← path
-  inside ← braced (decl levels)
-  pure (record { doc = told; path = named; decls = inside })
+namespace levels =
+    (λ (n : Option (List ℕ) × (AstPath × List AstDecl)). record { doc = n.0; path = n.1.0; decls = n.1.1 })
+    <$> (doc <&> (expect_word (codes "namespace") >> (path <&> braced (decl levels))))
 
--- one namespace more, or the end
-unfoldable pub project_turn : ℕ → List AstNamespace → Reader (Turn (List AstNamespace))
-project_turn levels found = λ ts. (if at_end ts then pure (done found) else (do
-  next ← namespace levels
-  pure (again (found ++ next ∷ [])))) ts
+-- a project has one namespace at least
+abbrev pub project_of : List AstNamespace → Option Ast
+project_of [] = None
+project_of (first ∷ more) = Some (record { namespaces = first ∷ more })
 
--- one namespace at least, and all others up to the end
+-- namespaces up to the end, one at least
 unfoldable pub project : ℕ → Reader Ast
-project levels = do
-  first ← namespace levels
-  all ← loop (project_turn levels) (first ∷ [])
-  pure (record { namespaces = all })
+project levels = checked project_of (repeated (λ _. false) true (namespace levels))

@@ -1,12 +1,13 @@
 -- How `parse` reads names, numbers, paths and types. No public clause names these. This project's own.
-use Rattle.std.specs.Prelude.{ℕ, zero, suc, nat_lt, ◌&&◌, not, Bool, true, false, List, [], ◌∷◌, ◌++◌, Option, Some, None}
-use Rattle.std.specs.Prelude.{option_map, Err, if◌then◌else◌, codes}
+use Rattle.std.specs.Prelude.{ℕ, zero, suc, nat_lt, ◌&&◌, Bool, true, false, List, Option, Some, None}
+use Rattle.std.specs.Prelude.{option_map, if◌then◌else◌, codes}
 use Rattle.std.specs.Option.{is_none, unwrap_or}
 use Rattle.tydi_base.specs.Name.{name_of}
 use Rattle.tydi_base.specs.Frac.{Fraction}
 use Rattle.tydi_base.specs.declared.place.Place.{Place}
+use Rattle.tydi_reading.specs.Lists.{separated, steps, joined}
+use Rattle.tydi_reading.specs.Reading.{◌>>◌, ◌<$>◌, ◌<&>◌, ◌<<◌, pure, refuse, rest_of, tells, choose, checked, too_deep, took}
 use Rattle.til_lexer.specs.declared.token.TokenKind.TheVariants as kinds
-use Rattle.til_parser.specs.declared.fault.ParseFault.TheVariants as faults
 use Rattle.til_parser.specs.declared.arguments.Arguments.{Arguments}
 use Rattle.til_parser.specs.declared.ltype.AstType.{AstType}
 use Rattle.til_parser.specs.declared.ltype.AstType.TheVariants as types
@@ -18,8 +19,7 @@ use Rattle.til_parser.specs.declared.tree.AstName.{AstName}
 use Rattle.til_parser.specs.declared.tree.AstPath.{AstPath}
 use Rattle.til_parser.specs.Lexemes.{Lexeme, between_marks}
 use Rattle.til_parser.specs.Numbers.{whole_of, numerator_of, denominator_of, lowest}
-use Rattle.til_parser.specs.Reading.{Reader, ◌>>=◌, ◌>>◌, ◌<$>◌, pure, refuse, sees, sees_word, next_of, skip, eat}
-use Rattle.til_parser.specs.Reading.{eat_word, expect, expect_word, meant, leaf, Turn, again, done, loop}
+use Rattle.til_parser.specs.Reading.{Reader, is_kind, is_word, begins_type, expect, expect_word, next_of, token}
 
 -- ---- names and numbers
 
@@ -30,15 +30,15 @@ name_at place (Some name) = Some (record { name = name; place = place })
 
 -- a word that is a name
 abbrev pub name : Reader AstName
-name = leaf kinds.Word (λ place spelling. name_at place (name_of spelling))
+name = token kinds.Word (λ place spelling. name_at place (name_of spelling))
 
 -- a number without a point
 abbrev pub whole : Reader ℕ
-whole = leaf kinds.Number (λ place spelling. whole_of spelling)
+whole = token kinds.Number (λ place spelling. whole_of spelling)
 
 -- a number, in lowest terms
 abbrev pub number : Reader Fraction
-number = leaf kinds.Number (λ place spelling. Some (lowest (numerator_of spelling) (denominator_of spelling)))
+number = token kinds.Number (λ place spelling. Some (lowest (numerator_of spelling) (denominator_of spelling)))
 
 -- a level, 1 to 8
 abbrev pub level_of : Option ℕ → Option ℕ
@@ -47,84 +47,48 @@ level_of (Some n) = if nat_lt 0 n && nat_lt n 9 then Some n else None
 
 -- a number that is a level
 abbrev pub level : Reader ℕ
-level = leaf kinds.Number (λ place spelling. level_of (whole_of spelling))
+level = token kinds.Number (λ place spelling. level_of (whole_of spelling))
 
 -- the text of a quoted text
 abbrev pub quoted : Reader (List ℕ)
-quoted = leaf kinds.Quoted (λ place spelling. Some (between_marks spelling))
+quoted = token kinds.Quoted (λ place spelling. Some (between_marks spelling))
 
 -- the text of documentation, where it stands next
 abbrev pub doc_of : Option (Place × List ℕ) → Reader (Option (List ℕ))
 doc_of None = pure None
-doc_of (Some next) = skip >> pure (Some (between_marks next.1))
+doc_of (Some next) = λ ts. took (Some (between_marks next.1)) (rest_of ts)
 
 -- documentation, if there is any
 unfoldable pub doc : Reader (Option (List ℕ))
 doc = λ ts. doc_of (next_of kinds.Doc ts) ts
 
--- ---- paths
-
--- one name more after `::`, or the end of the path
-unfoldable pub path_turn : List AstName → Reader (Turn (List AstName))
-path_turn names = do
-  more ← eat kinds.DoubleColon
-  if more then (do next ← name; pure (again (names ++ next ∷ []))) else pure (done names)
+-- ---- paths and lists
 
 -- a path
 unfoldable pub path : Reader AstPath
-path = do
-  first ← name
-  names ← loop path_turn (first ∷ [])
-  pure (record { names = names })
-
--- ---- lists with commas, up to a closing bracket
-
--- one item more and a comma, or the last item, or the closing bracket
-unfoldable pub separated_turn : {A : Type 0} → Reader A → List A → Reader (Turn (List A))
-separated_turn item found = λ ts. (
-    if sees kinds.CloseParen ts then pure (done found)
-    else (do
-      x ← item
-      more ← eat kinds.Comma
-      pure (if more then again (found ++ x ∷ []) else done (found ++ x ∷ [])))) ts
-
--- items with commas, up to a closing bracket
-abbrev pub separated : {A : Type 0} → Reader A → Reader (List A)
-separated item = loop (separated_turn item) []
+path = (λ names. record { names = names }) <$> joined (is_kind kinds.DoubleColon) name
 
 -- a list with commas between its brackets
 unfoldable pub bracketed : {A : Type 0} → Reader A → Reader (List A)
-bracketed item = do
-  expect kinds.OpenParen
-  items ← separated item
-  expect kinds.CloseParen
-  pure items
+bracketed item = expect kinds.OpenParen >> (separated (is_kind kinds.CloseParen) false (is_kind kinds.Comma) item << expect kinds.CloseParen)
 
 -- ---- the arguments of a Stream
 
 -- a synchronicity
 unfoldable pub sync : Reader AstSync
-sync = do
-  is_sync ← eat_word (codes "Sync")
-  if is_sync then pure syncs.Sync else (do
-    is_flatten ← eat_word (codes "Flatten")
-    if is_flatten then pure syncs.Flatten else (do
-      is_desync ← eat_word (codes "Desync")
-      if is_desync then pure syncs.Desync else expect_word (codes "FlatDesync") >> pure syncs.FlatDesync))
+sync =
+    choose (is_word (codes "Sync")) false ((λ _. syncs.Sync) <$> expect_word (codes "Sync"))
+    (choose (is_word (codes "Flatten")) false ((λ _. syncs.Flatten) <$> expect_word (codes "Flatten"))
+    (choose (is_word (codes "Desync")) false ((λ _. syncs.Desync) <$> expect_word (codes "Desync"))
+    ((λ _. syncs.FlatDesync) <$> expect_word (codes "FlatDesync"))))
 
 -- which of two words stands next: true for the first
 unfoldable pub either_word : List ℕ → List ℕ → Reader Bool
-either_word first second = do
-  is_first ← eat_word first
-  if is_first then pure true else expect_word second >> pure false
-
--- the name of an argument, and the colon after it
-unfoldable pub label : Reader (Unit {0})
-label = skip >> expect kinds.Colon
+either_word first second = choose (is_word first) false ((λ _. true) <$> expect_word first) ((λ _. false) <$> expect_word second)
 
 -- the value of an argument, after its name and the colon
-abbrev pub labelled : {A : Type 0} → Reader A → Reader A
-labelled value = label >> value
+unfoldable pub labelled : {A : Type 0} → Reader A → Reader A
+labelled value = λ ts. (expect kinds.Colon >> value) (rest_of ts)
 
 -- no argument is given yet
 abbrev pub none_given : Arguments
@@ -132,7 +96,7 @@ none_given = record { element = None; throughput = None; dims = None; sync = Non
 
 -- the next token is the name of an argument that is not given yet
 abbrev pub awaits : {A : Type 0} → List ℕ → Option A → List Lexeme → Bool
-awaits word given ts = sees_word word ts && is_none given
+awaits word given ts = tells (is_word word) false ts && is_none given
 
 -- one argument more that holds no type and is not given yet
 unfoldable pub setting : Arguments → Reader Arguments
@@ -153,11 +117,9 @@ argument inner given = λ ts. (
     else (if awaits (codes "user") given.user ts then (λ x. record given { user = Some x }) <$> labelled inner
     else setting given))) ts
 
--- one argument more after a comma, or the end of the arguments
-unfoldable pub argument_turn : Reader AstType → Arguments → Reader (Turn Arguments)
-argument_turn inner given = do
-  more ← eat kinds.Comma
-  λ ts. (if more && not (sees kinds.CloseParen ts) then again <$> argument inner given else pure (done given)) ts
+-- arguments with commas, up to a closing bracket
+unfoldable pub arguments : Reader AstType → Arguments → Reader Arguments
+arguments inner = steps (is_kind kinds.CloseParen) false (is_kind kinds.Comma) (argument inner)
 
 -- the Stream of these arguments, the defaults filled in: throughput 1, dimensionality 0, Sync, complexity 4, Forward, user Null,
 -- keep false
@@ -179,52 +141,29 @@ stream_of given = option_map (λ element. filled element given) given.element
 
 -- the arguments of a Stream in brackets
 unfoldable pub stream : Reader AstType → Reader AstStream
-stream inner = do
-  expect kinds.OpenParen
-  first ← argument inner none_given
-  given ← loop (argument_turn inner) first
-  made ← λ ts. meant (stream_of given) ts ts
-  expect kinds.CloseParen
-  pure made
+stream inner = expect kinds.OpenParen >> (checked stream_of (arguments inner none_given) << expect kinds.CloseParen)
 
 -- ---- types
 
 -- a width in brackets
 unfoldable pub bits : Reader ℕ
-bits = do
-  expect kinds.OpenParen
-  width ← whole
-  expect kinds.CloseParen
-  pure width
+bits = expect kinds.OpenParen >> (whole << expect kinds.CloseParen)
 
 -- a part: a name and a type
 unfoldable pub part : Reader AstType → Reader AstPart
-part inner = do
-  called ← name
-  expect kinds.Colon
-  ltype ← inner
-  pure (roll-AstPart (record { name = called; ltype = ltype }))
+part inner = (λ (p : AstName × AstType). roll-AstPart (record { name = p.0; ltype = p.1 })) <$> (name <&> (expect kinds.Colon >> inner))
 
 -- a type, by the reader of the types inside it
 unfoldable pub type_with : Reader AstType → Reader AstType
-type_with inner = do
-  is_null ← eat_word (codes "Null")
-  if is_null then pure types.Null else (do
-    is_bits ← eat_word (codes "Bits")
-    if is_bits then types.Bits <$> bits else (do
-      is_group ← eat_word (codes "Group")
-      if is_group then types.Group <$> bracketed (part inner) else (do
-        is_union ← eat_word (codes "Union")
-        if is_union then types.Union <$> bracketed (part inner) else (do
-          is_stream ← eat_word (codes "Stream")
-          if is_stream then types.Stream <$> stream inner else types.Path <$> path))))
+type_with inner =
+    choose (is_word (codes "Null")) false ((λ _. types.Null) <$> expect_word (codes "Null"))
+    (choose (is_word (codes "Bits")) false (types.Bits <$> (expect_word (codes "Bits") >> bits))
+    (choose (is_word (codes "Group")) false (types.Group <$> (expect_word (codes "Group") >> bracketed (part inner)))
+    (choose (is_word (codes "Union")) false (types.Union <$> (expect_word (codes "Union") >> bracketed (part inner)))
+    (choose (is_word (codes "Stream")) false (types.Stream <$> (expect_word (codes "Stream") >> stream inner))
+    (types.Path <$> path)))))
 
--- a type that stands inside as many others as are allowed
-abbrev pub too_deep : Reader AstType
-too_deep [] = refuse []
-too_deep (next ∷ rest) = if sees kinds.Word (next ∷ rest) then Err (faults.TooDeep next.number) else refuse (next ∷ rest)
-
--- a type of at most so many levels
+-- a type of at most so many levels; one that stands inside as many others as are allowed is too deep
 unfoldable pub ltype : ℕ → Reader AstType
-ltype zero = too_deep
+ltype zero = too_deep begins_type
 ltype (suc levels) = type_with (ltype levels)

@@ -1,11 +1,13 @@
 //! Projects, namespaces, declarations and the bodies of implementations.
 
-ghost use Rattle.std.specs.Prelude.{◌≡◌};
+ghost use Rattle.std.specs.Prelude.{◌≡◌, true, false};
 ghost use Rattle.til_parser.specs.ReadDecls as spec;
-ghost use Rattle.til_parser.specs.ReadTypes.{bracketed, separated};
-ghost use Rattle.til_parser.specs.Reading.{Reads};
+ghost use Rattle.til_parser.specs.ReadTypes.{bracketed};
+ghost use Rattle.til_parser.specs.Reading as reading;
+ghost use Rattle.tydi_reading.specs.Lists.{repeated, separated};
+ghost use Rattle.tydi_reading.specs.Reading.{Reads};
+ghost use Rattle.til_lexer.specs.declared.token.TokenKind.TheVariants as kinds;
 
-use crate::fault::ParseFault;
 use crate::keyword::Keyword;
 use crate::parser::Parser;
 use crate::tree::{
@@ -13,24 +15,35 @@ use crate::tree::{
 };
 use til_lexer::TokenKind;
 use tydi_base::List;
+use tydi_reading::Fault;
 
 impl<'a> Parser<'a> {
     /// `project`, whose types have at most so many levels.
     #[tactic(auto, unfolding(crate::specs::ReadDecls::project))]
-    pub(crate) fn project(&mut self, levels: usize) -> Result<Ast, ParseFault>
+    pub(crate) fn project(&mut self, levels: usize) -> Result<Ast, Fault>
         ensures { Reads (spec.project levels self.old) result self.new }
     {
-        let mut namespaces = List::new(self.alloc());
-        namespaces.push(self.namespace(levels)?)?;
-        'namespaces: while !self.is_at_end() {
-            namespaces.push(self.namespace(levels)?)?;
+        let namespaces = self.namespaces(levels)?;
+        if namespaces.is_empty() {
+            return Err(Fault::Refused);
         }
         Ok(Ast { namespaces })
     }
 
+    /// `{ namespace }`, up to the end, whose types have at most so many levels.
+    fn namespaces(&mut self, levels: usize) -> Result<List<AstNamespace>, Fault>
+        ensures { Reads (repeated (λ _. false) true (spec.namespace levels) self.old) result self.new }
+    {
+        let mut namespaces = List::new(self.alloc());
+        'namespaces: while !self.is_at_end() {
+            namespaces.push(self.namespace(levels)?)?;
+        }
+        Ok(namespaces)
+    }
+
     /// `namespace`
     #[tactic(auto, unfolding(crate::specs::ReadDecls::namespace))]
-    fn namespace(&mut self, levels: usize) -> Result<AstNamespace, ParseFault>
+    fn namespace(&mut self, levels: usize) -> Result<AstNamespace, Fault>
         ensures { Reads (spec.namespace levels self.old) result self.new }
     {
         let doc = self.doc()?;
@@ -42,20 +55,29 @@ impl<'a> Parser<'a> {
 
     /// `"{" { [doc] decl } "}"`
     #[tactic(auto, unfolding(crate::specs::ReadDecls::braced))]
-    fn decls(&mut self, levels: usize) -> Result<List<AstDecl>, ParseFault>
+    fn decls(&mut self, levels: usize) -> Result<List<AstDecl>, Fault>
         ensures { Reads (spec.braced (spec.decl levels) self.old) result self.new }
     {
         self.expect(TokenKind::OpenBrace)?;
+        let decls = self.repeated_decls(levels)?;
+        self.expect(TokenKind::CloseBrace)?;
+        Ok(decls)
+    }
+
+    /// `{ [doc] decl }`, up to a closing brace.
+    fn repeated_decls(&mut self, levels: usize) -> Result<List<AstDecl>, Fault>
+        ensures { Reads (repeated (reading.is_kind kinds.CloseBrace) false (spec.decl levels) self.old) result self.new }
+    {
         let mut decls = List::new(self.alloc());
-        'decls: while !self.eat(TokenKind::CloseBrace) {
+        'decls: while !self.sees(TokenKind::CloseBrace) {
             decls.push(self.decl(levels)?)?;
         }
         Ok(decls)
     }
 
     /// `[doc] decl`
-    #[tactic(auto, unfolding(crate::specs::ReadDecls::decl))]
-    fn decl(&mut self, levels: usize) -> Result<AstDecl, ParseFault>
+    #[tactic(auto, unfolding(crate::specs::ReadDecls::decl, crate::specs::ReadDecls::named_kind))]
+    fn decl(&mut self, levels: usize) -> Result<AstDecl, Fault>
         ensures { Reads (spec.decl levels self.old) result self.new }
     {
         let doc = self.doc()?;
@@ -66,8 +88,8 @@ impl<'a> Parser<'a> {
         Ok(AstDecl { doc, name, kind })
     }
 
-    #[tactic(auto, unfolding(crate::specs::ReadDecls::keyword))]
-    fn keyword(&mut self) -> Result<Keyword, ParseFault>
+    #[tactic(auto, unfolding(crate::specs::ReadDecls::keyword, tydi_reading::specs::Lists::mark))]
+    fn keyword(&mut self) -> Result<Keyword, Fault>
         ensures { Reads (spec.keyword self.old) result self.new }
     {
         if self.eat_word("type") {
@@ -87,7 +109,7 @@ impl<'a> Parser<'a> {
     }
 
     /// What follows the keyword and the name of a declaration, up to its semicolon.
-    fn kind(&mut self, keyword: Keyword, levels: usize) -> Result<AstKind, ParseFault>
+    fn kind(&mut self, keyword: Keyword, levels: usize) -> Result<AstKind, Fault>
         ensures { Reads (spec.kind_of levels keyword self.old) result self.new }
     {
         match keyword {
@@ -110,7 +132,7 @@ impl<'a> Parser<'a> {
 
     /// `ports | path`
     #[tactic(auto, unfolding(crate::specs::ReadDecls::streamlet_ports))]
-    fn streamlet_ports(&mut self, levels: usize) -> Result<AstPorts, ParseFault>
+    fn streamlet_ports(&mut self, levels: usize) -> Result<AstPorts, Fault>
         ensures { Reads (spec.streamlet_ports levels self.old) result self.new }
     {
         if self.sees(TokenKind::OpenParen) {
@@ -122,7 +144,7 @@ impl<'a> Parser<'a> {
 
     /// `ports`
     #[tactic(auto, unfolding(crate::specs::ReadTypes::bracketed))]
-    fn ports(&mut self, levels: usize) -> Result<List<AstPort>, ParseFault>
+    fn ports(&mut self, levels: usize) -> Result<List<AstPort>, Fault>
         ensures { Reads (bracketed (spec.port levels) self.old) result self.new }
     {
         self.expect(TokenKind::OpenParen)?;
@@ -132,8 +154,8 @@ impl<'a> Parser<'a> {
     }
 
     /// `[ port { "," port } [ "," ] ]`, up to a closing bracket.
-    fn separated_ports(&mut self, levels: usize) -> Result<List<AstPort>, ParseFault>
-        ensures { Reads (separated (spec.port levels) self.old) result self.new }
+    fn separated_ports(&mut self, levels: usize) -> Result<List<AstPort>, Fault>
+        ensures { Reads (separated (reading.is_kind kinds.CloseParen) false (reading.is_kind kinds.Comma) (spec.port levels) self.old) result self.new }
     {
         let mut ports = List::new(self.alloc());
         'ports: while !self.sees(TokenKind::CloseParen) {
@@ -147,7 +169,7 @@ impl<'a> Parser<'a> {
 
     /// `port`
     #[tactic(auto, unfolding(crate::specs::ReadDecls::port))]
-    fn port(&mut self, levels: usize) -> Result<AstPort, ParseFault>
+    fn port(&mut self, levels: usize) -> Result<AstPort, Fault>
         ensures { Reads (spec.port levels self.old) result self.new }
     {
         let doc = self.doc()?;
@@ -165,7 +187,7 @@ impl<'a> Parser<'a> {
 
     /// What follows the name of an implementation.
     #[tactic(auto, unfolding(crate::specs::ReadDecls::impl_kind))]
-    fn impl_kind(&mut self) -> Result<AstKind, ParseFault>
+    fn impl_kind(&mut self) -> Result<AstKind, Fault>
         ensures { Reads (spec.impl_kind self.old) result self.new }
     {
         self.expect_word("of")?;
@@ -177,7 +199,7 @@ impl<'a> Parser<'a> {
 
     /// What follows the name of a test.
     #[tactic(auto, unfolding(crate::specs::ReadDecls::test_kind))]
-    fn test_kind(&mut self) -> Result<AstKind, ParseFault>
+    fn test_kind(&mut self) -> Result<AstKind, Fault>
         ensures { Reads (spec.test_kind self.old) result self.new }
     {
         self.expect_word("of")?;
@@ -198,7 +220,7 @@ impl<'a> Parser<'a> {
 
     /// `quoted | body`
     #[tactic(auto, unfolding(crate::specs::ReadDecls::body))]
-    fn body(&mut self) -> Result<AstBody, ParseFault>
+    fn body(&mut self) -> Result<AstBody, Fault>
         ensures { Reads (spec.body self.old) result self.new }
     {
         if self.sees(TokenKind::Quoted) {
@@ -210,35 +232,37 @@ impl<'a> Parser<'a> {
 
     /// `"{" { stmt } "}"`
     #[tactic(auto, unfolding(crate::specs::ReadDecls::braced))]
-    fn stmts(&mut self) -> Result<List<AstStmt>, ParseFault>
+    fn stmts(&mut self) -> Result<List<AstStmt>, Fault>
         ensures { Reads (spec.braced spec.stmt self.old) result self.new }
     {
         self.expect(TokenKind::OpenBrace)?;
         let mut stmts = List::new(self.alloc());
-        'stmts: while !self.eat(TokenKind::CloseBrace) {
+        'stmts: while !self.sees(TokenKind::CloseBrace) {
             stmts.push(self.stmt()?)?;
         }
+        self.expect(TokenKind::CloseBrace)?;
         Ok(stmts)
     }
 
     /// `stmt`: after the name with which both forms begin, the next token tells which it is.
     #[tactic(auto, unfolding(crate::specs::ReadDecls::stmt))]
-    fn stmt(&mut self) -> Result<AstStmt, ParseFault>
+    fn stmt(&mut self) -> Result<AstStmt, Fault>
         ensures { Reads (spec.stmt self.old) result self.new }
     {
         let name = self.name()?;
-        if self.eat(TokenKind::Equals) {
+        if self.sees(TokenKind::Equals) {
             self.instance_of(name)
         } else {
             self.link_from(name)
         }
     }
 
-    /// What follows the `=` of an instance.
+    /// What follows the name of an instance.
     #[tactic(auto, unfolding(crate::specs::ReadDecls::instance_of))]
-    fn instance_of(&mut self, name: AstName) -> Result<AstStmt, ParseFault>
+    fn instance_of(&mut self, name: AstName) -> Result<AstStmt, Fault>
         ensures { Reads (spec.instance_of name self.old) result self.new }
     {
+        self.expect(TokenKind::Equals)?;
         let streamlet = self.path()?;
         self.expect(TokenKind::Semicolon)?;
         Ok(AstStmt::Instance { name, streamlet })
@@ -246,10 +270,13 @@ impl<'a> Parser<'a> {
 
     /// What follows the first name of a link.
     #[tactic(auto, unfolding(crate::specs::ReadDecls::link_from))]
-    fn link_from(&mut self, name: AstName) -> Result<AstStmt, ParseFault>
+    fn link_from(&mut self, name: AstName) -> Result<AstStmt, Fault>
         ensures { Reads (spec.link_from name self.old) result self.new }
     {
-        let first = self.end_from(name)?;
+        let first = AstEnd {
+            first: name,
+            second: self.second()?,
+        };
         self.expect(TokenKind::DoubleDash)?;
         let second = self.end()?;
         self.expect(TokenKind::Semicolon)?;
@@ -258,23 +285,22 @@ impl<'a> Parser<'a> {
 
     /// `end`
     #[tactic(auto, unfolding(crate::specs::ReadDecls::end))]
-    fn end(&mut self) -> Result<AstEnd, ParseFault>
+    fn end(&mut self) -> Result<AstEnd, Fault>
         ensures { Reads (spec.end self.old) result self.new }
     {
         let first = self.name()?;
-        self.end_from(first)
+        let second = self.second()?;
+        Ok(AstEnd { first, second })
     }
 
-    /// What follows the first name of an end.
-    #[tactic(auto, unfolding(crate::specs::ReadDecls::end_from))]
-    fn end_from(&mut self, first: AstName) -> Result<AstEnd, ParseFault>
-        ensures { Reads (spec.end_from first self.old) result self.new }
+    /// `[ "." name ]`
+    #[tactic(auto, unfolding(crate::specs::ReadDecls::second, tydi_reading::specs::Lists::mark))]
+    fn second(&mut self) -> Result<Option<AstName>, Fault>
+        ensures { Reads (spec.second self.old) result self.new }
     {
-        let second = if self.eat(TokenKind::Point) {
-            Some(self.name()?)
-        } else {
-            None
-        };
-        Ok(AstEnd { first, second })
+        if !self.eat(TokenKind::Point) {
+            return Ok(None);
+        }
+        Ok(Some(self.name()?))
     }
 }

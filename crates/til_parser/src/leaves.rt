@@ -9,68 +9,68 @@ ghost use Rattle.til_lexer.specs.declared.token.TokenKind.TheVariants as kinds;
 ghost use Rattle.til_parser.specs.Lexemes.{between_marks};
 ghost use Rattle.til_parser.specs.Numbers.{whole_of, numerator_of, denominator_of, lowest};
 ghost use Rattle.til_parser.specs.ReadTypes as spec;
-ghost use Rattle.til_parser.specs.Reading.{Reads};
+ghost use Rattle.tydi_reading.specs.Reading.{Reads};
 ghost use Rattle.tydi_base.specs.Decimal.{read_on};
 
-use crate::fault::ParseFault;
 use crate::parser::Parser;
 use crate::tree::{AstName, AstPath};
 use til_lexer::TokenKind;
 use tydi_base::{Frac, Level, List, Name, Text, number_of_digits};
+use tydi_reading::Fault;
 
 impl<'a> Parser<'a> {
     /// `name`
-    #[tactic(auto, unfolding(crate::specs::Reading::leaf))]
-    pub(crate) fn name(&mut self) -> Result<AstName, ParseFault>
+    #[tactic(auto, unfolding(crate::specs::Reading::token))]
+    pub(crate) fn name(&mut self) -> Result<AstName, Fault>
         ensures { Reads (spec.name self.old) result self.new }
     {
         let Some((place, spelling)) = self.next_of(TokenKind::Word) else {
-            return Err(self.refusal());
+            return Err(Fault::Refused);
         };
         let Some(name) = Name::read(self.alloc(), spelling.as_bytes())? else {
-            return Err(self.refusal());
+            return Err(Fault::Refused);
         };
         self.skip();
         Ok(AstName { name, place })
     }
 
     /// `whole`: a number without a point.
-    #[tactic(auto, unfolding(crate::specs::Reading::leaf))]
-    pub(crate) fn whole(&mut self) -> Result<u64, ParseFault>
+    #[tactic(auto, unfolding(crate::specs::Reading::token))]
+    pub(crate) fn whole(&mut self) -> Result<u64, Fault>
         ensures { Reads (spec.whole self.old) result self.new }
     {
         let Some((_, spelling)) = self.next_of(TokenKind::Number) else {
-            return Err(self.refusal());
+            return Err(Fault::Refused);
         };
         let Some(whole) = whole_number(spelling) else {
-            return Err(self.refusal());
+            return Err(Fault::Refused);
         };
         self.skip();
         Ok(whole)
     }
 
     /// A whole number from 1 to 8.
-    #[tactic(auto, unfolding(crate::specs::Reading::leaf))]
-    pub(crate) fn level(&mut self) -> Result<Level, ParseFault>
+    #[tactic(auto, unfolding(crate::specs::Reading::token))]
+    pub(crate) fn level(&mut self) -> Result<Level, Fault>
         ensures { Reads (spec.level self.old) result self.new }
     {
         let Some((_, spelling)) = self.next_of(TokenKind::Number) else {
-            return Err(self.refusal());
+            return Err(Fault::Refused);
         };
         let Some(level) = level_of(whole_number(spelling)) else {
-            return Err(self.refusal());
+            return Err(Fault::Refused);
         };
         self.skip();
         Ok(level)
     }
 
     /// `number`, as a fraction in lowest terms.
-    #[tactic(auto, unfolding(crate::specs::Reading::leaf))]
-    pub(crate) fn number(&mut self) -> Result<Frac, ParseFault>
+    #[tactic(auto, unfolding(crate::specs::Reading::token))]
+    pub(crate) fn number(&mut self) -> Result<Frac, Fault>
         ensures { Reads (spec.number self.old) result self.new }
     {
         let Some((_, spelling)) = self.next_of(TokenKind::Number) else {
-            return Err(self.refusal());
+            return Err(Fault::Refused);
         };
         let number = fraction_of(spelling);
         self.skip();
@@ -78,12 +78,12 @@ impl<'a> Parser<'a> {
     }
 
     /// `quoted`: the text between the two `"`.
-    #[tactic(auto, unfolding(crate::specs::Reading::leaf))]
-    pub(crate) fn quoted(&mut self) -> Result<Text, ParseFault>
+    #[tactic(auto, unfolding(crate::specs::Reading::token))]
+    pub(crate) fn quoted(&mut self) -> Result<Text, Fault>
         ensures { Reads (spec.quoted self.old) result self.new }
     {
         let Some((_, spelling)) = self.next_of(TokenKind::Quoted) else {
-            return Err(self.refusal());
+            return Err(Fault::Refused);
         };
         let text = Text::new(self.alloc(), inside(spelling))?;
         self.skip();
@@ -92,7 +92,7 @@ impl<'a> Parser<'a> {
 
     /// `[doc]`: the text between the two `#`, where documentation stands next.
     #[tactic(auto, unfolding(crate::specs::ReadTypes::doc))]
-    pub(crate) fn doc(&mut self) -> Result<Option<Text>, ParseFault>
+    pub(crate) fn doc(&mut self) -> Result<Option<Text>, Fault>
         ensures { Reads (spec.doc self.old) result self.new }
     {
         let Some((_, spelling)) = self.next_of(TokenKind::Doc) else {
@@ -105,7 +105,7 @@ impl<'a> Parser<'a> {
 
     /// `path`
     #[tactic(auto, unfolding(crate::specs::ReadTypes::path))]
-    pub(crate) fn path(&mut self) -> Result<AstPath, ParseFault>
+    pub(crate) fn path(&mut self) -> Result<AstPath, Fault>
         ensures { Reads (spec.path self.old) result self.new }
     {
         let mut names = List::new(self.alloc());

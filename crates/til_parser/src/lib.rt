@@ -2,7 +2,7 @@
 //! text spell, or why they spell none; `print` gives the canonical text of a tree. `specs/Grammar.antt` says which tokens spell
 //! which tree, by recursion on the tree, and `specs/Canonical.antt` what the canonical text is. Two laws tie them: no text spells
 //! two trees, and the canonical text of a tree that a text spells, spells that tree again, places aside. The crate stands on
-//! `tydi_base` and, for the tokens, on `til_lexer`.
+//! `tydi_base`, for the tokens on `til_lexer`, and for the steps of reading on `tydi_reading`.
 #![tactic(auto)]
 
 mod arguments;

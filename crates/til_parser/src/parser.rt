@@ -1,18 +1,18 @@
 //! The tokens that are not taken yet, and the steps over them.
 
-ghost use Rattle.std.specs.Prelude.{◌≡◌, Ok, Err, All, IfSome, option_map};
+ghost use Rattle.std.specs.Prelude.{◌≡◌, true, false, if◌then◌else◌, All, IfSome, length, option_map};
 ghost use Rattle.til_lexer.specs.Slices.{IsTokenOf};
 ghost use Rattle.til_lexer.specs.Spelling.{HasForm, own_text};
-ghost use Rattle.til_parser.specs.Lexemes.{HasFormIn, lexemes_of};
-ghost use Rattle.til_parser.specs.ReadTypes.{too_deep};
+ghost use Rattle.til_parser.specs.Lexemes.{Lexeme, HasFormIn, lexemes_of};
 ghost use Rattle.til_parser.specs.Reading as spec;
-ghost use Rattle.til_parser.specs.Reading.{Reads};
+ghost use Rattle.til_parser.specs.declared.ltype.AstType.{AstType};
+ghost use Rattle.tydi_reading.specs.Reading.{Outcome, Reads, rest_of, stopped, tells, too_deep};
 
-use crate::fault::ParseFault;
 use std::alloc::Global;
 use std::marker::Model;
 use til_lexer::{Token, TokenKind};
 use tydi_base::Place;
+use tydi_reading::Fault;
 
 /// The tokens of a text that are not taken yet. Contracts see these.
 #[derive(Drop)]
@@ -20,9 +20,6 @@ pub(crate) struct Parser<'a> {
     alloc: Global,
     text: &'a str,
     rest: &'a [Token],
-
-    /// How many tokens are taken.
-    taken: usize,
 }
 
 impl<'a> Model for Parser<'a> {
@@ -49,7 +46,6 @@ impl<'a> Parser<'a> {
             alloc,
             text,
             rest: tokens,
-            taken: 0,
         }
     }
 
@@ -57,16 +53,23 @@ impl<'a> Parser<'a> {
         self.alloc
     }
 
+    /// How many tokens are left.
+    pub(crate) fn left(&self) -> usize
+        ensures { result ≡ length self.now }
+    {
+        self.rest.len()
+    }
+
     /// Whether no token is left.
     pub(crate) fn is_at_end(&self) -> bool
-        ensures { result ≡ spec.at_end self.now }
+        ensures { result ≡ tells (λ _. false) true self.now }
     {
         self.rest.is_empty()
     }
 
     /// Whether the next token is of this kind.
     pub(crate) fn sees(&self, kind: TokenKind) -> bool
-        ensures { result ≡ spec.sees kind self.now }
+        ensures { result ≡ tells (spec.is_kind kind) false self.now }
     {
         match self.rest {
             [next, ..] => same_kind(next.kind, kind),
@@ -76,7 +79,7 @@ impl<'a> Parser<'a> {
 
     /// Whether the next token is this word.
     pub(crate) fn sees_word(&self, word: &str) -> bool
-        ensures { result ≡ spec.sees_word word.now self.now }
+        ensures { result ≡ tells (spec.is_word word.now) false self.now }
     {
         match self.rest {
             [next, ..] => {
@@ -101,18 +104,17 @@ impl<'a> Parser<'a> {
 
     /// Takes the next token, where there is one.
     pub(crate) fn skip(&mut self)
-        ensures { spec.skip self.old ≡ Ok (result, self.new) }
+        ensures { self.new ≡ rest_of self.old }
     {
         if let [_, rest @ ..] = self.rest {
             self.rest = rest;
-            self.taken += 1;
         }
     }
 
     /// Takes the next token where it is of this kind, and says whether it was.
-    #[tactic(auto, unfolding(crate::specs::Reading::eat))]
     pub(crate) fn eat(&mut self, kind: TokenKind) -> bool
-        ensures { spec.eat kind self.old ≡ Ok (result, self.new) }
+        ensures seen { result ≡ tells (spec.is_kind kind) false self.old }
+        ensures taken { self.new ≡ (if result then rest_of self.old else self.old) }
     {
         let seen = self.sees(kind);
         if seen {
@@ -122,9 +124,9 @@ impl<'a> Parser<'a> {
     }
 
     /// Takes the next token where it is this word, and says whether it was.
-    #[tactic(auto, unfolding(crate::specs::Reading::eat_word))]
     pub(crate) fn eat_word(&mut self, word: &str) -> bool
-        ensures { spec.eat_word word.now self.old ≡ Ok (result, self.new) }
+        ensures seen { result ≡ tells (spec.is_word word.now) false self.old }
+        ensures taken { self.new ≡ (if result then rest_of self.old else self.old) }
     {
         let seen = self.sees_word(word);
         if seen {
@@ -134,46 +136,36 @@ impl<'a> Parser<'a> {
     }
 
     /// Takes the next token, which is to be of this kind.
-    #[tactic(auto, unfolding(crate::specs::Reading::expect))]
-    pub(crate) fn expect(&mut self, kind: TokenKind) -> Result<(), ParseFault>
+    #[tactic(auto, unfolding(tydi_reading::specs::Lists::mark))]
+    pub(crate) fn expect(&mut self, kind: TokenKind) -> Result<(), Fault>
         ensures { Reads (spec.expect kind self.old) result self.new }
     {
         if !self.sees(kind) {
-            return Err(self.refusal());
+            return Err(Fault::Refused);
         }
         self.skip();
         Ok(())
     }
 
     /// Takes the next token, which is to be this word.
-    #[tactic(auto, unfolding(crate::specs::Reading::expect_word))]
-    pub(crate) fn expect_word(&mut self, word: &str) -> Result<(), ParseFault>
+    #[tactic(auto, unfolding(tydi_reading::specs::Lists::mark))]
+    pub(crate) fn expect_word(&mut self, word: &str) -> Result<(), Fault>
         ensures { Reads (spec.expect_word word.now self.old) result self.new }
     {
         if !self.sees_word(word) {
-            return Err(self.refusal());
+            return Err(Fault::Refused);
         }
         self.skip();
         Ok(())
     }
 
     /// Why no type may stand here, inside as many others as are allowed.
-    pub(crate) fn too_deep(&self) -> ParseFault
-        ensures { too_deep self.now ≡ Err result }
+    pub(crate) fn too_deep(&self) -> Fault
+        ensures { ◌≡◌ {A = Outcome Lexeme AstType} (too_deep spec.begins_type self.now) (stopped result self.now) }
     {
         match self.rest {
-            [next, ..] if same_kind(next.kind, TokenKind::Word) => ParseFault::TooDeep(self.taken),
-            _ => self.refusal(),
-        }
-    }
-
-    /// Why no rule goes on with the next token.
-    pub(crate) fn refusal(&self) -> ParseFault
-        ensures { result ≡ spec.refusal self.now }
-    {
-        match self.rest {
-            [_, ..] => ParseFault::Unexpected(self.taken),
-            [] => ParseFault::EndOfText,
+            [next, ..] if same_kind(next.kind, TokenKind::Word) => Fault::TooDeep,
+            _ => Fault::Refused,
         }
     }
 }

@@ -3,7 +3,8 @@
 ghost use Rattle.std.specs.Prelude.{◌≡◌, ◌≢◌, Ok, IfOk, IfErr, length};
 ghost use Rattle.til_lexer.specs.Tokens.{tokens_of};
 ghost use Rattle.til_parser.specs.declared.fault.ParseFault.TheVariants as faults;
-ghost use Rattle.til_parser.specs.Faults.{NamesToken};
+ghost use Rattle.til_parser.specs.Faults as spec;
+ghost use Rattle.til_parser.specs.Faults.{NamesToken, IsFaultOf};
 ghost use Rattle.til_parser.specs.Grammar.{Spells, SpellNone, IsWithin, most_levels};
 ghost use Rattle.til_parser.specs.Lexemes.{lexemes_of};
 
@@ -12,6 +13,7 @@ use crate::parser::Parser;
 use crate::tree::Ast;
 use std::alloc::Global;
 use til_lexer::{Token, tokens_are_of_the_text, tokens_have_their_form};
+use tydi_reading::Fault;
 
 /// How deep types may nest.
 const MOST_LEVELS: usize = 64;
@@ -25,8 +27,25 @@ pub fn parse(alloc: Global, text: &str, tokens: &[Token]) -> Result<Ast, ParseFa
     ensures within { IfOk result (λ ast. IsWithin most_levels ast) }
     ensures none { IfErr result (λ fault. fault ≢ faults.Memory → SpellNone (lexemes_of text.now tokens.now)) }
     ensures named { IfErr result (NamesToken (length tokens.now)) }
+    ensures exact { IfErr result (IsFaultOf (lexemes_of text.now tokens.now)) }
 {
     tokens_are_of_the_text();
     tokens_have_their_form();
-    Parser::new(alloc, text, tokens).project(MOST_LEVELS)
+    let mut parser = Parser::new(alloc, text, tokens);
+    match parser.project(MOST_LEVELS) {
+        Ok(ast) => Ok(ast),
+        Err(fault) => Err(fault_at(fault, tokens.len(), parser.left())),
+    }
+}
+
+/// What a fault says of so many tokens, where so many are left.
+fn fault_at(fault: Fault, count: usize, left: usize) -> ParseFault
+    ensures { result ≡ spec.fault_at fault count left }
+{
+    match fault {
+        Fault::Refused if left == 0 => ParseFault::EndOfText,
+        Fault::Refused => ParseFault::Unexpected(count.saturating_sub(left)),
+        Fault::TooDeep => ParseFault::TooDeep(count.saturating_sub(left)),
+        Fault::Memory => ParseFault::Memory,
+    }
 }

@@ -1,21 +1,24 @@
 //! Types, and the arguments of a Stream.
 
-ghost use Rattle.std.specs.Prelude.{◌≡◌};
+ghost use Rattle.std.specs.Prelude.{◌≡◌, false};
 ghost use Rattle.til_parser.specs.ReadTypes as spec;
-ghost use Rattle.til_parser.specs.Reading.{Reads, loop};
+ghost use Rattle.til_parser.specs.Reading as reading;
+ghost use Rattle.tydi_reading.specs.Lists.{separated};
+ghost use Rattle.tydi_reading.specs.Reading.{Reads, rest_of};
+ghost use Rattle.til_lexer.specs.declared.token.TokenKind.TheVariants as kinds;
 
 use crate::arguments::Arguments;
-use crate::fault::ParseFault;
 use crate::ltype::{AstPart, AstStream, AstSync, AstType};
 use crate::parser::Parser;
 use til_lexer::TokenKind;
 use tydi_base::{Boxed, List};
+use tydi_reading::Fault;
 
 impl<'a> Parser<'a> {
     /// `type`, of at most so many levels.
     #[cycle(ltype)]
-    #[tactic(auto, unfolding(crate::specs::ReadTypes::ltype))]
-    pub(crate) fn ltype(&mut self, levels: usize) -> Result<AstType, ParseFault>
+    #[tactic(auto, unfolding(crate::specs::ReadTypes::ltype, tydi_reading::specs::Lists::mark))]
+    pub(crate) fn ltype(&mut self, levels: usize) -> Result<AstType, Fault>
         ensures { Reads (spec.ltype levels self.old) result self.new }
     {
         if levels == 0 {
@@ -43,7 +46,7 @@ impl<'a> Parser<'a> {
     /// `"(" [ part { "," part } [ "," ] ] ")"`, of types of at most so many levels.
     #[cycle(ltype)]
     #[tactic(auto, unfolding(crate::specs::ReadTypes::bracketed))]
-    fn parts(&mut self, levels: usize) -> Result<List<AstPart>, ParseFault>
+    fn parts(&mut self, levels: usize) -> Result<List<AstPart>, Fault>
         ensures { Reads (spec.bracketed (spec.part (spec.ltype levels)) self.old) result self.new }
     {
         self.expect(TokenKind::OpenParen)?;
@@ -54,8 +57,8 @@ impl<'a> Parser<'a> {
 
     /// `[ part { "," part } [ "," ] ]`, up to a closing bracket, of types of at most so many levels.
     #[cycle(ltype)]
-    fn separated_parts(&mut self, levels: usize) -> Result<List<AstPart>, ParseFault>
-        ensures { Reads (spec.separated (spec.part (spec.ltype levels)) self.old) result self.new }
+    fn separated_parts(&mut self, levels: usize) -> Result<List<AstPart>, Fault>
+        ensures { Reads (separated (reading.is_kind kinds.CloseParen) false (reading.is_kind kinds.Comma) (spec.part (spec.ltype levels)) self.old) result self.new }
     {
         let mut parts = List::new(self.alloc());
         'parts: while !self.sees(TokenKind::CloseParen) {
@@ -70,7 +73,7 @@ impl<'a> Parser<'a> {
     /// `part`, of a type of at most so many levels.
     #[cycle(ltype)]
     #[tactic(auto, unfolding(crate::specs::ReadTypes::part))]
-    fn part(&mut self, levels: usize) -> Result<AstPart, ParseFault>
+    fn part(&mut self, levels: usize) -> Result<AstPart, Fault>
         ensures { Reads (spec.part (spec.ltype levels) self.old) result self.new }
     {
         let name = self.name()?;
@@ -82,38 +85,37 @@ impl<'a> Parser<'a> {
     /// `"(" arg { "," arg } [ "," ] ")"`, of types of at most so many levels.
     #[cycle(ltype)]
     #[tactic(auto, unfolding(crate::specs::ReadTypes::stream))]
-    fn stream(&mut self, levels: usize) -> Result<AstStream, ParseFault>
+    fn stream(&mut self, levels: usize) -> Result<AstStream, Fault>
         ensures { Reads (spec.stream (spec.ltype levels) self.old) result self.new }
     {
         self.expect(TokenKind::OpenParen)?;
-        let first = self.argument(Arguments::none(), levels)?;
-        let given = self.arguments(first, levels)?;
+        let given = self.arguments(levels)?;
         let Some(stream) = given.into_stream() else {
-            return Err(self.refusal());
+            return Err(Fault::Refused);
         };
         self.expect(TokenKind::CloseParen)?;
         Ok(stream)
     }
 
-    /// `{ "," arg } [ "," ]`, after the first argument, of types of at most so many levels.
+    /// `[ arg { "," arg } [ "," ] ]`, up to a closing bracket, of types of at most so many levels.
     #[cycle(ltype)]
-    fn arguments(&mut self, first: Arguments, levels: usize) -> Result<Arguments, ParseFault>
-        ensures { Reads (loop (spec.argument_turn (spec.ltype levels)) first self.old) result self.new }
+    fn arguments(&mut self, levels: usize) -> Result<Arguments, Fault>
+        ensures { Reads (spec.arguments (spec.ltype levels) spec.none_given self.old) result self.new }
     {
-        let mut given = first;
-        'arguments: while self.eat(TokenKind::Comma) {
-            if self.sees(TokenKind::CloseParen) {
+        let mut given = Arguments::none();
+        'arguments: while !self.sees(TokenKind::CloseParen) {
+            given = self.argument(given, levels)?;
+            if !self.eat(TokenKind::Comma) {
                 return Ok(given);
             }
-            given = self.argument(given, levels)?;
         }
         Ok(given)
     }
 
     /// An argument whose value may hold a type of at most so many levels.
     #[cycle(ltype)]
-    #[tactic(auto, unfolding(crate::specs::ReadTypes::argument))]
-    fn argument(&mut self, given: Arguments, levels: usize) -> Result<Arguments, ParseFault>
+    #[tactic(auto, unfolding(crate::specs::ReadTypes::argument, crate::specs::ReadTypes::labelled))]
+    fn argument(&mut self, given: Arguments, levels: usize) -> Result<Arguments, Fault>
         ensures { Reads (spec.argument (spec.ltype levels) given self.old) result self.new }
     {
         if self.awaits("data", &given.element) {
@@ -138,8 +140,8 @@ impl<'a> Parser<'a> {
     }
 
     /// An argument whose value holds no type.
-    #[tactic(auto, unfolding(crate::specs::ReadTypes::setting))]
-    fn setting(&mut self, given: Arguments) -> Result<Arguments, ParseFault>
+    #[tactic(auto, unfolding(crate::specs::ReadTypes::setting, crate::specs::ReadTypes::labelled))]
+    fn setting(&mut self, given: Arguments) -> Result<Arguments, Fault>
         ensures { Reads (spec.setting given self.old) result self.new }
     {
         if self.awaits("dimensionality", &given.dims) {
@@ -167,7 +169,7 @@ impl<'a> Parser<'a> {
             let keep = Some(self.either_word("true", "false")?);
             return Ok(Arguments { keep, ..given });
         }
-        Err(self.refusal())
+        Err(Fault::Refused)
     }
 
     /// Whether an argument of this name stands next that is not given yet.
@@ -178,16 +180,15 @@ impl<'a> Parser<'a> {
     }
 
     /// The name of an argument, and the colon after it.
-    #[tactic(auto, unfolding(crate::specs::ReadTypes::label))]
-    fn label(&mut self) -> Result<(), ParseFault>
-        ensures { Reads (spec.label self.old) result self.new }
+    fn label(&mut self) -> Result<(), Fault>
+        ensures { Reads (reading.expect kinds.Colon (rest_of self.old)) result self.new }
     {
         self.skip();
         self.expect(TokenKind::Colon)
     }
 
-    #[tactic(auto, unfolding(crate::specs::ReadTypes::sync))]
-    fn sync(&mut self) -> Result<AstSync, ParseFault>
+    #[tactic(auto, unfolding(crate::specs::ReadTypes::sync, tydi_reading::specs::Lists::mark))]
+    fn sync(&mut self) -> Result<AstSync, Fault>
         ensures { Reads (spec.sync self.old) result self.new }
     {
         if self.eat_word("Sync") {
@@ -204,8 +205,8 @@ impl<'a> Parser<'a> {
     }
 
     /// Which of two words stands next: true for the first.
-    #[tactic(auto, unfolding(crate::specs::ReadTypes::either_word))]
-    pub(crate) fn either_word(&mut self, first: &str, second: &str) -> Result<bool, ParseFault>
+    #[tactic(auto, unfolding(crate::specs::ReadTypes::either_word, tydi_reading::specs::Lists::mark))]
+    pub(crate) fn either_word(&mut self, first: &str, second: &str) -> Result<bool, Fault>
         ensures { Reads (spec.either_word first.now second.now self.old) result self.new }
     {
         if self.eat_word(first) {
@@ -217,7 +218,7 @@ impl<'a> Parser<'a> {
 
     /// `"(" whole ")"`
     #[tactic(auto, unfolding(crate::specs::ReadTypes::bits))]
-    fn bits(&mut self) -> Result<u64, ParseFault>
+    fn bits(&mut self) -> Result<u64, Fault>
         ensures { Reads (spec.bits self.old) result self.new }
     {
         self.expect(TokenKind::OpenParen)?;

@@ -1,15 +1,17 @@
 //! The program: the words, the system's files and the standard streams, handed to `run`; its status is the exit status.
 #![tactic(auto)]
 
-ghost use Rattle.std.specs.Prelude.{◌≡◌, IfErr};
+ghost use Rattle.std.specs.Prelude.{◌≡◌, drop, map, string_bytes, IfOk, IfErr};
 ghost use Rattle.std.specs.IoError.{error_kind};
 ghost use Rattle.std.specs.Process.{exit_status};
+ghost use Rattle.std.specs.Vec.Iter.{into_iter_items};
 ghost use Rattle.tydi.specs.Exit.{EndsByWords, IsWithoutWords};
 ghost use Rattle.tydi_tool.specs.Outcome.{exit_code};
 ghost use Rattle.tydi_tool.specs.Words.{request_of};
 ghost use Rattle.tydi_tool.specs.declared.status.Status.TheVariants as statuses;
 
-use std::env;
+use std::alloc::Global;
+use std::env::{self, Args};
 use std::io::{Error, ErrorKind};
 use std::process::ExitCode;
 use std::rt::Env;
@@ -18,11 +20,10 @@ use tydi_io::{FileStore, StreamSink};
 use tydi_tool::{Status, run};
 
 fn main(rt: HostRuntime) -> ExitCode {
-    let status = match words_after_name(&rt) {
-        Ok(words) => run_with(&rt, words.as_slice()),
-        Err(status) => status,
-    };
-    exit_of(status)
+    match words_after_name(&rt) {
+        Ok(words) => exit_of(run_with(&rt, words.as_slice())),
+        Err(status) => exit_of(status),
+    }
 }
 
 /// The exit status that a run ends with.
@@ -46,19 +47,32 @@ fn run_with(rt: &HostRuntime, words: &[Text]) -> Status
 fn words_after_name(rt: &(impl Env + AllocGlobal)) -> Result<List<Text>, Status>
     ensures { IfErr result IsWithoutWords }
 {
-    let mut words = List::new(rt.alloc());
-    for word in env::args(rt).map_err(status_of_words)?.skip(1) {
-        words
-            .push(Text::from_string(word))
-            .map_err(|_| Status::Memory)?;
+    match env::args(rt) {
+        Ok(words) => texts_after_first(rt.alloc(), words),
+        Err(error) => Err(status_of_words(&error)),
     }
-    Ok(words)
+}
+
+/// The words after the first as texts, each as it is.
+fn texts_after_first(alloc: Global, words: Args) -> Result<List<Text>, Status>
+    ensures all { IfOk result (λ texts. texts ≡ map string_bytes (drop 1 (into_iter_items words))) }
+    ensures memory { IfErr result (λ status. status ≡ statuses.Memory) }
+{
+    let mut words = words;
+    let _name = words.next();
+    let mut texts = List::new(alloc);
+    'words: for word in words {
+        if texts.push(Text::from_string(word)).is_err() {
+            return Err(Status::Memory);
+        }
+    }
+    Ok(texts)
 }
 
 /// The status where the words could not be had.
-fn status_of_words(error: Error) -> Status
-    ensures memory { error_kind error ≡ ErrorKind.OutOfMemory → result ≡ statuses.Memory }
-    ensures no_text { (error_kind error ≡ ErrorKind.OutOfMemory → ⊥) → result ≡ statuses.Usage }
+fn status_of_words(error: &Error) -> Status
+    ensures memory { error_kind error.now ≡ ErrorKind.OutOfMemory → result ≡ statuses.Memory }
+    ensures no_text { (error_kind error.now ≡ ErrorKind.OutOfMemory → ⊥) → result ≡ statuses.Usage }
 {
     if error.kind() == ErrorKind::OutOfMemory {
         Status::Memory

@@ -1,11 +1,10 @@
 -- Sixteen hexadecimal digits in the lanes of a vector.
-use Rattle.std.proofs.Common.{◌≡◌, ◌∙◌, sym, subst, ℕ, zero, suc, ◌+◌, ◌-◌, ◌*◌, ◌%◌, ◌^◌, ◌<◌, ◌≤◌, Bool, true, false, cond, Option, Some, None, eqb, ltb, leb, List, [], ◌∷◌, ◌++◌, map, length, get_or, replicate, Fits, w8, refl, ap, arith}
+use Rattle.std.proofs.Common.{◌≡◌, ◌∙◌, sym, subst, ℕ, ◌+◌, ◌-◌, ◌*◌, ◌%◌, ◌^◌, ◌<◌, ◌≤◌, Bool, cond, Option, Some, None, ltb, leb, List, [], ◌∷◌, ◌++◌, map, length, replicate, Fits, w8, refl, ap, arith}
 use Rattle.std.proofs.lemmas.Bool.Decides.{nat_tests}
 use Rattle.std.specs.Simd.Lanes.{zip2, sel_l, top, mask_l, pick_l, Each1}
-use Rattle.std.proofs.lemmas.Bool.{leb-false, leb-true}
 use Rattle.std.proofs.lemmas.List.{length-map, length-replicate}
 use Rattle.std.proofs.lemmas.Simd.{mask_l-mod, length-zip2, pick_l_whole}
-use Rattle.tydi_base.specs.Bits.{bits_of, unpack}
+use Rattle.tydi_base.specs.Bits.{unpack}
 use Rattle.tydi_base.specs.Hex.{bits_of_digits, byte_of_digits, digit_of, marked_digit}
 use Rattle.tydi_base.proofs.BitsLemmas.{unpack-nil, unpack-push}
 use Rattle.tydi_base.proofs.HexLemmas.{bits_of_digits-nil, hex_digit-digit_of, parts}

@@ -8,11 +8,14 @@ pub mod BitsLemmas
 pub mod BitPlaces
 pub mod HexLemmas
 pub mod HexBytes
+pub mod HexFilling
 pub mod HexLanes
 pub mod NumberLemmas
 pub mod SpellingLemmas
 pub mod FracLaws
 pub mod HexWordLemmas
 pub mod HexPacking
+pub mod PartLemmas
 pub mod SliceLemmas
 pub mod WritingLemmas
+pub mod WidthLaws

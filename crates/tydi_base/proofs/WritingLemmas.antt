@@ -1,5 +1,5 @@
 -- Texts as they are written, part after part.
-use Rattle.std.proofs.Common.{◌≡◌, ◌∙◌, ℕ, ◌++◌, ◌≤◌, List, length, take, ap, arith}
+use Rattle.std.proofs.Common.{◌∙◌, ℕ, ◌++◌, ◌≤◌, List, length, ap, arith}
 use Rattle.std.proofs.lemmas.List.{length-take, take-append-le}
 use Rattle.tydi_base.specs.Writing.{StandsInFront}
 

@@ -2,15 +2,16 @@
 use Rattle.std.specs.Prelude.{◌≡◌, ℕ, ◌+◌, ◌-◌, ◌*◌, ◌<◌, ◌^◌, Bool, ◌==◌, ◌&&◌, ◌||◌, not, nat_lt, List, [], ◌∷◌, length, slice_index, Option, Some, None, if◌then◌else◌, decimal}
 use Rattle.std.specs.List.{list_all}
 use Rattle.std.specs.Char.{is_ascii_digit}
+use Rattle.tydi_base.specs.declared.decimal.TheConstants.{ZERO}
 
 -- the number that digits spell after the digits of this one
 abbrev pub read_on : ℕ → List ℕ → ℕ
 read_on n [] = n
-read_on n (digit ∷ digits) = read_on (10 * n + (digit - 48)) digits
+read_on n (digit ∷ digits) = read_on (10 * n + (digit - ZERO)) digits
 
 -- digits that spell a number: at least one, each of them `0` to `9`, and the first is `0` only where it stands alone
 abbrev pub is_decimal : List ℕ → Bool
-is_decimal digits = nat_lt 0 (length digits) && list_all is_ascii_digit digits && (not (slice_index digits 0 == 48) || length digits == 1)
+is_decimal digits = nat_lt 0 (length digits) && list_all is_ascii_digit digits && (not (slice_index digits 0 == ZERO) || length digits == 1)
 
 -- the number that digits spell
 abbrev pub decimal_of : List ℕ → Option ℕ

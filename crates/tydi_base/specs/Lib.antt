@@ -10,4 +10,5 @@ pub mod Name
 pub mod Path
 pub mod Frac
 pub mod Writing
+pub mod Width
 pub mod formers

@@ -73,17 +73,6 @@ impl Bits {
         }
     }
 
-    /// As `from_exact_hex`.
-    pub fn from_hexadecimal(
-        alloc: Global,
-        width: usize,
-        digits: &[u8],
-    ) -> Result<Option<Bits>, Memory>
-        ensures { IfOk result (λ read. read ≡ word_at width digits.now) }
-    {
-        Bits::from_exact_hex(alloc, width, digits)
-    }
-
     /// Becomes the word of its width that these hexadecimal digits spell, the highest first. False exactly where they spell
     /// none, as `from_exact_hex` says; then only its width is as before. It takes no memory.
     pub fn read_exact_hex(&mut self, digits: &[u8]) -> bool
@@ -204,7 +193,7 @@ impl Bits {
 
     /// The number that it spells. None exactly where a one stands at index 128 or above.
     pub fn number(&self) -> Option<u128>
-        ensures { result ≡ number_below 128 self.now }
+        ensures { result ≡ number_below u128.BITS self.now }
     {
         number_of(self.bytes.as_slice())
     }

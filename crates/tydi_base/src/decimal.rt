@@ -9,6 +9,9 @@ use crate::list::List;
 use crate::memory::Memory;
 use itoa::Buffer;
 
+/// The digit of nothing.
+pub(crate) const ZERO: u8 = b'0';
+
 /// The number that these digits spell: at least one digit, and no leading zero. None exactly where they spell none, or
 /// one of 2 ^ 64 or more.
 pub fn read_decimal(digits: &[u8]) -> Option<u64>
@@ -24,7 +27,7 @@ pub fn read_decimal(digits: &[u8]) -> Option<u64>
 fn is_decimal(digits: &[u8]) -> bool
     ensures { result ≡ spec.is_decimal digits.now }
 {
-    let leading_zero = digits.len() > 1 && digits[0] == b'0';
+    let leading_zero = digits.len() > 1 && digits[0] == ZERO;
     !digits.is_empty() && !leading_zero && are_digits(digits)
 }
 
@@ -42,7 +45,7 @@ pub fn number_of_digits(digits: &[u8]) -> Option<u64>
 {
     let mut value: u64 = 0;
     for digit in digits {
-        value = with_digit(value, *digit - b'0')?;
+        value = with_digit(value, *digit - ZERO)?;
     }
     Some(value)
 }

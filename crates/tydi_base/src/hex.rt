@@ -3,6 +3,7 @@ ghost use Rattle.tydi_base.specs.Bits.{bits_of, unpack};
 ghost use Rattle.tydi_base.specs.Hex.{hex_digit, hex_of, digit_of, byte_of_digits, word_at};
 ghost use Rattle.tydi_base.specs.Writing.{StandsInFront};
 
+use crate::decimal::ZERO;
 use crate::list::List;
 use crate::memory::Memory;
 
@@ -13,6 +14,9 @@ pub fn hexadecimal_is_read_as_spelled()
         → (digits ≡ hex_of bits) × (length bits ≡ width) }
 {}
 
+/// The first digit that is a letter.
+pub(crate) const LETTER_A: u8 = b'a';
+
 /// The value of a hexadecimal digit, `0` to `9` or `a` to `f`. None where the byte is none.
 // It branches on nothing but whether the byte is a digit, since that is foreseen, and which digit it is is not.
 #[inline(always)]
@@ -21,8 +25,8 @@ pub fn digit_value(byte: u8) -> Option<u8>
     ensures value { result ≡ digit_of byte }
     ensures below { IfSome result (λ value. value < 16) }
 {
-    let letter = (byte >= b'a') as u8;
-    let value = byte.wrapping_sub(b'0' + 39 * letter);
+    let letter = (byte >= LETTER_A) as u8;
+    let value = byte.wrapping_sub(ZERO + (LETTER_A - 10 - ZERO) * letter);
     if value < 10 + 6 * letter {
         Some(value)
     } else {
@@ -48,9 +52,9 @@ fn hex_digit(value: u8) -> u8
     ensures { result ≡ hex_digit value }
 {
     if value < 10 {
-        b'0' + value
+        ZERO + value
     } else {
-        b'a' + (value - 10)
+        LETTER_A + (value - 10)
     }
 }
 

@@ -4,8 +4,12 @@ ghost use Rattle.std.specs.Prelude.{◌≡◌, ◌+◌, ◌*◌, ◌/◌, ◌%�
 ghost use Rattle.tydi_base.specs.Bits.{unpack};
 ghost use Rattle.tydi_base.specs.Hex.{bits_of_digits, marked_digit, whole_bytes};
 
-use crate::hex::{byte_value, digit_value};
+use crate::decimal::ZERO;
+use crate::hex::{LETTER_A, byte_value, digit_value};
 use std::simd::prelude::*;
+
+/// What stands for the value of a byte that is no digit.
+const NO_DIGIT: u8 = 255;
 
 /// Fills bytes with these digits, the last two in the first byte. False where one of them is no digit.
 pub(crate) fn fill_digits(digits: &[u8], bytes: &mut [u8]) -> bool
@@ -88,13 +92,15 @@ fn block_of(digits: &[u8]) -> Option<[u8; 8]>
     Some((high * u8x8::splat(16) + low).to_array())
 }
 
-/// The value of each digit, or 255 where the byte is none.
+/// The value of each digit, or `NO_DIGIT` where the byte is none.
 #[inline(always)]
 fn marked_values(digits: u8x16) -> u8x16
     ensures { result ≡ map marked_digit digits }
 {
-    let letters = digits.simd_ge(u8x16::splat(b'a'));
-    let values = digits - letters.select(u8x16::splat(b'a' - 10), u8x16::splat(b'0'));
+    let letters = digits.simd_ge(u8x16::splat(LETTER_A));
+    let values = digits - letters.select(u8x16::splat(LETTER_A - 10), u8x16::splat(ZERO));
     let limits = letters.select(u8x16::splat(16), u8x16::splat(10));
-    values.simd_lt(limits).select(values, u8x16::splat(255))
+    values
+        .simd_lt(limits)
+        .select(values, u8x16::splat(NO_DIGIT))
 }

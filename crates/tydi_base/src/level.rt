@@ -3,6 +3,12 @@ ghost use Rattle.tydi_base.specs.Level.{IsLevel, number_of};
 
 use std::marker::Model;
 
+/// The least level.
+const LEAST: u8 = 1;
+
+/// The greatest level.
+const GREATEST: u8 = 8;
+
 /// A complexity level of a stream, 1 to 8 (Tydi specification, complexity). All that depends on a level goes through
 /// `number`.
 #[derive(Clone, Copy, Debug, PartialEq, Eq)]
@@ -26,7 +32,7 @@ impl Level {
         ensures some { IsSome result ↔ IsLevel number }
         ensures value { IfSome result (λ level. number_of level ≡ number) }
     {
-        if number >= 1 && number <= 8 {
+        if number >= LEAST && number <= GREATEST {
             Some(Level { number })
         } else {
             None

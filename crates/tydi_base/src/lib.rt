@@ -23,10 +23,9 @@ mod place;
 #[cfg(test)]
 mod reading_tests;
 mod slices;
-#[cfg(test)]
-mod tests;
 mod text;
 mod try_clone;
+mod width;
 #[cfg(test)]
 mod word_tests;
 mod writing;
@@ -40,10 +39,11 @@ pub use hex_word::BitsFault;
 pub use level::Level;
 pub use list::List;
 pub use memory::Memory;
-pub use name::{Name, is_name};
+pub use name::{Name, has_name_form, is_name};
 pub use path::{Path, paths_are_read_as_spelled};
-pub use pieces::{first_piece, pieces_are_parts};
+pub use pieces::{LINE_FEED, SPACE, first_piece, pieces_are_parts};
 pub use place::Place;
 pub use text::Text;
 pub use try_clone::TryClone;
+pub use width::{index_width, index_width_is_least};
 pub use writing::{Colons, Each, Hex, Written};

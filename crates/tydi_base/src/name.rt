@@ -10,6 +10,9 @@ use crate::try_clone::TryClone;
 use std::alloc::Global;
 use std::marker::Model;
 
+/// What may join the words of a name.
+const UNDERSCORE: u8 = b'_';
+
 /// A name (Tydi specification, names): ASCII letters, digits and `_`, with a letter first, no two `_` together, no `_`
 /// last, and not one of the words `Null`, `Bits`, `Group`, `Union` and `Stream`. Contracts see its bytes.
 #[derive(Debug, Drop)]
@@ -58,15 +61,21 @@ impl TryClone for Name {
     }
 }
 
-/// Whether a text is a name.
+/// Whether a text is a name: it has the form of one, and is no reserved word.
 pub fn is_name(text: &[u8]) -> bool
     ensures { result ≡ spec.is_name text.now }
+{
+    has_name_form(text) && !is_reserved(text)
+}
+
+/// Whether a text has the form of a name; a reserved word may have it too.
+pub fn has_name_form(text: &[u8]) -> bool
+    ensures { result ≡ spec.has_name_form text.now }
 {
     begins_with_letter(text)
         && has_name_bytes(text)
         && !has_double_underscore(text)
         && !ends_in_underscore(text)
-        && !is_reserved(text)
 }
 
 fn begins_with_letter(text: &[u8]) -> bool
@@ -82,7 +91,7 @@ fn has_name_bytes(text: &[u8]) -> bool
     ensures { result ≡ list_all spec.is_name_byte text.now }
 {
     text.iter()
-        .all(|byte| byte.is_ascii_alphanumeric() || *byte == b'_')
+        .all(|byte| byte.is_ascii_alphanumeric() || *byte == UNDERSCORE)
 }
 
 fn has_double_underscore(text: &[u8]) -> bool
@@ -90,7 +99,7 @@ fn has_double_underscore(text: &[u8]) -> bool
 {
     let mut previous = 0;
     for byte in text {
-        if previous == b'_' && *byte == b'_' {
+        if previous == UNDERSCORE && *byte == UNDERSCORE {
             return true;
         }
         previous = *byte;
@@ -103,7 +112,7 @@ fn ends_in_underscore(text: &[u8]) -> bool
 {
     match text {
         [] => false,
-        [.., last] => *last == b'_',
+        [.., last] => *last == UNDERSCORE,
     }
 }
 

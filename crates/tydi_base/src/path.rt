@@ -30,6 +30,12 @@ use std::alloc::Global;
 use std::marker::Model;
 use std::slice;
 
+/// What stands between the names of a dotted path.
+const POINT: u8 = b'.';
+
+/// What stands twice between the names of a path of the language.
+const COLON: u8 = b':';
+
 /// A path (Tydi specification, paths): a list of names, which may be empty. Contracts see the list of their bytes.
 #[derive(Debug, Drop)]
 pub struct Path {
@@ -184,7 +190,7 @@ fn path_piece(text: &[u8], colons: bool) -> Option<(&[u8], &[u8])>
     if colons {
         first_colon_piece(text)
     } else {
-        first_piece(text, b'.')
+        first_piece(text, POINT)
     }
 }
 
@@ -207,7 +213,7 @@ fn begins_with_colons(text: &[u8]) -> bool
     ensures long { IsTrue result → 2 ≤ length text.now }
 {
     match text {
-        [b':', b':', ..] => true,
+        [COLON, COLON, ..] => true,
         _ => false,
     }
 }

@@ -5,6 +5,12 @@ ghost use Rattle.tydi_base.specs.Pieces as spec;
 
 use memchr::memchr;
 
+/// What stands between two words of a line.
+pub const SPACE: u8 = b' ';
+
+/// What ends a line.
+pub const LINE_FEED: u8 = b'\n';
+
 /// The text up to its first separator, and what follows that. None exactly where it has none. It reads no byte past the
 /// separator.
 pub fn first_piece(text: &[u8], separator: u8) -> Option<(&[u8], &[u8])>

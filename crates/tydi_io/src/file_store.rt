@@ -1,4 +1,5 @@
-ghost use Rattle.std.specs.Prelude.{◌≡◌, ◌≤◌, true, false, Some, None, Ok, length, IfOk};
+ghost use Rattle.std.specs.Prelude.{◌≡◌, ◌≤◌, ◌↔◌, true, false, Some, None, Ok, length, IsTrue, IfOk};
+ghost use Rattle.std.specs.IoError.{error_kind};
 ghost use Rattle.std.specs.Io.KnownBytes.{ReadConsumes};
 ghost use Rattle.tydi_io.specs.Faults.{Rose, HasCause, one_more, faults_after};
 ghost use Rattle.tydi_io.specs.FileStore.{has_started};
@@ -6,7 +7,7 @@ ghost use Rattle.tydi_io.specs.FileStore.{has_started};
 use crate::failed::Failed;
 use crate::store::Store;
 use std::fs;
-use std::io::{ErrorKind, Read};
+use std::io::{Error, ErrorKind, Read};
 use std::marker::Model;
 use std::rt::Files;
 
@@ -76,7 +77,7 @@ impl<'a, R: Files> Store for FileStore<'a, R> {
                 self.started = Some(file);
                 Ok(true)
             }
-            Err(error) if error.kind() == ErrorKind::NotFound => Ok(false),
+            Err(error) if is_missing(&error) => Ok(false),
             Err(_) => Err(self.fault()),
         }
     }
@@ -99,6 +100,13 @@ impl<'a, R: Files> Store for FileStore<'a, R> {
             Err(_) => Err(self.fault()),
         }
     }
+}
+
+/// Whether the system says that there is no such file. Any other error, as that it may not be read, is a fault.
+fn is_missing(error: &Error) -> bool
+    ensures { IsTrue result ↔ (error_kind error.now ≡ ErrorKind.NotFound) }
+{
+    error.kind() == ErrorKind::NotFound
 }
 
 #[cfg(test)]

@@ -1,19 +1,17 @@
-//! Worked rows of the tool: words and files on one side, the status and what the two sinks hold on the other. Each row is
-//! run over the store and the sinks in memory.
+//! Worked rows of the tool, as tables: words and a file on one side, the status and what the two sinks hold on the other. Each row
+//! is run over the store and the sinks in memory.
 #![tactic(auto)]
 
 #[cfg(test)]
-mod expecting;
+mod project_tables;
 #[cfg(test)]
-mod fault_tests;
+mod refusal_tables;
 #[cfg(test)]
-mod project_tests;
-#[cfg(test)]
-mod refusal_tests;
 mod row;
+mod running;
 #[cfg(test)]
-mod stream_tests;
+mod tests;
 #[cfg(test)]
-mod trace_tests;
+mod trace_tables;
 
-pub use row::{Faults, Row, Seen, see, see_files};
+pub use running::{Faults, Outcome, run_on};

@@ -1,85 +1,121 @@
-ghost use Rattle.std.specs.Prelude.{◌≤◌};
+//! The rows of a table. A line of it begins with a mark and a space: `#` says what a row shows, `$` has the words, `<` a line of
+//! the file, `~` the end of the file that has no LF, `>` a line of out and `!` one of err. `=` has the status, and ends the row;
+//! `again` is Done, where the text of out is then the file of the same words, which give it again.
 
+use crate::running::{Faults, Outcome, run_on};
 use std::alloc::Global;
+use std::process::Abort;
 use tydi_base::{List, Memory, Text};
-use tydi_io::{MemSink, MemStore};
-use tydi_tool::run;
+
+pub(crate) const NO_FAULTS: Faults<'static> = Faults {
+    store: &[],
+    out: &[],
+    err: &[],
+    most: 65535,
+};
 
 /// What a row hands in, and what is to come of it.
-#[derive(Clone, Copy)]
-pub struct Row<'a> {
-    /// The words after the program's name.
-    pub words: &'a [&'a str],
-    /// The files of the store: name and text.
-    pub files: &'a [(&'a str, &'a str)],
-    /// The exit status.
-    pub status: u8,
-    pub out: &'a str,
-    pub err: &'a str,
+#[derive(Drop)]
+pub(crate) struct Row {
+    pub(crate) words: List<Text>,
+    pub(crate) file: List<u8>,
+    pub(crate) out: List<u8>,
+    pub(crate) err: List<u8>,
 }
 
-/// The numbers of the calls that fail, and the most bytes that a call takes or gives.
-#[derive(Clone, Copy)]
-pub struct Faults<'a> {
-    pub store: &'a [u64],
-    pub out: &'a [u64],
-    pub err: &'a [u64],
-    pub most: u16,
-}
-
-/// What came of a row.
-#[derive(Debug, Drop)]
-pub struct Seen {
-    pub status: u8,
-    pub out: List<u8>,
-    pub err: List<u8>,
-}
-
-/// Runs the tool on the words and the files of a row.
-pub fn see(alloc: Global, row: &Row<'_>, faults: &Faults<'_>) -> Result<Seen, Memory> {
-    see_files(alloc, row.words, files_of(alloc, row.files)?, faults)
-}
-
-/// Runs the tool on these words and files.
-pub fn see_files(
-    alloc: Global,
-    words: &[&str],
-    files: List<(Text, List<u8>)>,
-    faults: &Faults<'_>,
-) -> Result<Seen, Memory> {
-    let words = texts(alloc, words)?;
-    let most = usize::from(faults.most) + 1;
-    let failing = List::from_slice(alloc, faults.store)?;
-    let mut store = MemStore::new(alloc, files, most, failing)?;
-    let mut out = sink(alloc, most, faults.out)?;
-    let mut err = sink(alloc, most, faults.err)?;
-    let status = run(alloc, words.as_slice(), &mut store, &mut out, &mut err);
-    Ok(Seen {
-        status: status.number(),
-        out: List::from_slice(alloc, out.taken())?,
-        err: List::from_slice(alloc, err.taken())?,
-    })
-}
-
-fn sink(alloc: Global, most: usize, failing: &[u64]) -> Result<MemSink, Memory>
-    requires { 1 ≤ most }
-{
-    MemSink::new(alloc, 4096, most, List::from_slice(alloc, failing)?)
-}
-
-fn texts(alloc: Global, words: &[&str]) -> Result<List<Text>, Memory> {
-    let mut made = List::new(alloc);
-    for word in words {
-        made.push(Text::new(alloc, word)?)?;
+impl Row {
+    pub(crate) fn new(alloc: Global) -> Row {
+        Row {
+            words: List::new(alloc),
+            file: List::new(alloc),
+            out: List::new(alloc),
+            err: List::new(alloc),
+        }
     }
-    Ok(made)
+
+    /// Takes a line of a table, but the one that ends a row.
+    pub(crate) fn take(&mut self, alloc: Global, mark: &str, text: &str) -> Result<(), Memory> {
+        if mark == "$" {
+            self.words = words_of(alloc, text)?;
+        } else if mark == "<" {
+            push_line(text, &mut self.file)?;
+        } else if mark == "~" {
+            self.file.extend_from_slice(text.as_bytes())?;
+        } else if mark == ">" {
+            push_line(text, &mut self.out)?;
+        } else if mark == "!" {
+            push_line(text, &mut self.err)?;
+        }
+        Ok(())
+    }
+
+    /// Runs the row on this file, and compares what came of it.
+    fn check_on(
+        &self,
+        rt: &(impl Abort + AllocGlobal),
+        file: &[u8],
+        status: u8,
+    ) -> Result<(), Memory> {
+        let file = List::from_slice(rt.alloc(), file)?;
+        let outcome = run_on(rt.alloc(), self.words.as_slice(), file, &NO_FAULTS)?;
+        expect(
+            rt,
+            &outcome,
+            status,
+            self.out.as_slice(),
+            self.err.as_slice(),
+        );
+        Ok(())
+    }
+
+    /// Runs the row, and compares what came of it.
+    fn check(&self, rt: &(impl Abort + AllocGlobal), status: &str) -> Result<(), Memory> {
+        if status == "again" {
+            self.check_on(rt, self.file.as_slice(), 0)?;
+            return self.check_on(rt, self.out.as_slice(), 0);
+        }
+        let number = status.parse::<u8>().unwrap_or(u8::MAX);
+        self.check_on(rt, self.file.as_slice(), number)
+    }
 }
 
-fn files_of(alloc: Global, files: &[(&str, &str)]) -> Result<List<(Text, List<u8>)>, Memory> {
-    let mut made = List::new(alloc);
-    for (name, text) in files {
-        let bytes = List::from_slice(alloc, text.as_bytes())?;
-        made.push((Text::new(alloc, name)?, bytes))?;
+/// Compares what came of a run.
+pub(crate) fn expect(rt: &impl Abort, outcome: &Outcome, status: u8, out: &[u8], err: &[u8]) {
+    assert_eq!(rt; outcome.out.as_slice(), out);
+    assert_eq!(rt; outcome.err.as_slice(), err);
+    assert_eq!(rt; outcome.status, status);
+}
+
+/// Runs each row of a table, and compares what came of it. Answers how many rows there were.
+pub(crate) fn check_rows(rt: &(impl Abort + AllocGlobal), table: &str) -> Result<usize, Memory> {
+    let mut row = Row::new(rt.alloc());
+    let mut count = 0usize;
+    for line in table.lines() {
+        let (mark, text) = line.split_once(' ').unwrap_or((line, ""));
+        if mark == "=" {
+            row.check(rt, text)?;
+            row = Row::new(rt.alloc());
+            count = count.saturating_add(1);
+        } else {
+            row.take(rt.alloc(), mark, text)?;
+        }
     }
-    Ok(made)
+    Ok(count)
+}
+
+fn push_line(text: &str, bytes: &mut List<u8>) -> Result<(), Memory> {
+    bytes.extend_from_slice(text.as_bytes())?;
+    bytes.extend_from_slice(b"\n")
+}
+
+/// The words of a line, with one space between each two. An empty line has none.
+pub(crate) fn words_of(alloc: Global, line: &str) -> Result<List<Text>, Memory> {
+    let mut words = List::new(alloc);
+    if line.is_empty() {
+        return Ok(words);
+    }
+    for word in line.split(' ') {
+        words.push(Text::new(alloc, word)?)?;
+    }
+    Ok(words)
 }

@@ -16,91 +16,182 @@ use Rattle.cycle_trace.specs.declared.counts.Counts.{Counts}
 use Rattle.cycle_trace.specs.declared.counts.SurveyFault.{SurveyFault}
 use Rattle.cycle_trace.specs.declared.counts.SurveyFault.TheVariants as faults
 use Rattle.cycle_trace.specs.declared.fault.TraceFault.{TraceFault}
-use Rattle.tydi_tool.specs.declared.answer.Answer.{Answer}
-use Rattle.tydi_tool.specs.declared.refusal.Refusal.{Refusal}
 use Rattle.til_lexer.specs.Tokens.{tokens_of}
 use Rattle.til_lexer.specs.declared.fault.LexFault.{LexFault}
 use Rattle.til_lexer.specs.declared.token.Token.{Token}
-use Rattle.til_parser.specs.Canonical.{canonical}
 use Rattle.til_parser.specs.Grammar.{Spells}
 use Rattle.til_parser.specs.Laws.{IsTreeOf}
 use Rattle.til_parser.specs.Lexemes.{lexemes_of}
 use Rattle.til_parser.specs.declared.tree.Ast.{Ast}
 use Rattle.til_parser.proofs.LawLemmas.{trees_apart}
-use Rattle.tydi_tool.specs.Words.{Request, Check, Read, trace_file, project_file}
-use Rattle.tydi_tool.specs.Laws.{AreOne}
-use Rattle.tydi_tool.specs.Outcome.{output_answer, out_of_answer}
-use Rattle.tydi_tool.specs.Projects.{TellsRefusal, TellsTree, TellsTokens, TellsCoded, TellsProject}
-use Rattle.tydi_tool.specs.Refusals.{refusal_of, refusal_of_lexing}
-use Rattle.tydi_tool.specs.Telling.{TellsEnd, TellsFound, path_of_stream}
-use Rattle.tydi_tool.specs.Answers.{file_of, TellsTrace, TellsReading, TellsTraceText, TellsFile, Says}
+use Rattle.tydi_tool.specs.declared.answer.Answer.{Answer}
+use Rattle.tydi_tool.specs.declared.answer.Answer.TheVariants as answers
+use Rattle.tydi_tool.specs.declared.traces.Survey.{Survey}
+use Rattle.tydi_tool.specs.Words.{Request, Check, Read}
+use Rattle.tydi_tool.specs.Refusals.{Refusal, refusal_line, refusal_of_trace, refusal_of_lexing}
+use Rattle.tydi_tool.specs.Reading.{RefusesBy}
+use Rattle.tydi_tool.specs.Reports.{Reports, ReportsEnd, path_of_stream}
+use Rattle.tydi_tool.specs.Traces.{ReadsReading, ReadsTrace}
+use Rattle.tydi_tool.specs.Projects.{IsNoTreeLine, ReadsTokens, ReadsCoded, ReadsProject}
+use Rattle.tydi_tool.specs.Files.{Lack, file_of}
+use Rattle.tydi_tool.specs.Ask.{Ask, Ends, Asks, SaysOfBytes, SaysOfFile, SaysBy}
+use Rattle.tydi_tool.specs.Commands.{ask_of}
+use Rattle.tydi_tool.specs.Outcome.{out_of_answer}
+use Rattle.tydi_tool.specs.Laws.{AreOneLine, AreOne, ReadsOnce, AsksOnce}
+
+-- ---- whatever a command asks for
+
+refused_alike : (one other : List ℕ) → AreOneLine one other → AreOne (answers.Refused one) (answers.Refused other)
+refused_alike one other lines = inr (record { one = one; other = other; first = refl; second = refl; lines = lines })
+
+SaysOfBytes-one : {X : Type 0} (Reads : List ℕ → Result X (List ℕ) → Type 0) (next : X → Ask) (told : Files) (bytes : List ℕ) (a b : Answer) → ReadsOnce Reads →
+    ((x : X) → Reads bytes (Ok x) → SaysBy (Some told) (next x) a → SaysBy (Some told) (next x) b → AreOne a b) →
+    SaysOfBytes Reads (λ x. SaysBy (Some told) (next x) a) bytes a → SaysOfBytes Reads (λ x. SaysBy (Some told) (next x) b) bytes b → AreOne a b
+SaysOfBytes-one {X} Reads next told bytes a b once rest (inl p) (inl q) =
+    subst (λ (c : Answer). AreOne c b) (sym p.1.1) (subst (AreOne (answers.Refused p.0)) (sym q.1.1) (refused_alike p.0 q.0 (once.lines bytes p.0 q.0 p.1.0 q.1.0)))
+SaysOfBytes-one {X} Reads next told bytes a b once rest (inl p) (inr q) = absurd (once.apart bytes q.0 p.0 q.1.0 p.1.0)
+SaysOfBytes-one {X} Reads next told bytes a b once rest (inr p) (inl q) = absurd (once.apart bytes p.0 q.0 p.1.0 q.1.0)
+SaysOfBytes-one {X} Reads next told bytes a b once rest (inr p) (inr q) =
+    rest p.0 p.1.0 p.1.1 (subst (λ (x : X). SaysBy (Some told) (next x) b) (once.same bytes q.0 p.0 q.1.0 p.1.0) q.1.1)
+
+SaysOfFile-one : {X : Type 0} (word : List ℕ) (Reads : List ℕ → Result X (List ℕ) → Type 0) (next : X → Ask) (told : Files) (found : Result (List ℕ) Lack) (a b : Answer) → ReadsOnce Reads →
+    ((bytes : List ℕ) (x : X) → Reads bytes (Ok x) → SaysBy (Some told) (next x) a → SaysBy (Some told) (next x) b → AreOne a b) →
+    SaysOfFile Reads (λ x. SaysBy (Some told) (next x) a) word found a → SaysOfFile Reads (λ x. SaysBy (Some told) (next x) b) word found b → AreOne a b
+SaysOfFile-one {X} word Reads next told (Ok bytes) a b once rest p q = SaysOfBytes-one Reads next told bytes a b once (rest bytes) p q
+SaysOfFile-one {X} word Reads next told (Err lack) a b once rest p q = inl (p ∙ sym q)
+
+pub SaysBy-one : (told : Files) (ask : Ask) (a b : Answer) → AsksOnce ask → SaysBy (Some told) ask a → SaysBy (Some told) ask b → AreOne a b
+SaysBy-one told (Ends Tells) a b once p q = once a b p q
+SaysBy-one told (Asks file X Reads next) a b once p q =
+    let here : SaysOfFile {X = X} Reads (λ x. SaysBy (Some told) (next x) a) file.word (file_of told file) a
+    = subst (λ (found : Result (List ℕ) Lack). SaysOfFile {X = X} Reads (λ x. SaysBy (Some told) (next x) a) file.word found a) (sym p.1.0) p.1.1 in
+    let there : SaysOfFile {X = X} Reads (λ x. SaysBy (Some told) (next x) b) file.word (file_of told file) b
+    = subst (λ (found : Result (List ℕ) Lack). SaysOfFile {X = X} Reads (λ x. SaysBy (Some told) (next x) b) file.word found b) (sym q.1.0) q.1.1 in
+    SaysOfFile-one file.word Reads next told (file_of told file) a b once.0 (λ bytes x reads r s. SaysBy-one told (next x) a b (once.1 bytes x reads) r s) here there
+
+-- ---- a text is refused in one way
+
+not_read : {X : Type 0} (refusal : Option Refusal) (x : X) → RefusesBy refusal (Ok x) → ⊥
+not_read {X} (Some refusal) x r = let e : ◌≡◌ {A = Result X (List ℕ)} (Ok x) (Err (refusal_line refusal)) = r in cc
+not_read {X} None x r = r
+
+same_line : {X : Type 0} (l m : List ℕ) → ◌≡◌ {A = Result X (List ℕ)} (Err l) (Err m) → l ≡ m
+same_line {X} l m e = cc
+
+RefusesBy-line : (X : Type 0) (refusal : Option Refusal) (one other : List ℕ) → RefusesBy {X = X} refusal (Err one) → RefusesBy {X = X} refusal (Err other) → one ≡ other
+RefusesBy-line X (Some refusal) one other r s = same_line {X = X} one other (r ∙ sym s)
+RefusesBy-line X None one other r s = absurd r
+
+-- ---- a trace
 
 -- a survey finds one thing
 Surveys-one : (streams : List StreamTrace) (a b : Result Counts SurveyFault) → Surveys streams a → Surveys streams b → a ≡ b
 Surveys-one streams a b x y = x.says ∙ ap (survey_of streams) (IsFirst-one (Offends streams) x.first y.first x.is_first y.is_first) ∙ sym y.says
 
-TellsEnd-one : (path : List (List ℕ)) (end : End) (a b : Answer) → TellsEnd path end a → TellsEnd path end b → a ≡ b
-TellsEnd-one path ends.Whole a b x y = absurd x
-TellsEnd-one path ends.Pending a b x y = x ∙ sym y
-TellsEnd-one path (ends.Unclosed k) a b x y = x ∙ sym y
+survey_with : List Head → Result Counts SurveyFault → Survey
+survey_with heads found = record { heads = heads; found = found }
 
-TellsFound-one : (heads : List Head) (found : Result Counts SurveyFault) (a b : Answer) → TellsFound heads found a → TellsFound heads found b → a ≡ b
-TellsFound-one heads (Ok counts) a b x y = x ∙ sym y
-TellsFound-one heads (Err (faults.Offence cycle stream rule)) a b x y = x ∙ sym y
-TellsFound-one heads (Err (faults.Unfinished stream end)) a b x y = TellsEnd-one (path_of_stream heads stream) end a b x y
-TellsFound-one heads (Err faults.Memory) a b x y = absurd x
+same_survey : (x y : Survey) → x.heads ≡ y.heads → x.found ≡ y.found → x ≡ y
+unfolding survey_with
+same_survey x y heads found = ap (λ (h : List Head). survey_with h x.found) heads ∙ ap (survey_with y.heads) found
 
-TellsTrace-one : (trace : TraceText) (a b : Answer) → TellsTrace trace a → TellsTrace trace b → a ≡ b
-TellsTrace-one trace a b x y =
-    let same = Surveys-one (streams_of trace) x.found y.found x.surveys y.surveys in
-    TellsFound-one trace.heads y.found a b (subst (λ (found : Result Counts SurveyFault). TellsFound trace.heads found a) same x.says) y.says
+ReadsReading-same : (word : List ℕ) (reading : Result TraceText TraceFault) (x y : Survey) → ReadsReading word reading (Ok x) → ReadsReading word reading (Ok y) → x ≡ y
+ReadsReading-same word (Ok trace) x y p q = same_survey x y (p.heads ∙ sym q.heads) (Surveys-one (streams_of trace) x.found y.found p.found q.found)
+ReadsReading-same word (Err fault) x y p q = absurd (not_read (refusal_of_trace word fault) x p)
 
-TellsRefusal-one : (word : List ℕ) (refusal : Option Refusal) (a b : Answer) → TellsRefusal word refusal a → TellsRefusal word refusal b → a ≡ b
-TellsRefusal-one word None a b x y = absurd x
-TellsRefusal-one word (Some refusal) a b x y = x ∙ sym y
+ReadsReading-apart : (word : List ℕ) (reading : Result TraceText TraceFault) (x : Survey) (line : List ℕ) → ReadsReading word reading (Ok x) → ReadsReading word reading (Err line) → ⊥
+ReadsReading-apart word (Ok trace) x line p q = q
+ReadsReading-apart word (Err fault) x line p q = not_read (refusal_of_trace word fault) x p
 
-TellsReading-one : (word : List ℕ) (read : Result TraceText TraceFault) (a b : Answer) → TellsReading word read a → TellsReading word read b → a ≡ b
-TellsReading-one word (Ok trace) a b x y = TellsTrace-one trace a b x y
-TellsReading-one word (Err fault) a b x y = TellsRefusal-one word (refusal_of fault) a b x y
+ReadsReading-line : (word : List ℕ) (reading : Result TraceText TraceFault) (one other : List ℕ) → ReadsReading word reading (Err one) → ReadsReading word reading (Err other) → one ≡ other
+ReadsReading-line word (Ok trace) one other p q = absurd p
+ReadsReading-line word (Err fault) one other p q = RefusesBy-line Survey (refusal_of_trace word fault) one other p q
+
+ReadsTrace-once : (word : List ℕ) → ReadsOnce (ReadsTrace word)
+ReadsTrace-once word = record {
+  same = λ bytes x y p q. ReadsReading-same word (trace_of bytes) x y p q;
+  apart = λ bytes x line p q. ReadsReading-apart word (trace_of bytes) x line p q;
+  lines = λ bytes one other p q. inl (ReadsReading-line word (trace_of bytes) one other p q);
+}
+
+ReportsEnd-one : (path : List (List ℕ)) (end : End) (a b : Answer) → ReportsEnd path end a → ReportsEnd path end b → a ≡ b
+ReportsEnd-one path ends.Whole a b x y = absurd x
+ReportsEnd-one path ends.Pending a b x y = x ∙ sym y
+ReportsEnd-one path (ends.Unclosed k) a b x y = x ∙ sym y
+
+Reports-one : (heads : List Head) (found : Result Counts SurveyFault) (a b : Answer) → Reports heads found a → Reports heads found b → a ≡ b
+Reports-one heads (Ok counts) a b x y = x ∙ sym y
+Reports-one heads (Err (faults.Offence cycle stream rule)) a b x y = x ∙ sym y
+Reports-one heads (Err (faults.Unfinished stream end)) a b x y = ReportsEnd-one (path_of_stream heads stream) end a b x y
+Reports-one heads (Err faults.Memory) a b x y = absurd x
 
 -- ---- a project
 
-TellsTree-one : (text : List ℕ) (tokens : List Token) (a b : Answer) → IsUtf8 text → tokens_of text ≡ Ok tokens → TellsTree text tokens a → TellsTree text tokens b → a ≡ b
-TellsTree-one text tokens a b utf8 lexed x y =
+same_tree : (text : List ℕ) (tokens : List Token) (a b : Ast) → IsUtf8 text → tokens_of text ≡ Ok tokens → Spells a (lexemes_of text tokens) → Spells b (lexemes_of text tokens) → a ≡ b
+same_tree text tokens a b utf8 lexed x y =
     let tree : (ast : Ast) → Spells ast (lexemes_of text tokens) → IsTreeOf text ast = λ ast spelled.
     record { utf8 = utf8; tokens = tokens; lexed = lexed; spelled = spelled } in
-    let same : x.ast ≡ y.ast = trees_apart text x.ast y.ast (tree x.ast x.is.spelled) (tree y.ast y.is.spelled) in
-    x.says ∙ ap (λ (ast : Ast). output_answer (canonical ast)) same ∙ sym y.says
+    trees_apart text a b (tree a x) (tree b y)
 
-TellsTokens-one : (word text : List ℕ) (read : Result (List Token) LexFault) (a b : Answer) → IsUtf8 text → tokens_of text ≡ read
-    → TellsTokens word text read a → TellsTokens word text read b → AreOne a b
-TellsTokens-one word text (Ok tokens) a b utf8 lexed (inl x) (inl y) = inl (TellsTree-one text tokens a b utf8 lexed x y)
-TellsTokens-one word text (Ok tokens) a b utf8 lexed (inl x) (inr y) = absurd (y.none x.ast x.is)
-TellsTokens-one word text (Ok tokens) a b utf8 lexed (inr x) (inl y) = absurd (x.none y.ast y.is)
-TellsTokens-one word text (Ok tokens) a b utf8 lexed (inr x) (inr y) = inr (record { word = word; one = x.says; other = y.says })
-TellsTokens-one word text (Err fault) a b utf8 lexed x y = inl (TellsRefusal-one word (refusal_of_lexing fault) a b x y)
+same_ok : (a b : Ast) → ◌≡◌ {A = Result Ast (List ℕ)} (Ok a) (Ok b) → a ≡ b
+same_ok a b e = cc
 
-TellsCoded-one : (word bytes : List ℕ) (coded : Bool) (a b : Answer) → is_utf8 bytes ≡ coded → TellsCoded word bytes coded a → TellsCoded word bytes coded b → AreOne a b
-TellsCoded-one word bytes true a b is x y = TellsTokens-one word bytes (tokens_of bytes) a b (IsUtf8-from_is_utf8 bytes is) refl x y
-TellsCoded-one word bytes false a b is x y = inl (x ∙ sym y)
+not_both : (a : Ast) (line : List ℕ) → ◌≡◌ {A = Result Ast (List ℕ)} (Ok a) (Err line) → ⊥
+not_both a line e = cc
 
--- ---- a file
+ReadsTokens-same : (word text : List ℕ) (lexed : Result (List Token) LexFault) (a b : Ast) → IsUtf8 text → tokens_of text ≡ lexed → ReadsTokens word text lexed (Ok a) → ReadsTokens word text lexed (Ok b) → a ≡ b
+ReadsTokens-same word text (Ok tokens) a b utf8 is (inl x) (inl y) =
+    same_ok a x.ast x.says ∙ same_tree text tokens x.ast y.ast utf8 is x.is.spelled y.is.spelled ∙ sym (same_ok b y.ast y.says)
+ReadsTokens-same word text (Ok tokens) a b utf8 is (inl x) (inr y) = absurd (not_both b y.line y.says)
+ReadsTokens-same word text (Ok tokens) a b utf8 is (inr x) q = absurd (not_both a x.line x.says)
+ReadsTokens-same word text (Err fault) a b utf8 is p q = absurd (not_read (refusal_of_lexing word fault) a p)
 
--- what is said of a file is one where what is said of its bytes is
-TellsFile-one : (Tells : List ℕ → Answer → Type 0) → ((bytes : List ℕ) (a b : Answer) → Tells bytes a → Tells bytes b → AreOne a b)
-    → (word : List ℕ) (file : Result (List ℕ) Refusal) (a b : Answer) → TellsFile Tells word file a → TellsFile Tells word file b → AreOne a b
-TellsFile-one Tells one word (Ok bytes) a b x y = one bytes a b x y
-TellsFile-one Tells one word (Err refusal) a b x y = inl (x ∙ sym y)
+ReadsTokens-apart : (word text : List ℕ) (lexed : Result (List Token) LexFault) (a : Ast) (line : List ℕ) → ReadsTokens word text lexed (Ok a) → ReadsTokens word text lexed (Err line) → ⊥
+ReadsTokens-apart word text (Ok tokens) a line (inl x) (inl y) = not_both y.ast line (sym y.says)
+ReadsTokens-apart word text (Ok tokens) a line (inl x) (inr y) = y.none x.ast x.is
+ReadsTokens-apart word text (Ok tokens) a line (inr x) q = not_both a x.line x.says
+ReadsTokens-apart word text (Err fault) a line p q = not_read (refusal_of_lexing word fault) a p
+
+ReadsTokens-lines : (word text : List ℕ) (lexed : Result (List Token) LexFault) (one other : List ℕ) → ReadsTokens word text lexed (Err one) → ReadsTokens word text lexed (Err other) → AreOneLine one other
+ReadsTokens-lines word text (Ok tokens) one other (inl x) q = absurd (not_both x.ast one (sym x.says))
+ReadsTokens-lines word text (Ok tokens) one other (inr x) (inl y) = absurd (not_both y.ast other (sym y.says))
+ReadsTokens-lines word text (Ok tokens) one other (inr x) (inr y) = inr (record {
+  word = word;
+  first = subst (λ (l : List ℕ). IsNoTreeLine word l) (sym (same_line {X = Ast} one x.line x.says)) x.is;
+  second = subst (λ (l : List ℕ). IsNoTreeLine word l) (sym (same_line {X = Ast} other y.line y.says)) y.is;
+})
+ReadsTokens-lines word text (Err fault) one other p q = inl (RefusesBy-line Ast (refusal_of_lexing word fault) one other p q)
+
+ReadsCoded-same : (word bytes : List ℕ) (coded : Bool) (a b : Ast) → is_utf8 bytes ≡ coded → ReadsCoded word bytes coded (Ok a) → ReadsCoded word bytes coded (Ok b) → a ≡ b
+ReadsCoded-same word bytes true a b is p q = ReadsTokens-same word bytes (tokens_of bytes) a b (IsUtf8-from_is_utf8 bytes is) refl p q
+ReadsCoded-same word bytes false a b is p q = absurd (not_both a _ p)
+
+ReadsCoded-apart : (word bytes : List ℕ) (coded : Bool) (a : Ast) (line : List ℕ) → ReadsCoded word bytes coded (Ok a) → ReadsCoded word bytes coded (Err line) → ⊥
+ReadsCoded-apart word bytes true a line p q = ReadsTokens-apart word bytes (tokens_of bytes) a line p q
+ReadsCoded-apart word bytes false a line p q = not_both a _ p
+
+ReadsCoded-lines : (word bytes : List ℕ) (coded : Bool) (one other : List ℕ) → ReadsCoded word bytes coded (Err one) → ReadsCoded word bytes coded (Err other) → AreOneLine one other
+ReadsCoded-lines word bytes true one other p q = ReadsTokens-lines word bytes (tokens_of bytes) one other p q
+ReadsCoded-lines word bytes false one other p q = inl (same_line {X = Ast} one other (p ∙ sym q))
+
+ReadsProject-once : (word : List ℕ) → ReadsOnce (ReadsProject word)
+ReadsProject-once word = record {
+  same = λ bytes a b p q. ReadsCoded-same word bytes (is_utf8 bytes) a b refl p q;
+  apart = λ bytes a line p q. ReadsCoded-apart word bytes (is_utf8 bytes) a line p q;
+  lines = λ bytes one other p q. ReadsCoded-lines word bytes (is_utf8 bytes) one other p q;
+}
+
+-- ---- the commands
+
+asks_once : (request : Request) → AsksOnce (ask_of request)
+asks_once (Check trace) = (ReadsTrace-once trace, λ bytes survey reads a b p q. inl (Reports-one survey.heads survey.found a b p q))
+asks_once (Read project) = (ReadsProject-once project, λ bytes ast reads a b p q. inl (p ∙ sym q))
 
 -- one answer
-pub Says-one : (told : Files) (request : Option Request) (a b : Answer) → Says told request a → Says told request b → AreOne a b
-Says-one told None a b x y = inl (x ∙ sym y)
-Says-one told (Some (Check trace)) a b x y =
-    TellsFile-one (TellsTraceText trace) (λ bytes c d p q. inl (TellsReading-one trace (trace_of bytes) c d p q)) trace (file_of told (trace_file trace)) a b x y
-Says-one told (Some (Read project)) a b x y =
-    TellsFile-one (TellsProject project) (λ bytes c d p q. TellsCoded-one project bytes (is_utf8 bytes) c d refl p q) project (file_of told (project_file project)) a b x y
+pub SaysBy-request : (told : Files) (request : Request) (a b : Answer) → SaysBy (Some told) (ask_of request) a → SaysBy (Some told) (ask_of request) b → AreOne a b
+SaysBy-request told request a b p q = SaysBy-one told (ask_of request) a b (asks_once request) p q
 
 -- of two such answers, if one gives nothing to out, so does the other
 pub same_out : (a b : Answer) → AreOne a b → out_of_answer a ≡ out_of_answer b
 same_out a b (inl same) = ap out_of_answer same
-same_out a b (inr both) = ap out_of_answer both.one.says ∙ ap out_of_answer (sym both.other.says)
+same_out a b (inr both) = ap out_of_answer both.first ∙ ap out_of_answer (sym both.second)

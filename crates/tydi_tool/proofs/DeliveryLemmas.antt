@@ -1,22 +1,11 @@
--- Pieces that a sink takes one after another, and what goes to out where something goes to err.
-use Rattle.std.proofs.Common.{◌≡◌, ℕ, ◌+◌, ◌-◌, ◌<◌, List, [], ◌++◌, length, take, drop, Option, None, Some, option_map, refl, sym, ap, ◌∙◌, arith, append_assoc, length-drop, subst, true, false, Result, Ok, Err, is_err, IsErr, OnOk, OnErr}
+-- Pieces that a sink takes one after another.
+use Rattle.std.proofs.Common.{◌≡◌, ℕ, suc, ◌+◌, ◌-◌, ◌<◌, ◌≤◌, inl, inr, List, [], ◌∷◌, ◌++◌, length, take, drop, Option, None, Some, option_map, refl, sym, ap, ◌∙◌, arith, append_assoc, length-drop, length-append, subst, Err}
 use Rattle.std.proofs.Math.Seq.{take-add}
-use Rattle.std.proofs.lemmas.List.{take_all}
-use Rattle.tydi_tool.specs.declared.answer.Answer.TheVariants as answers
-use Rattle.tydi_tool.specs.declared.answer.Reply.{Reply}
-use Rattle.tydi_tool.specs.declared.answer.Reply.TheVariants as replies
-use Rattle.tydi_tool.specs.Outcome.{out_of, err_of}
-use Rattle.tydi_tool.specs.declared.status.Status.TheVariants as statuses
-use Rattle.tydi_tool.specs.Delivery.{Adds, AddsFront, ErrFails}
-
--- what goes to err leaves nothing for out
-pub out_is_empty : (reply : Reply) → 0 < length (err_of reply) → out_of reply ≡ []
-out_is_empty (replies.Says answers.Usage) h = refl
-out_is_empty (replies.Says (answers.Refused line)) h = refl
-out_is_empty (replies.Says (answers.Verdict line)) h = absurd (omega arith)
-out_is_empty (replies.Says (answers.Done text)) h = absurd (omega arith)
-out_is_empty (replies.ReadFault line) h = refl
-out_is_empty replies.Memory h = refl
+use Rattle.std.proofs.lemmas.List.{take_all, append-nil}
+use Rattle.tydi_io.specs.Faults.{Rose}
+use Rattle.tydi_tool.specs.declared.delivery.WriteError.{WriteError}
+use Rattle.tydi_tool.specs.declared.delivery.WriteError.TheVariants as errors
+use Rattle.tydi_tool.specs.Delivery.{Adds, AddsFront, Writes, WritesPiece}
 
 -- the bytes from one place on, as the code's slice reads them
 rest_of : (bytes : List ℕ) (at : ℕ) → take (length bytes - at) (drop at bytes) ≡ drop at bytes
@@ -31,19 +20,73 @@ Adds-more (Some b) mid new bytes at n h e =
     = ap (λ rest. take at bytes ++ take n rest) (rest_of bytes at) ∙ sym (take-add at n bytes) in
     e ∙ ap (option_map (λ taken. taken ++ take n (take (length bytes - at) (drop at bytes)))) h ∙ ap Some (append_assoc b (take at bytes) _ ∙ ap (λ x. b ++ x) joined)
 
--- out took all, and err failed over a line that is there
-pub ErrFails-from : {E D : Type 0} (reply : Reply) (text line : List ℕ) (first : Result (Unit {0}) D) (second : Result (Unit {0}) E) (rose : Type 0)
-    (out_old out_new err_old err_new : Option (List ℕ)) → text ≡ out_of reply → line ≡ err_of reply → is_err first ≡ false → is_err second ≡ true →
-    OnOk first (Adds out_old out_new text) → OnErr second (AddsFront err_old err_new line) → OnErr second (0 < length line) → (IsErr second → rose) →
-    ErrFails rose reply statuses.WriteFault out_old out_new err_old err_new
-ErrFails-from reply text line (Ok u) (Err e) rose out_old out_new err_old err_new is_text is_line ok failed out err some cause =
-    let some' : 0 < length (err_of reply) = subst (λ (l : List ℕ). 0 < length l) is_line some in
-    record {
-      rose = cause refl;
-      some = some';
-      ends = refl;
-      out = subst (λ (t : List ℕ). Adds out_old out_new t) (is_text ∙ out_is_empty reply some') out;
-      err = subst (λ (l : List ℕ). AddsFront err_old err_new l) is_line err;
-    }
-ErrFails-from reply text line (Ok u) (Ok v) rose out_old out_new err_old err_new is_text is_line ok failed out err some cause = cc
-ErrFails-from reply text line (Err d) second rose out_old out_new err_old err_new is_text is_line ok failed out err some cause = cc
+-- nothing is added to a sink that is as before
+pub Adds-none : (old : Option (List ℕ)) → Adds old old []
+Adds-none None = refl
+Adds-none (Some b) = ap Some (sym (append-nil b))
+
+-- some bytes, and then some more
+pub Adds-then : (old mid new : Option (List ℕ)) (bytes more : List ℕ) → Adds old mid bytes → Adds mid new more → Adds old new (bytes ++ more)
+Adds-then None mid new bytes more h e = e ∙ ap (option_map (λ taken. taken ++ more)) h
+Adds-then (Some b) mid new bytes more h e = e ∙ ap (option_map (λ taken. taken ++ more)) h ∙ ap Some (append_assoc b bytes more)
+
+-- all is a front
+pub AddsFront-all : (old new : Option (List ℕ)) (whole : List ℕ) → Adds old new whole → AddsFront old new whole
+AddsFront-all old new whole adds = record {
+  count = length whole;
+  within = omega arith;
+  added = subst (λ (bytes : List ℕ). Adds old new bytes) (sym (take_all (length whole) whole (omega arith))) adds;
+}
+
+take_past : (done text : List ℕ) (n : ℕ) → take (length done + n) (done ++ text) ≡ done ++ take n text
+take_past [] text n = let e : 0 + n ≡ n = omega arith in ap (λ k. take k text) e
+take_past (byte ∷ done) text n =
+    let e : length (byte ∷ done) + n ≡ suc (length done + n) = omega arith in
+    ap (λ k. take k (byte ∷ done ++ text)) e ∙ ap (λ (l : List ℕ). byte ∷ l) (take_past done text n)
+
+-- a front of the rest is, with what came before it, a front of all
+AddsFront-then : (old mid new : Option (List ℕ)) (text done left : List ℕ) → text ≡ done ++ left → Adds old mid done → AddsFront mid new left → AddsFront old new text
+AddsFront-then old mid new text done left is adds front = record {
+  count = length done + front.count;
+  within = omega (arith, ap length is, length-append done left, front.within);
+  added = subst (λ (l : List ℕ). Adds old new l) (sym (ap (take (length done + front.count)) is ∙ take_past done left front.count))
+      (Adds-then old mid new done (take front.count left) adds front.added);
+}
+
+-- ---- a text that is written as it is made
+
+-- the sink has all of the text but what is left
+pub record WrittenFrom (old new : Option (List ℕ)) (text left : List ℕ) : Type 0 where
+  done : List ℕ
+  is : text ≡ done ++ left
+  added : Adds old new done
+
+pub WrittenFrom-start : (old : Option (List ℕ)) (text : List ℕ) → WrittenFrom old old text text
+WrittenFrom-start old text = record { done = []; is = refl; added = Adds-none old }
+
+pub WrittenFrom-piece : (old mid new : Option (List ℕ)) (text left rest : List ℕ) → WrittenFrom old mid text left →
+    (piece : List ℕ) × ((left ≡ piece ++ rest) × ((0 < length piece) × Adds mid new piece)) → WrittenFrom old new text rest
+WrittenFrom-piece old mid new text left rest w p = record {
+  done = w.done ++ p.0;
+  is = w.is ∙ ap (λ (l : List ℕ). w.done ++ l) p.1.0 ∙ sym (append_assoc w.done p.0 rest);
+  added = Adds-then old mid new w.done p.0 w.added p.1.1.1;
+}
+
+pub Writes-all : (old new : Option (List ℕ)) (text left : List ℕ) → WrittenFrom old new text left → length left ≡ 0 → Adds old new text
+Writes-all old new text [] w none = subst (λ (l : List ℕ). Adds old new l) (sym (w.is ∙ append-nil w.done)) w.added
+Writes-all old new text (byte ∷ left) w none = absurd (omega (arith, none))
+
+Rose-since : (a b c : ℕ) → a ≤ b → Rose b c → Rose a c
+Rose-since a b c le (inl more) = inl (omega (arith, le, more))
+Rose-since a b c le (inr most) = inr most
+
+pub Writes-error : (T U : Type 0) (a b c : ℕ) (old mid new : Option (List ℕ)) (text left rest : List ℕ) (error : WriteError) → a ≤ b → 0 < length left → WrittenFrom old mid text left →
+    WritesPiece {T = T} (Rose b c) (Err error) mid new left rest → Writes {T = U} (Rose a c) (Err error) old new text
+Writes-error T U a b c old mid new text left rest errors.Failed le some w p = (
+  Rose-since a b c le p.0,
+  (omega (arith, some, ap length w.is, length-append w.done left), AddsFront-then old mid new text w.done left w.is w.added p.1),
+)
+Writes-error T U a b c old mid new text left rest errors.Memory le some w p = (
+  omega (arith, some, ap length w.is, length-append w.done left),
+  AddsFront-then old mid new text w.done left w.is w.added (record { count = 0; within = omega arith; added = p }),
+)

@@ -1,6 +1,5 @@
--- From a reply and its delivery to the clauses of a run.
+-- From the one contract of a run to its clauses.
 use Rattle.std.proofs.Common.{◌≡◌, ℕ, ◌<◌, ◌⊎◌, inl, inr, List, [], length, Option, None, Some, IfSome, refl, sym, ap, ◌∙◌, subst, arith, ⊎_elim}
-use Rattle.std.proofs.lemmas.List.{take_all}
 use Rattle.tydi_io.specs.Store.{Files}
 use Rattle.tydi_tool.specs.declared.answer.Answer.{Answer}
 use Rattle.tydi_tool.specs.declared.answer.Answer.TheVariants as answers
@@ -8,150 +7,270 @@ use Rattle.tydi_tool.specs.declared.answer.Reply.{Reply}
 use Rattle.tydi_tool.specs.declared.answer.Reply.TheVariants as replies
 use Rattle.tydi_tool.specs.declared.status.Status.{Status}
 use Rattle.tydi_tool.specs.declared.status.Status.TheVariants as statuses
-use Rattle.tydi_tool.specs.Words.{Request}
-use Rattle.tydi_tool.specs.Outcome.{out_of_answer, out_of, err_of, status_of, write_fault_line}
-use Rattle.tydi_tool.specs.Delivery.{Adds, AddsFront, IsTold, OutFails, ErrFails, Delivers}
-use Rattle.tydi_tool.specs.Replies.{Replies}
-use Rattle.tydi_tool.specs.Answers.{Says}
-use Rattle.tydi_tool.specs.Run.{EndsInAnswer, IsAnswered, OutFront, IsRefusal, IsLine, ErrFront}
-use Rattle.tydi_tool.proofs.AnswerLemmas.{Says-one, same_out}
+use Rattle.tydi_tool.specs.Words.{Request, Check, Read, FileWord, file_words}
+use Rattle.tydi_tool.specs.Outcome.{out_of_answer, out_of, err_of, status_of, usage_line, memory_line, write_fault_line}
+use Rattle.tydi_tool.specs.Delivery.{Adds, AddsFront, TakesLine, IsLined, IsCut, IsWritten, OutFails, OutWants, Delivers}
+use Rattle.tydi_tool.specs.Ask.{AsksFor, AsksSome, Decides}
+use Rattle.tydi_tool.specs.Commands.{ask_of, Says}
+use Rattle.tydi_tool.specs.Started.{IsPulledOut, IsGivenOne, NamesStarted, StartsWithin, Leaves}
+use Rattle.tydi_tool.specs.Run.{Runs, EndsAsked, EndsUnasked, EndsInAnswer, IsAnswered, IsComplete, ReportsRead, OutFront, IsRefusal, IsLine, ErrFront, StartedAtEnd}
+use Rattle.tydi_tool.proofs.AnswerLemmas.{SaysBy-request, same_out}
+use Rattle.tydi_tool.proofs.AskLemmas.{SaysBy-decided}
+use Rattle.tydi_tool.proofs.DeliveryLemmas.{AddsFront-all}
+use Rattle.tydi_tool.proofs.FileLemmas.{IsGiven-pulled_out}
+use Rattle.tydi_tool.proofs.StartedLemmas.{Leaves-decided}
 
--- all is a front
-AddsFront-all : (old new : Option (List ℕ)) (whole : List ℕ) → Adds old new whole → AddsFront old new whole
-AddsFront-all old new whole adds = record {
-  count = length whole;
-  within = omega arith;
-  added = subst (λ (bytes : List ℕ). Adds old new bytes) (sym (take_all (length whole) whole (omega arith))) adds;
-}
+-- the files of each command are those that it asks for
+asks_for : (request : Request) → AsksFor (file_words request) (ask_of request)
+asks_for (Check trace) = (refl, λ x. tt)
+asks_for (Read project) = (refl, λ x. tt)
 
--- what is said is the answer to the words and the files
-says_of : (known : Files) (request : Option Request) (old new : Option (List ℕ × ℕ)) (rose : Type 0) (a : Answer) →
-    Replies request (Some known) old new rose (replies.Says a) → Says known request a
-says_of known None old new rose a r = same (r.0)
-  where
-    same : replies.Says a ≡ replies.Says answers.Usage → a ≡ answers.Usage
-    same e = cc
-says_of known (Some request) old new rose a r = r.1.0
+asks_some : (request : Request) → AsksSome (ask_of request)
+asks_some (Check trace) = tt
+asks_some (Read project) = tt
 
--- the same, where the store may not tell its files
-says_some : (told : Option Files) (request : Option Request) (old new : Option (List ℕ × ℕ)) (rose : Type 0) (a : Answer) →
-    Replies request told old new rose (replies.Says a) → IfSome told (λ known. Says known request a)
-says_some None request old new rose a r = tt
-says_some (Some known) request old new rose a r = says_of known request old new rose a r
+-- ---- a run of a command
 
--- a status of an answer is that of what is said
-answered_by : (known : Files) (request : Option Request) (old new : Option (List ℕ × ℕ)) (rose : Type 0) (reply : Reply) (status : Status) (out_old out_new err_old err_new : Option (List ℕ)) →
-    Replies request (Some known) old new rose reply → IsTold reply status out_old out_new err_old err_new → EndsInAnswer (status_of reply) →
-    IsAnswered known request status out_old out_new err_old err_new
-answered_by known request old new rose (replies.Says a) status out_old out_new err_old err_new r t ends =
-    record { answer = a; says = says_of known request old new rose a r; ends = t.ends; out = t.out; err = t.err }
-answered_by known request old new rose (replies.ReadFault line) status out_old out_new err_old err_new r t ends = absurd ends
-answered_by known request old new rose replies.Memory status out_old out_new err_old err_new r t ends = absurd ends
+module _ (request : Request) (told : Option Files) (old new : Option (List ℕ × ℕ)) (rose out_rose err_rose : Type 0) (status : Status) (out_old out_new err_old err_new : Option (List ℕ)) where
+  abbrev Asked : Type 0
+  Asked = EndsAsked rose out_rose err_rose request told old new status out_old out_new err_old err_new
 
-pub IsAnswered-delivered : (told : Option Files) (request : Option Request) (old new : Option (List ℕ × ℕ)) (rose out_rose err_rose : Type 0) (reply : Reply) (status : Status)
-    (out_old out_new err_old err_new : Option (List ℕ)) →
-    Replies request told old new rose reply → Delivers out_rose err_rose reply status out_old out_new err_old err_new →
-    IfSome told (λ known. EndsInAnswer status → IsAnswered known request status out_old out_new err_old err_new)
-IsAnswered-delivered None request old new rose out_rose err_rose reply status out_old out_new err_old err_new r d = tt
-IsAnswered-delivered (Some known) request old new rose out_rose err_rose reply status out_old out_new err_old err_new r d = λ ends.
-    ⊎_elim (λ t. answered_by known request old new rose reply status out_old out_new err_old err_new r t (subst EndsInAnswer t.ends ends))
-    (⊎_elim (λ (o : OutFails out_rose err_rose reply status out_old out_new err_old err_new). absurd (subst EndsInAnswer o.ends ends))
-    (λ (e : ErrFails err_rose reply status out_old out_new err_old err_new). absurd (subst EndsInAnswer e.ends ends))) d
+  -- what is said is the answer to the words and the files
+  says_of : (a : Answer) → Decides told old new rose (ask_of request) (replies.Says a) → Says told (Some request) a
+  says_of a d = SaysBy-decided told new rose (IfSome told (λ known. new ≡ old)) (ask_of request) a d
 
--- with no fault
-complete_by : (known : Files) (request : Option Request) (old new : Option (List ℕ × ℕ)) (rose : Type 0) (reply : Reply) (status : Status) (out_old out_new err_old err_new : Option (List ℕ)) →
-    Replies request (Some known) old new rose reply → IsTold reply status out_old out_new err_old err_new → (rose → ⊥) →
-    (status ≡ statuses.Memory) ⊎ IsAnswered known request status out_old out_new err_old err_new
-complete_by known request old new rose (replies.Says a) status out_old out_new err_old err_new r t quiet =
-    inr (record { answer = a; says = says_of known request old new rose a r; ends = t.ends; out = t.out; err = t.err })
-complete_by known None old new rose (replies.ReadFault line) status out_old out_new err_old err_new r t quiet = absurd (no_read r.0)
-  where
-    no_read : replies.ReadFault line ≡ replies.Says answers.Usage → ⊥
-    no_read e = cc
-complete_by known (Some request) old new rose (replies.ReadFault line) status out_old out_new err_old err_new r t quiet = absurd (quiet r.rose)
-complete_by known request old new rose replies.Memory status out_old out_new err_old err_new r t quiet = inl t.ends
+  leaves_of : (reply : Reply) → Decides told old new rose (ask_of request) reply → Leaves told (file_words request) old new rose reply
+  leaves_of reply d = Leaves-decided (file_words request) old new rose told (ask_of request) reply (asks_for request) (asks_some request) d
 
-pub IsAnswered-complete : (told : Option Files) (request : Option Request) (old new : Option (List ℕ × ℕ)) (rose out_rose err_rose : Type 0) (reply : Reply) (status : Status)
-    (out_old out_new err_old err_new : Option (List ℕ)) →
-    Replies request told old new rose reply → Delivers out_rose err_rose reply status out_old out_new err_old err_new →
-    IfSome told (λ known. (rose → ⊥) → (out_rose → ⊥) → (err_rose → ⊥) → (status ≡ statuses.Memory) ⊎ IsAnswered known request status out_old out_new err_old err_new)
-IsAnswered-complete None request old new rose out_rose err_rose reply status out_old out_new err_old err_new r d = tt
-IsAnswered-complete (Some known) request old new rose out_rose err_rose reply status out_old out_new err_old err_new r d = λ quiet out_quiet err_quiet.
-    ⊎_elim (λ t. complete_by known request old new rose reply status out_old out_new err_old err_new r t quiet)
-    (⊎_elim (λ (o : OutFails out_rose err_rose reply status out_old out_new err_old err_new). absurd (out_quiet o.rose))
-    (λ (e : ErrFails err_rose reply status out_old out_new err_old err_new). absurd (err_quiet e.rose))) d
+  no_answer : EndsInAnswer statuses.WriteFault → ⊥
+  no_answer ends = ends
 
--- a front of what is said
-front_by : (known : Files) (request : Option Request) (old new : Option (List ℕ × ℕ)) (rose : Type 0) (reply : Reply) (out_old out_new : Option (List ℕ)) →
-    Replies request (Some known) old new rose reply → 0 < length (out_of reply) → AddsFront out_old out_new (out_of reply) → OutFront known request out_old out_new
-front_by known request old new rose (replies.Says a) out_old out_new r some front = inr (record { answer = a; says = says_of known request old new rose a r; front = front })
-front_by known request old new rose (replies.ReadFault line) out_old out_new r some front = absurd (omega arith)
-front_by known request old new rose replies.Memory out_old out_new r some front = absurd (omega arith)
+  -- a status of an answer is that of the reply, all of which was written
+  written_of : (reply : Reply) → Delivers out_rose err_rose reply status out_old out_new err_old err_new → EndsInAnswer status →
+      (status ≡ status_of reply) × (Adds out_old out_new (out_of reply) × Adds err_old err_new (err_of reply))
+  written_of reply (inl w) ends =
+      ⊎_elim (λ (l : IsLined status (status_of reply) err_old err_new (err_of reply)). (l.ends, (w.out, l.err)))
+      (λ (c : IsCut err_rose status err_old err_new (err_of reply)). absurd (subst EndsInAnswer c.ends ends)) w.err
+  written_of reply (inr (inl f)) ends = absurd (subst EndsInAnswer f.ends ends)
+  written_of reply (inr (inr m)) ends =
+      ⊎_elim (λ (l : IsLined status statuses.Memory err_old err_new memory_line). absurd (subst EndsInAnswer l.ends ends))
+      (λ (c : IsCut err_rose status err_old err_new memory_line). absurd (subst EndsInAnswer c.ends ends)) m.err
 
-front_told : (known : Files) (request : Option Request) (old new : Option (List ℕ × ℕ)) (rose : Type 0) (reply : Reply) (out_old out_new : Option (List ℕ)) →
-    Replies request (Some known) old new rose reply → Adds out_old out_new (out_of reply) → OutFront known request out_old out_new
-front_told known request old new rose (replies.Says a) out_old out_new r adds =
-    inr (record { answer = a; says = says_of known request old new rose a r; front = AddsFront-all out_old out_new (out_of_answer a) adds })
-front_told known request old new rose (replies.ReadFault line) out_old out_new r adds = inl adds
-front_told known request old new rose replies.Memory out_old out_new r adds = inl adds
+  answered_by : (reply : Reply) → Decides told old new rose (ask_of request) reply → status ≡ status_of reply → EndsInAnswer (status_of reply) →
+      Adds out_old out_new (out_of reply) → Adds err_old err_new (err_of reply) → IsAnswered told (Some request) status out_old out_new err_old err_new
+  answered_by (replies.Says a) d is ends out err = record { answer = a; says = says_of a d; ends = is; out = out; err = err }
+  answered_by (replies.ReadFault line) d is ends out err = absurd ends
+  answered_by replies.Memory d is ends out err = absurd ends
 
-pub OutFront-delivered : (told : Option Files) (request : Option Request) (old new : Option (List ℕ × ℕ)) (rose out_rose err_rose : Type 0) (reply : Reply) (status : Status)
-    (out_old out_new err_old err_new : Option (List ℕ)) →
-    Replies request told old new rose reply → Delivers out_rose err_rose reply status out_old out_new err_old err_new →
-    IfSome told (λ known. OutFront known request out_old out_new)
-OutFront-delivered None request old new rose out_rose err_rose reply status out_old out_new err_old err_new r d = tt
-OutFront-delivered (Some known) request old new rose out_rose err_rose reply status out_old out_new err_old err_new r d =
-    ⊎_elim (λ t. front_told known request old new rose reply out_old out_new r t.out)
-    (⊎_elim (λ (o : OutFails out_rose err_rose reply status out_old out_new err_old err_new). front_by known request old new rose reply out_old out_new r o.some o.out)
-    (λ (e : ErrFails err_rose reply status out_old out_new err_old err_new). inl e.out)) d
+  answered : Asked → EndsInAnswer status → IsAnswered told (Some request) status out_old out_new err_old err_new
+  answered r ends =
+      let w = written_of r.reply r.delivered ends in
+      answered_by r.reply r.decided w.0 (subst EndsInAnswer w.0 ends) w.1.0 w.1.1
+
+  -- with no fault
+  complete_by : (reply : Reply) → Decides told old new rose (ask_of request) reply → (rose → ⊥) → status ≡ status_of reply →
+      Adds out_old out_new (out_of reply) → Adds err_old err_new (err_of reply) → IsComplete told (Some request) status out_old out_new err_old err_new
+  complete_by (replies.Says a) d quiet is out err = inr (record { answer = a; says = says_of a d; ends = is; out = out; err = err })
+  complete_by (replies.ReadFault line) d quiet is out err = absurd (quiet (leaves_of (replies.ReadFault line) d).rose)
+  complete_by replies.Memory d quiet is out err = inl is
+
+  complete_from : (reply : Reply) → Decides told old new rose (ask_of request) reply → Delivers out_rose err_rose reply status out_old out_new err_old err_new →
+      (rose → ⊥) → (out_rose → ⊥) → (err_rose → ⊥) → IsComplete told (Some request) status out_old out_new err_old err_new
+  complete_from reply d (inl w) quiet out_quiet err_quiet =
+      ⊎_elim (λ (l : IsLined status (status_of reply) err_old err_new (err_of reply)). complete_by reply d quiet l.ends w.out l.err)
+      (λ (c : IsCut err_rose status err_old err_new (err_of reply)). absurd (err_quiet c.rose)) w.err
+  complete_from reply d (inr (inl f)) quiet out_quiet err_quiet = absurd (out_quiet f.rose)
+  complete_from reply d (inr (inr m)) quiet out_quiet err_quiet =
+      ⊎_elim (λ (l : IsLined status statuses.Memory err_old err_new memory_line). inl l.ends)
+      (λ (c : IsCut err_rose status err_old err_new memory_line). absurd (err_quiet c.rose)) m.err
+
+  -- a failed read
+  read_status : (reply : Reply) → status_of reply ≡ statuses.ReadFault → (line : List ℕ) × (reply ≡ replies.ReadFault line)
+  read_status (replies.Says (answers.Refused line)) e = cc
+  read_status (replies.Says (answers.Verdict line)) e = cc
+  read_status (replies.Says (answers.Done text)) e = cc
+  read_status (replies.ReadFault line) e = (line, refl)
+  read_status replies.Memory e = cc
+
+  other_status : (a b : Status) → status ≡ a → status ≡ b → a ≡ b
+  other_status a b x y = sym x ∙ y
+
+  reports_line : (line : List ℕ) → Decides told old new rose (ask_of request) (replies.ReadFault line) → Adds out_old out_new [] → Adds err_old err_new line →
+      ReportsRead told (Some request) new out_old out_new err_old err_new
+  reports_line line d out err =
+      let failed = leaves_of (replies.ReadFault line) d in record {
+        file = failed.file;
+        named = failed.named;
+        starts = starts told failed.file failed.starts;
+        out = out;
+        err = subst (λ (l : List ℕ). Adds err_old err_new l) failed.says err;
+      }
+    where
+      starts : (told : Option Files) (file : FileWord) → IfSome told (λ known. IsGivenOne known (file_words request) new × NamesStarted known (file_words request) new file.word) →
+          IfSome told (λ known. NamesStarted known (file_words request) new file.word)
+      starts None file both = tt
+      starts (Some known) file both = both.1
+
+  reports_reply : (reply : Reply) → Decides told old new rose (ask_of request) reply → status_of reply ≡ statuses.ReadFault → Adds out_old out_new (out_of reply) → Adds err_old err_new (err_of reply) →
+      ReportsRead told (Some request) new out_old out_new err_old err_new
+  reports_reply reply d e out err =
+      let line = read_status reply e in
+      reports_line line.0 (subst (Decides told old new rose (ask_of request)) line.1 d)
+      (subst (λ (r : Reply). Adds out_old out_new (out_of r)) line.1 out) (subst (λ (r : Reply). Adds err_old err_new (err_of r)) line.1 err)
+
+  reports_from : (reply : Reply) → Decides told old new rose (ask_of request) reply → Delivers out_rose err_rose reply status out_old out_new err_old err_new →
+      status ≡ statuses.ReadFault → ReportsRead told (Some request) new out_old out_new err_old err_new
+  reports_from reply d (inl w) e =
+      ⊎_elim (λ (l : IsLined status (status_of reply) err_old err_new (err_of reply)). reports_reply reply d (sym l.ends ∙ e) w.out l.err)
+      (λ (c : IsCut err_rose status err_old err_new (err_of reply)). absurd (no_write (other_status statuses.WriteFault statuses.ReadFault c.ends e))) w.err
+    where
+      no_write : statuses.WriteFault ≡ statuses.ReadFault → ⊥
+      no_write x = cc
+  reports_from reply d (inr (inl f)) e = absurd (no_write (other_status statuses.WriteFault statuses.ReadFault f.ends e))
+    where
+      no_write : statuses.WriteFault ≡ statuses.ReadFault → ⊥
+      no_write x = cc
+  reports_from reply d (inr (inr m)) e =
+      ⊎_elim (λ (l : IsLined status statuses.Memory err_old err_new memory_line). absurd (no_memory (other_status statuses.Memory statuses.ReadFault l.ends e)))
+      (λ (c : IsCut err_rose status err_old err_new memory_line). absurd (no_write (other_status statuses.WriteFault statuses.ReadFault c.ends e))) m.err
+    where
+      no_write : statuses.WriteFault ≡ statuses.ReadFault → ⊥
+      no_write x = cc
+
+      no_memory : statuses.Memory ≡ statuses.ReadFault → ⊥
+      no_memory x = cc
+
+  -- a front of what is said
+  front_by : (reply : Reply) → Decides told old new rose (ask_of request) reply → 0 < length (out_of reply) → AddsFront out_old out_new (out_of reply) → OutFront told (Some request) out_old out_new
+  front_by (replies.Says a) d some front = inr (record { answer = a; says = says_of a d; front = front })
+  front_by (replies.ReadFault line) d some front = absurd (omega arith)
+  front_by replies.Memory d some front = absurd (omega arith)
+
+  front_all : (reply : Reply) → Decides told old new rose (ask_of request) reply → Adds out_old out_new (out_of reply) → OutFront told (Some request) out_old out_new
+  front_all (replies.Says a) d adds = inr (record { answer = a; says = says_of a d; front = AddsFront-all out_old out_new (out_of_answer a) adds })
+  front_all (replies.ReadFault line) d adds = inl adds
+  front_all replies.Memory d adds = inl adds
+
+  front_from : (reply : Reply) → Decides told old new rose (ask_of request) reply → Delivers out_rose err_rose reply status out_old out_new err_old err_new → OutFront told (Some request) out_old out_new
+  front_from reply d (inl w) = front_all reply d w.out
+  front_from reply d (inr (inl f)) = front_by reply d f.some f.out
+  front_from reply d (inr (inr m)) = front_by reply d m.some m.out
+
+  -- the line of a reply is one that err may take
+  line_of : (reply : Reply) → Decides told old new rose (ask_of request) reply → IsLine told (Some request) rose out_rose (err_of reply)
+  line_of (replies.Says a) d = inl (record { answer = a; says = says_of a d; is = refl })
+  line_of (replies.ReadFault line) d = let failed = leaves_of (replies.ReadFault line) d in inr (inl (record { rose = failed.rose; file = failed.file; named = failed.named; is = failed.says }))
+  line_of replies.Memory d = inr (inr (inr refl))
+
+  front_of_line : (wanted : Status) (line : List ℕ) → TakesLine err_rose status wanted err_old err_new line → AddsFront err_old err_new line
+  front_of_line wanted line (inl l) = AddsFront-all err_old err_new line l.err
+  front_of_line wanted line (inr c) = c.err
+
+  err_from : (reply : Reply) → Decides told old new rose (ask_of request) reply → Delivers out_rose err_rose reply status out_old out_new err_old err_new →
+      ErrFront told (Some request) rose out_rose err_old err_new
+  err_from reply d (inl w) = record { line = err_of reply; is = line_of reply d; front = front_of_line (status_of reply) (err_of reply) w.err }
+  err_from reply d (inr (inl f)) = record {
+    line = write_fault_line;
+    is = inr (inr (inl (f.rose, refl)));
+    front = ⊎_elim (AddsFront-all err_old err_new write_fault_line) (λ x. x.1) f.err;
+  }
+  err_from reply d (inr (inr m)) = record { line = memory_line; is = inr (inr (inr refl)); front = front_of_line statuses.Memory memory_line m.err }
+
+-- ---- the clauses
+
+module _ (told : Option Files) (old new : Option (List ℕ × ℕ)) (rose out_rose err_rose : Type 0) (status : Status) (out_old out_new err_old err_new : Option (List ℕ)) where
+  abbrev RunsOn : Option Request → Type 0
+  RunsOn request = Runs rose out_rose err_rose request told old new status out_old out_new err_old err_new
+
+  unasked : EndsUnasked err_rose told old new status out_old out_new err_old err_new → (status ≡ statuses.Usage) ⊎ (status ≡ statuses.WriteFault)
+  unasked r = ⊎_elim (λ (l : IsLined status statuses.Usage err_old err_new usage_line). inl l.ends) (λ (c : IsCut err_rose status err_old err_new usage_line). inr c.ends) r.err
+
+  no_answer_unasked : EndsUnasked err_rose told old new status out_old out_new err_old err_new → EndsInAnswer status → ⊥
+  no_answer_unasked r ends = ⊎_elim (λ e. subst EndsInAnswer e ends) (λ e. subst EndsInAnswer e ends) (unasked r)
+
+  pub IsAnswered-run : (request : Option Request) → RunsOn request → EndsInAnswer status → IsAnswered told request status out_old out_new err_old err_new
+  IsAnswered-run None r ends = absurd (no_answer_unasked r ends)
+  IsAnswered-run (Some request) r ends = answered request told old new rose out_rose err_rose status out_old out_new err_old err_new r ends
+
+  pub IsComplete-run : (request : Option Request) → RunsOn request → (rose → ⊥) → (out_rose → ⊥) → (err_rose → ⊥) → IsComplete told request status out_old out_new err_old err_new
+  IsComplete-run None r quiet out_quiet err_quiet =
+      ⊎_elim (λ (l : IsLined status statuses.Usage err_old err_new usage_line). l.ends) (λ (c : IsCut err_rose status err_old err_new usage_line). absurd (err_quiet c.rose)) r.err
+  IsComplete-run (Some request) r quiet out_quiet err_quiet =
+      complete_from request told old new rose out_rose err_rose status out_old out_new err_old err_new r.reply r.decided r.delivered quiet out_quiet err_quiet
+
+  pub ReportsRead-run : (request : Option Request) → RunsOn request → status ≡ statuses.ReadFault → ReportsRead told request new out_old out_new err_old err_new
+  ReportsRead-run None r e = absurd (⊎_elim (λ u. no_usage (sym u ∙ e)) (λ w. no_write (sym w ∙ e)) (unasked r))
+    where
+      no_usage : statuses.Usage ≡ statuses.ReadFault → ⊥
+      no_usage x = cc
+
+      no_write : statuses.WriteFault ≡ statuses.ReadFault → ⊥
+      no_write x = cc
+  ReportsRead-run (Some request) r e = reports_from request told old new rose out_rose err_rose status out_old out_new err_old err_new r.reply r.decided r.delivered e
+
+  pub OutFront-run : (request : Option Request) → RunsOn request → OutFront told request out_old out_new
+  OutFront-run None r = inl r.out
+  OutFront-run (Some request) r = front_from request told old new rose out_rose err_rose status out_old out_new err_old err_new r.reply r.decided r.delivered
+
+  pub ErrFront-run : (request : Option Request) → RunsOn request → ErrFront told request rose out_rose err_old err_new
+  ErrFront-run None r = record {
+    line = usage_line;
+    is = refl;
+    front = ⊎_elim (λ (l : IsLined status statuses.Usage err_old err_new usage_line). AddsFront-all err_old err_new usage_line l.err) (λ (c : IsCut err_rose status err_old err_new usage_line). c.err) r.err;
+  }
+  ErrFront-run (Some request) r = err_from request told old new rose out_rose err_rose status out_old out_new err_old err_new r.reply r.decided r.delivered
 
 -- where the answer is a refusal, nothing goes to out
-nothing_out : (known : Files) (request : Option Request) (old new : Option (List ℕ × ℕ)) (rose : Type 0) (reply : Reply) (a : Answer) →
-    Replies request (Some known) old new rose reply → Says known request a → IsRefusal a → out_of reply ≡ []
-nothing_out known request old new rose (replies.Says b) a r says refusal =
-    same_out b a (Says-one known request b a (says_of known request old new rose b r) says) ∙ no_out a refusal
-  where
-    no_out : (a : Answer) → IsRefusal a → out_of_answer a ≡ []
-    no_out answers.Usage h = refl
-    no_out (answers.Refused line) h = refl
-    no_out (answers.Verdict line) h = absurd h
-    no_out (answers.Done text) h = absurd h
-nothing_out known request old new rose (replies.ReadFault line) a r says refusal = refl
-nothing_out known request old new rose replies.Memory a r says refusal = refl
+no_out : (a : Answer) → IsRefusal a → out_of_answer a ≡ []
+no_out (answers.Refused line) h = refl
+no_out (answers.Verdict line) h = absurd h
+no_out (answers.Done text) h = absurd h
 
-pub refusal_leaves_out : (told : Option Files) (request : Option Request) (old new : Option (List ℕ × ℕ)) (rose out_rose err_rose : Type 0) (reply : Reply) (status : Status)
-    (out_old out_new err_old err_new : Option (List ℕ)) →
-    Replies request told old new rose reply → Delivers out_rose err_rose reply status out_old out_new err_old err_new →
-    IfSome told (λ known. (a : Answer) → Says known request a → IsRefusal a → Adds out_old out_new [])
-refusal_leaves_out None request old new rose out_rose err_rose reply status out_old out_new err_old err_new r d = tt
-refusal_leaves_out (Some known) request old new rose out_rose err_rose reply status out_old out_new err_old err_new r d = λ a says refusal.
-    let none = nothing_out known request old new rose reply a r says refusal in
-    ⊎_elim (λ (t : IsTold reply status out_old out_new err_old err_new). subst (λ (bytes : List ℕ). Adds out_old out_new bytes) none t.out)
-    (⊎_elim (λ (o : OutFails out_rose err_rose reply status out_old out_new err_old err_new). absurd (empty (out_of reply) none o.some))
-    (λ (e : ErrFails err_rose reply status out_old out_new err_old err_new). e.out)) d
-  where
-    empty : (bytes : List ℕ) → bytes ≡ [] → 0 < length bytes → ⊥
-    empty bytes none some = omega (arith, ap length none)
+empty : (bytes : List ℕ) → bytes ≡ [] → 0 < length bytes → ⊥
+empty bytes none some = omega (arith, ap length none)
 
--- the line of a reply is one that err may take
-line_of : (told : Option Files) (request : Option Request) (old new : Option (List ℕ × ℕ)) (rose out_rose : Type 0) (reply : Reply) →
-    Replies request told old new rose reply → IsLine told request rose out_rose (err_of reply)
-line_of told request old new rose out_rose (replies.Says a) r = inl (record { answer = a; says = says_some told request old new rose a r; is = refl })
-line_of told None old new rose out_rose (replies.ReadFault line) r = absurd (no_read r.0)
-  where
-    no_read : replies.ReadFault line ≡ replies.Says answers.Usage → ⊥
-    no_read e = cc
-line_of told (Some request) old new rose out_rose (replies.ReadFault line) r = inr (inl (record { rose = r.rose; file = r.file; named = r.named; is = r.says }))
-line_of told request old new rose out_rose replies.Memory r = inr (inr (inr refl))
+nothing_out : (known : Files) (request : Request) (old new : Option (List ℕ × ℕ)) (rose : Type 0) (reply : Reply) (a : Answer) → Decides (Some known) old new rose (ask_of request) reply →
+    Says (Some known) (Some request) a → IsRefusal a → out_of reply ≡ []
+nothing_out known request old new rose (replies.Says b) a d says refusal =
+    same_out b a (SaysBy-request known request b a (SaysBy-decided (Some known) new rose (new ≡ old) (ask_of request) b d) says) ∙ no_out a refusal
+nothing_out known request old new rose (replies.ReadFault line) a d says refusal = refl
+nothing_out known request old new rose replies.Memory a d says refusal = refl
 
-pub ErrFront-delivered : (told : Option Files) (request : Option Request) (old new : Option (List ℕ × ℕ)) (rose out_rose err_rose : Type 0) (reply : Reply) (status : Status)
-    (out_old out_new err_old err_new : Option (List ℕ)) →
-    Replies request told old new rose reply → Delivers out_rose err_rose reply status out_old out_new err_old err_new →
-    ErrFront told request rose out_rose err_old err_new
-ErrFront-delivered told request old new rose out_rose err_rose reply status out_old out_new err_old err_new r d =
-    ⊎_elim (λ (t : IsTold reply status out_old out_new err_old err_new).
-    record { line = err_of reply; is = line_of told request old new rose out_rose reply r; front = AddsFront-all err_old err_new (err_of reply) t.err })
-    (⊎_elim (λ (o : OutFails out_rose err_rose reply status out_old out_new err_old err_new).
-    record { line = write_fault_line; is = inr (inr (inl (o.rose, refl))); front = ⊎_elim (AddsFront-all err_old err_new write_fault_line) (λ f. f.1) o.err })
-    (λ (e : ErrFails err_rose reply status out_old out_new err_old err_new).
-    record { line = err_of reply; is = line_of told request old new rose out_rose reply r; front = e.err })) d
+pub Refusal-run : (told : Option Files) (request : Option Request) (old new : Option (List ℕ × ℕ)) (rose out_rose err_rose : Type 0) (status : Status) (out_old out_new err_old err_new : Option (List ℕ)) →
+    Runs rose out_rose err_rose request told old new status out_old out_new err_old err_new →
+    IfSome told (λ known. (a : Answer) → Says (Some known) request a → IsRefusal a → Adds out_old out_new [])
+Refusal-run None request old new rose out_rose err_rose status out_old out_new err_old err_new r = tt
+Refusal-run (Some known) None old new rose out_rose err_rose status out_old out_new err_old err_new r = λ a says refusal. r.out
+Refusal-run (Some known) (Some request) old new rose out_rose err_rose status out_old out_new err_old err_new r = λ a says refusal.
+    let none = nothing_out known request old new rose r.reply a r.decided says refusal in
+    ⊎_elim (λ (w : IsWritten err_rose r.reply status out_old out_new err_old err_new). subst (λ (bytes : List ℕ). Adds out_old out_new bytes) none w.out)
+    (⊎_elim (λ (f : OutFails out_rose err_rose (out_of r.reply) status out_old out_new err_old err_new). absurd (empty (out_of r.reply) none f.some))
+    (λ (m : OutWants err_rose (out_of r.reply) status out_old out_new err_old err_new). absurd (empty (out_of r.reply) none m.some))) r.delivered
+
+-- ---- the file that is started at the end
+
+-- in every case none was started, or one, within its limit
+starts_within : (known : Files) (request : Request) (old new : Option (List ℕ × ℕ)) (rose : Type 0) (reply : Reply) →
+    Leaves (Some known) (file_words request) old new rose reply → StartsWithin known (file_words request) old new
+starts_within known request old new rose (replies.Says a) out = inr (record { file = out.file; named = out.named; given = IsGiven-pulled_out known out.file new out.place })
+starts_within known request old new rose (replies.ReadFault line) r = inr r.starts.0
+starts_within known request old new rose replies.Memory r = r
+
+-- with an answer a file was pulled out
+pulled_out_by : (known : Files) (request : Request) (old new : Option (List ℕ × ℕ)) (rose : Type 0) (reply : Reply) →
+    Leaves (Some known) (file_words request) old new rose reply → EndsInAnswer (status_of reply) → IsPulledOut known (file_words request) new
+pulled_out_by known request old new rose (replies.Says a) out ends = out
+pulled_out_by known request old new rose (replies.ReadFault line) r ends = absurd ends
+pulled_out_by known request old new rose replies.Memory r ends = absurd ends
+
+pub StartedAtEnd-run : (told : Option Files) (request : Option Request) (old new : Option (List ℕ × ℕ)) (rose out_rose err_rose : Type 0) (status : Status) (out_old out_new err_old err_new : Option (List ℕ)) →
+    Runs rose out_rose err_rose request told old new status out_old out_new err_old err_new →
+    IfSome told (λ known. StartedAtEnd known request status old new)
+StartedAtEnd-run None request old new rose out_rose err_rose status out_old out_new err_old err_new r = tt
+StartedAtEnd-run (Some known) None old new rose out_rose err_rose status out_old out_new err_old err_new r = r.started
+StartedAtEnd-run (Some known) (Some request) old new rose out_rose err_rose status out_old out_new err_old err_new r =
+    let left = leaves_of request (Some known) old new rose out_rose err_rose status out_old out_new err_old err_new r.reply r.decided in (
+      starts_within known request old new rose r.reply left,
+      λ ends. let w = written_of request (Some known) old new rose out_rose err_rose status out_old out_new err_old err_new r.reply r.delivered ends in
+          pulled_out_by known request old new rose r.reply left (subst EndsInAnswer w.0 ends),
+    )

@@ -1,21 +1,60 @@
--- Laws of the definitions.
-use Rattle.std.specs.Prelude.{◌≡◌, ℕ, ◌⊎◌, List}
+-- Laws of the definitions: to given words and files there is an answer, and one.
+use Rattle.std.specs.Prelude.{◌≡◌, ℕ, ◌⊎◌, List, Some, Result, Ok, Err}
 use Rattle.tydi_io.specs.Store.{Files}
 use Rattle.tydi_tool.specs.declared.answer.Answer.{Answer}
-use Rattle.tydi_tool.specs.Words.{request_of}
-use Rattle.tydi_tool.specs.Answers.{Says}
-use Rattle.tydi_tool.specs.Projects.{IsNoTree}
+use Rattle.tydi_tool.specs.declared.answer.Answer.TheVariants as answers
+use Rattle.tydi_tool.specs.Words.{Request}
+use Rattle.tydi_tool.specs.Ask.{Ask, Ends, Asks, SaysBy}
+use Rattle.tydi_tool.specs.Commands.{ask_of}
+use Rattle.tydi_tool.specs.Projects.{IsNoTreeLine}
 
--- two answers are both such refusals of one file
-pub record AreNoTrees (a b : Answer) : Type 0 where
+-- two lines are both such refusals of one project
+pub record AreNoTrees (one other : List ℕ) : Type 0 where
   pub word : List ℕ
-  pub one : IsNoTree word a
-  pub other : IsNoTree word b
+  pub first : IsNoTreeLine word one
+  pub second : IsNoTreeLine word other
 
--- two answers are the same, the name and the place of the fault of tokens that spell no tree aside
+-- two lines are the same, the name and the place of the fault of tokens that spell no tree aside
+abbrev pub AreOneLine : List ℕ → List ℕ → Type 0
+AreOneLine one other = (one ≡ other) ⊎ AreNoTrees one other
+
+-- two answers refuse with such lines
+pub record AreRefusals (a b : Answer) : Type 0 where
+  pub one : List ℕ
+  pub other : List ℕ
+  pub first : a ≡ answers.Refused one
+  pub second : b ≡ answers.Refused other
+  pub lines : AreOneLine one other
+
+-- two answers are the same, such lines aside
 abbrev pub AreOne : Answer → Answer → Type 0
-AreOne a b = (a ≡ b) ⊎ AreNoTrees a b
+AreOne a b = (a ≡ b) ⊎ AreRefusals a b
+
+-- bytes are read in one way
+pub record ReadsOnce {X : Type 0} (Reads : List ℕ → Result X (List ℕ) → Type 0) : Type 0 where
+  pub same : (bytes : List ℕ) (x y : X) → Reads bytes (Ok x) → Reads bytes (Ok y) → x ≡ y
+  pub apart : (bytes : List ℕ) (x : X) (line : List ℕ) → Reads bytes (Ok x) → Reads bytes (Err line) → ⊥
+  pub lines : (bytes one other : List ℕ) → Reads bytes (Err one) → Reads bytes (Err other) → AreOneLine one other
+
+-- a command reads each file in one way, and says one thing at its end
+abbrev pub AsksOnce : Ask → Type 0
+AsksOnce (Ends Tells) = (a b : Answer) → Tells a → Tells b → AreOne a b
+AsksOnce (Asks file X Reads next) = ReadsOnce Reads × ((bytes : List ℕ) (x : X) → Reads bytes (Ok x) → AsksOnce (next x))
+
+-- it is not so that there is none
+abbrev pub HasSome : (A : Type 0) → (A → Type 0) → Type 0
+HasSome A P = ((a : A) → P a → ⊥) → ⊥
+
+-- whatever the bytes, they are read or refused, and at the end something is said
+abbrev pub AsksAlways : Ask → Type 0
+AsksAlways (Ends Tells) = HasSome Answer Tells
+AsksAlways (Asks file X Reads next) =
+    ((bytes : List ℕ) → HasSome (Result X (List ℕ)) (Reads bytes)) × ((bytes : List ℕ) (x : X) → Reads bytes (Ok x) → AsksAlways (next x))
 
 -- to given words and files there is one answer
 abbrev pub OneAnswer : Type 0
-OneAnswer = (words : List (List ℕ)) (told : Files) (a b : Answer) → Says told (request_of words) a → Says told (request_of words) b → AreOne a b
+OneAnswer = (request : Request) (told : Files) (a b : Answer) → SaysBy (Some told) (ask_of request) a → SaysBy (Some told) (ask_of request) b → AreOne a b
+
+-- to given words and files there is an answer
+abbrev pub SomeAnswer : Type 0
+SomeAnswer = (request : Request) (told : Files) → HasSome Answer (SaysBy (Some told) (ask_of request))

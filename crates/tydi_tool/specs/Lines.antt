@@ -1,21 +1,9 @@
--- The lines that a run writes (this project's own).
+-- The lines of a survey (this project's own).
 use Rattle.std.specs.Prelude.{ℕ, List, [], ◌∷◌, ◌++◌, codes, decimal}
 use Rattle.tydi_base.specs.Path.{path_text}
 use Rattle.physical_stream.specs.Rules.{number_of_rule, name_of_rule}
 use Rattle.physical_stream.specs.declared.head.Head.{Head}
 use Rattle.physical_stream.specs.declared.rule.Rule.{Rule}
-use Rattle.tydi_tool.specs.Refusals.{name_of_refusal, details_text}
-use Rattle.tydi_tool.specs.declared.refusal.Refusal.{Refusal}
-
--- a fault that names a file, and what says where in it
-abbrev pub file_line : List ℕ → List ℕ → List ℕ → List ℕ
-file_line name word details = codes "tydi: " ++ name ++ codes " " ++ word ++ details ++ codes "\n"
-
-abbrev pub refusal_line : Refusal → List ℕ → List ℕ
-refusal_line refusal word = file_line (name_of_refusal refusal) word (details_text refusal)
-
-abbrev pub read_fault_line : List ℕ → List ℕ
-read_fault_line word = file_line (codes "ReadFault") word []
 
 abbrev pub offence_line : ℕ → List (List ℕ) → Rule → List ℕ
 offence_line cycle path rule =

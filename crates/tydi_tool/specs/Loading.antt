@@ -1,44 +1,34 @@
--- A file that is started and pulled (this project's own).
-use Rattle.std.specs.Prelude.{◌≡◌, ℕ, ◌+◌, ◌<◌, ◌≤◌, List, length, min, take, Option, Some, None, option_map, MatchOption, Result, Ok, Err}
+-- A file that is started, pulled, and fed to a reader piece by piece (this project's own).
+use Rattle.std.specs.Prelude.{◌≡◌, ℕ, ◌≤◌, ◌⊎◌, List, [], ◌++◌, length, take, Option, Some, IfSome, Result, Ok, Err}
 use Rattle.tydi_io.specs.Faults.{Rose}
-use Rattle.tydi_io.specs.Store.{Files}
+use Rattle.tydi_io.specs.Store.{Files, left_of, given_more}
+use Rattle.tydi_tool.specs.declared.answer.Answer.TheVariants as answers
+use Rattle.tydi_tool.specs.declared.answer.Reply.{Reply}
+use Rattle.tydi_tool.specs.declared.answer.Reply.TheVariants as replies
 use Rattle.tydi_tool.specs.declared.loading.LoadError.{LoadError}
 use Rattle.tydi_tool.specs.declared.loading.LoadError.TheVariants as errors
+use Rattle.tydi_tool.specs.Outcome.{read_fault_line}
 use Rattle.tydi_tool.specs.Words.{FileWord}
+use Rattle.tydi_tool.specs.Files.{NoFile, TooLong, lack_line, IsFound, IsPulled, IsGiven}
 
--- the place in the file once it was pulled to its end or to one byte past its limit; none where there is no such file
-abbrev pub pulled_out : Files → FileWord → Option (List ℕ × ℕ)
-pulled_out told file = option_map (λ bytes. (file.word, min (length bytes) (file.limit + 1))) (told file.word)
+-- a reader was fed these bytes: whatever follows them, it reads as the reader before it reads all
+abbrev pub IsFed : {X : Type 0} → (old new : List ℕ → Result X (List ℕ) → Type 0) → List ℕ → Type 0
+IsFed {X} old new bytes = (rest : List ℕ) (read : Result X (List ℕ)) → new rest read → old (bytes ++ rest) read
 
--- the file is started, and at most one byte more than its limit was given
-pub record GivenWithin (file : FileWord) (bytes : List ℕ) (started : Option (List ℕ × ℕ)) : Type 0 where
-  pub given : ℕ
-  pub within : given ≤ length bytes
-  pub limited : given ≤ file.limit + 1
-  pub place : started ≡ Some (file.word, given)
-
--- the same, or there is no such file, and none is started
-abbrev pub IsGiven : Files → FileWord → Option (List ℕ × ℕ) → Type 0
-IsGiven told file started = MatchOption (told file.word) (started ≡ None) (λ bytes. GivenWithin file bytes started)
-
--- the file has at most as many bytes as its limit, and they are these
-pub record IsFile (told : Files) (file : FileWord) (bytes : List ℕ) : Type 0 where
-  pub named : told file.word ≡ Some bytes
-  pub within : length bytes ≤ file.limit
-
--- the file has more bytes than its limit
-pub record IsTooLong (told : Files) (file : FileWord) : Type 0 where
+-- the file was found and pulled to its end, and the reader was fed all of it
+pub record IsLoaded {X : Type 0} (told : Option Files) (file : FileWord) (started : Option (List ℕ × ℕ)) (old new : List ℕ → Result X (List ℕ) → Type 0) : Type 0 where
   pub bytes : List ℕ
-  pub named : told file.word ≡ Some bytes
-  pub long : file.limit < length bytes
+  pub found : IsFound told file (Ok bytes)
+  pub pulled : IsPulled told file started
+  pub fed : IsFed old new bytes
 
--- what a load says of a store that tells its files, and where it leaves the file
-abbrev pub Loads : Files → FileWord → Option (List ℕ × ℕ) → Result (List ℕ) LoadError → Type 0
-Loads told file started (Ok bytes) = IsFile told file bytes × (started ≡ pulled_out told file)
-Loads told file started (Err errors.NoFile) = (told file.word ≡ None) × (started ≡ pulled_out told file)
-Loads told file started (Err errors.TooLong) = IsTooLong told file × (started ≡ pulled_out told file)
-Loads told file started (Err errors.ReadFault) = IsGiven told file started
-Loads told file started (Err errors.Memory) = IsGiven told file started
+-- what a load gives, and where it leaves the file
+abbrev pub Loads : {X T : Type 0} → Option Files → FileWord → Option (List ℕ × ℕ) → (old new : List ℕ → Result X (List ℕ) → Type 0) → Result T LoadError → Type 0
+Loads told file started old new (Ok _) = IsLoaded told file started old new
+Loads told file started old new (Err errors.NoFile) = IsFound told file (Err NoFile) × IsPulled told file started
+Loads told file started old new (Err errors.TooLong) = IsFound told file (Err TooLong) × IsPulled told file started
+Loads told file started old new (Err errors.ReadFault) = IfSome told (λ known. IsGiven known file started)
+Loads told file started old new (Err errors.Memory) = IfSome told (λ known. IsGiven known file started)
 
 -- the store's faults never fall, and a load fails to read only where they rose
 pub record ReadsFaults {T : Type 0} (before after : ℕ) (result : Result T LoadError) : Type 0 where
@@ -46,22 +36,41 @@ pub record ReadsFaults {T : Type 0} (before after : ℕ) (result : Result T Load
   pub rose : result ≡ Err errors.ReadFault → Rose before after
 
 -- the file is there, and is started at its first byte
-pub record IsAtStart (told : Files) (word : List ℕ) (started : Option (List ℕ × ℕ)) : Type 0 where
+pub record IsAtStart (known : Files) (word : List ℕ) (started : Option (List ℕ × ℕ)) : Type 0 where
   pub file : List ℕ
-  pub named : told word ≡ Some file
+  pub named : known word ≡ Some file
   pub place : started ≡ Some (word, 0)
 
--- while a file is pulled: its first bytes were given, and they are these
-pub record Progress (told : Files) (word : List ℕ) (started : Option (List ℕ × ℕ)) (bytes : List ℕ) : Type 0 where
-  pub file : List ℕ
-  pub named : told word ≡ Some file
-  pub place : started ≡ Some (word, length bytes)
-  pub within : length bytes ≤ length file
-  pub front : bytes ≡ take (length bytes) file
+-- one pull gave these bytes, none only at the end
+pub record Gives (known : Files) (before after : Option (List ℕ × ℕ)) (more : List ℕ) : Type 0 where
+  pub within : length more ≤ length (left_of known before)
+  pub bytes : more ≡ take (length more) (left_of known before)
+  pub ends : more ≡ [] → left_of known before ≡ []
+  pub place : after ≡ given_more before (length more)
 
--- after one pull more: the first bytes with those that came, all of them where none came; an error gives no more than is allowed
-abbrev pub AddsPiece : Files → FileWord → Option (List ℕ × ℕ) → List ℕ → Result ℕ LoadError → Type 0
-AddsPiece told file started bytes (Ok count) = Progress told file.word started bytes × (count ≡ 0 → told file.word ≡ Some bytes)
-AddsPiece told file started bytes (Err errors.ReadFault) = IsGiven told file started
-AddsPiece told file started bytes (Err errors.Memory) = IsGiven told file started
-AddsPiece told file started bytes (Err error) = ⊥
+-- one pull gave so many bytes, and the reader was fed them
+pub record IsFedMore {X : Type 0} (told : Option Files) (before after : Option (List ℕ × ℕ)) (old new : List ℕ → Result X (List ℕ) → Type 0) (count : ℕ) : Type 0 where
+  pub more : List ℕ
+  pub counted : length more ≡ count
+  pub gives : IfSome told (λ known. Gives known before after more)
+  pub fed : IsFed old new more
+
+-- one pull gave at most so many bytes, and there was no memory for the reader to take them
+pub record IsFedNoMore (told : Option Files) (before after : Option (List ℕ × ℕ)) (room : ℕ) : Type 0 where
+  pub more : List ℕ
+  pub limited : length more ≤ room
+  pub gives : IfSome told (λ known. Gives known before after more)
+
+-- what one pull into so much room gives
+abbrev pub Feeds : {X : Type 0} → Option Files → (before after : Option (List ℕ × ℕ)) → (old new : List ℕ → Result X (List ℕ) → Type 0) → ℕ → Result ℕ LoadError → Type 0
+Feeds told before after old new room (Ok count) = IsFedMore told before after old new count
+Feeds told before after old new room (Err errors.ReadFault) = IfSome told (λ known. after ≡ before)
+Feeds told before after old new room (Err errors.Memory) = IsFedNoMore told before after room
+Feeds told before after old new room (Err error) = ⊥
+
+-- what is replied where a file was not loaded: its line, or want of memory for it
+abbrev pub RepliesToError : List ℕ → LoadError → Reply → Type 0
+RepliesToError word errors.NoFile reply = (reply ≡ replies.Says (answers.Refused (lack_line NoFile word))) ⊎ (reply ≡ replies.Memory)
+RepliesToError word errors.TooLong reply = (reply ≡ replies.Says (answers.Refused (lack_line TooLong word))) ⊎ (reply ≡ replies.Memory)
+RepliesToError word errors.ReadFault reply = (reply ≡ replies.ReadFault (read_fault_line word)) ⊎ (reply ≡ replies.Memory)
+RepliesToError word errors.Memory reply = reply ≡ replies.Memory

@@ -6,6 +6,7 @@ use Rattle.tydi_tool.specs.declared.answer.Reply.{Reply}
 use Rattle.tydi_tool.specs.declared.answer.Reply.TheVariants as replies
 use Rattle.tydi_tool.specs.declared.status.Status.{Status}
 use Rattle.tydi_tool.specs.declared.status.Status.TheVariants as statuses
+use Rattle.tydi_tool.specs.Refusals.{of_file, refusal_line}
 
 abbrev pub exit_code : Status → ℕ
 exit_code statuses.Done = 0
@@ -28,6 +29,9 @@ write_fault_line = codes "tydi: WriteFault\n"
 abbrev pub output_too_long_line : List ℕ
 output_too_long_line = codes "tydi: OutputTooLong\n"
 
+abbrev pub read_fault_line : List ℕ → List ℕ
+read_fault_line word = refusal_line (of_file (codes "ReadFault") word)
+
 -- 64 MiB
 abbrev pub output_limit : ℕ
 output_limit = 64 * 2 ^ 20
@@ -38,19 +42,16 @@ output_answer text = if nat_lt output_limit (length text) then answers.Refused o
 
 -- what an answer gives to out, what it gives to err, and how it ends
 abbrev pub out_of_answer : Answer → List ℕ
-out_of_answer answers.Usage = []
 out_of_answer (answers.Refused line) = []
 out_of_answer (answers.Verdict line) = line
 out_of_answer (answers.Done text) = text
 
 abbrev pub err_of_answer : Answer → List ℕ
-err_of_answer answers.Usage = usage_line
 err_of_answer (answers.Refused line) = line
 err_of_answer (answers.Verdict line) = []
 err_of_answer (answers.Done text) = []
 
 abbrev pub status_of_answer : Answer → Status
-status_of_answer answers.Usage = statuses.Usage
 status_of_answer (answers.Refused line) = statuses.Refused
 status_of_answer (answers.Verdict line) = statuses.Verdict
 status_of_answer (answers.Done text) = statuses.Done

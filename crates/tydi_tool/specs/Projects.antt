@@ -1,66 +1,72 @@
--- What is said of the text of a project (this project's own).
-use Rattle.std.specs.Prelude.{◌≡◌, ℕ, ◌⊎◌, Bool, true, false, List, Result, Ok, Err, Option, Some, None}
+-- How the text of a project is read (this project's own).
+use Rattle.std.specs.Prelude.{◌≡◌, ℕ, ◌⊎◌, Bool, true, false, List, Option, Some, None, option_map, slice_get, Result, Ok, Err, codes}
 use Rattle.std.specs.Str.{is_utf8}
 use Rattle.std.specs.Str.Lossy.{utf8_valid_len}
+use Rattle.tydi_base.specs.declared.place.Place.{Place}
 use Rattle.til_lexer.specs.Tokens.{tokens_of}
 use Rattle.til_lexer.specs.declared.fault.LexFault.{LexFault}
 use Rattle.til_lexer.specs.declared.token.Token.{Token}
-use Rattle.til_parser.specs.Canonical.{canonical}
 use Rattle.til_parser.specs.Grammar.{Spells, IsWithin, most_levels}
 use Rattle.til_parser.specs.Lexemes.{lexemes_of}
+use Rattle.til_parser.specs.declared.fault.ParseFault.{ParseFault}
+use Rattle.til_parser.specs.declared.fault.ParseFault.TheVariants as parsing
 use Rattle.til_parser.specs.declared.tree.Ast.{Ast}
-use Rattle.tydi_tool.specs.declared.answer.Answer.{Answer}
-use Rattle.tydi_tool.specs.declared.answer.Answer.TheVariants as answers
-use Rattle.tydi_tool.specs.declared.refusal.Refusal.{Refusal}
-use Rattle.tydi_tool.specs.declared.refusal.Refusal.TheVariants as refusals
-use Rattle.tydi_tool.specs.Refusals.{refusal_of_lexing}
-use Rattle.tydi_tool.specs.Lines.{refusal_line}
-use Rattle.tydi_tool.specs.Outcome.{output_answer}
-
--- the answer on a text that is refused. Reading a text is never refused for want of memory.
-abbrev pub TellsRefusal : List ℕ → Option Refusal → Answer → Type 0
-TellsRefusal word (Some refusal) a = a ≡ answers.Refused (refusal_line refusal word)
-TellsRefusal word None a = ⊥
-
--- the refusals of tokens that spell no tree
-abbrev pub IsParseRefusal : Refusal → Type 0
-IsParseRefusal (refusals.Unexpected place) = Unit {0}
-IsParseRefusal refusals.EndOfText = Unit {0}
-IsParseRefusal (refusals.TooDeep place) = Unit {0}
-IsParseRefusal refusal = ⊥
+use Rattle.tydi_tool.specs.Reading.{RefusesBy}
+use Rattle.tydi_tool.specs.Refusals.{Refusal, At, of_file, of_file_with, not_utf8, refusal_line, refusal_of_lexing}
 
 -- the tokens of a text spell this tree, and its types nest no deeper than is allowed
 pub record IsProject (text : List ℕ) (tokens : List Token) (ast : Ast) : Type 0 where
   pub spelled : Spells ast (lexemes_of text tokens)
   pub within : IsWithin most_levels ast
 
--- the answer on a tree: its canonical text
-pub record TellsTree (text : List ℕ) (tokens : List Token) (a : Answer) : Type 0 where
+-- a refusal that names a token, with its place
+pub record NamesPlace (name word : List ℕ) (refusal : Refusal) : Type 0 where
+  pub place : Place
+  pub is : refusal ≡ of_file_with name word (At place)
+
+-- the refusals of tokens that spell no tree
+abbrev pub IsParseRefusal : List ℕ → Refusal → Type 0
+IsParseRefusal word refusal =
+    NamesPlace (codes "Unexpected") word refusal ⊎ ((refusal ≡ of_file (codes "EndOfText") word) ⊎ NamesPlace (codes "TooDeep") word refusal)
+
+-- the line of one of these. Which of them, and its place, is not claimed.
+pub record IsNoTreeLine (word line : List ℕ) : Type 0 where
+  pub refusal : Refusal
+  pub is : IsParseRefusal word refusal
+  pub says : line ≡ refusal_line refusal
+
+pub record ReadsTree (text : List ℕ) (tokens : List Token) (read : Result Ast (List ℕ)) : Type 0 where
   pub ast : Ast
   pub is : IsProject text tokens ast
-  pub says : a ≡ output_answer (canonical ast)
+  pub says : read ≡ Ok ast
 
--- an answer is one of the refusals of tokens that spell no tree. Which of them, and its place, is not claimed.
-pub record IsNoTree (word : List ℕ) (a : Answer) : Type 0 where
-  pub refusal : Refusal
-  pub is : IsParseRefusal refusal
-  pub says : a ≡ answers.Refused (refusal_line refusal word)
-
--- the answer where there is no tree
-pub record TellsNoTree (word text : List ℕ) (tokens : List Token) (a : Answer) : Type 0 where
+pub record ReadsNoTree (word text : List ℕ) (tokens : List Token) (read : Result Ast (List ℕ)) : Type 0 where
   pub none : (ast : Ast) → IsProject text tokens ast → ⊥
-  pub says : IsNoTree word a
+  pub line : List ℕ
+  pub is : IsNoTreeLine word line
+  pub says : read ≡ Err line
 
--- the answer on the tokens of a text, or on the first fault of them
-abbrev pub TellsTokens : List ℕ → List ℕ → Result (List Token) LexFault → Answer → Type 0
-TellsTokens word text (Ok tokens) a = TellsTree text tokens a ⊎ TellsNoTree word text tokens a
-TellsTokens word text (Err fault) a = TellsRefusal word (refusal_of_lexing fault) a
+-- by the tokens of a text, or the first fault of them
+abbrev pub ReadsTokens : List ℕ → List ℕ → Result (List Token) LexFault → Result Ast (List ℕ) → Type 0
+ReadsTokens word text (Ok tokens) read = ReadsTree text tokens read ⊎ ReadsNoTree word text tokens read
+ReadsTokens word text (Err fault) read = RefusesBy (refusal_of_lexing word fault) read
 
--- the answer on bytes, by whether they are UTF-8
-abbrev pub TellsCoded : List ℕ → List ℕ → Bool → Answer → Type 0
-TellsCoded word bytes true a = TellsTokens word bytes (tokens_of bytes) a
-TellsCoded word bytes false a = a ≡ answers.Refused (refusal_line (refusals.NotUtf8 (utf8_valid_len bytes)) word)
+-- by whether bytes are UTF-8
+abbrev pub ReadsCoded : List ℕ → List ℕ → Bool → Result Ast (List ℕ) → Type 0
+ReadsCoded word bytes true read = ReadsTokens word bytes (tokens_of bytes) read
+ReadsCoded word bytes false read = read ≡ Err (refusal_line (not_utf8 word (utf8_valid_len bytes)))
 
--- the answer on the bytes of a project
-abbrev pub TellsProject : List ℕ → List ℕ → Answer → Type 0
-TellsProject word bytes a = TellsCoded word bytes (is_utf8 bytes) a
+-- the text of a project is read as its tree
+abbrev pub ReadsProject : List ℕ → List ℕ → Result Ast (List ℕ) → Type 0
+ReadsProject word bytes read = ReadsCoded word bytes (is_utf8 bytes) read
+
+-- the place of the token of this number
+abbrev pub place_of : List Token → ℕ → Option Place
+place_of tokens index = option_map (λ token. token.place) (slice_get tokens index)
+
+-- the refusal of tokens with this fault of their tree; want of memory is none
+abbrev pub refusal_of_parsing : List ℕ → List Token → ParseFault → Option Refusal
+refusal_of_parsing word tokens (parsing.Unexpected index) = option_map (λ place. of_file_with (codes "Unexpected") word (At place)) (place_of tokens index)
+refusal_of_parsing word tokens parsing.EndOfText = Some (of_file (codes "EndOfText") word)
+refusal_of_parsing word tokens (parsing.TooDeep index) = option_map (λ place. of_file_with (codes "TooDeep") word (At place)) (place_of tokens index)
+refusal_of_parsing word tokens parsing.Memory = None

@@ -1,78 +1,80 @@
--- Refusals: their names and details, and the faults of texts that they stand for (this project's own).
-use Rattle.std.specs.Prelude.{ℕ, List, [], ◌++◌, Option, Some, None, codes, decimal}
+-- Refusals, each a name and its details, and the faults of texts that they stand for (this project's own).
+use Rattle.std.specs.Prelude.{ℕ, List, [], ◌∷◌, ◌++◌, Option, Some, None, codes, decimal}
+use Rattle.std.specs.List.{flat_map}
+use Rattle.tydi_base.specs.Path.{path_text}
 use Rattle.tydi_base.specs.declared.place.Place.{Place}
 use Rattle.cycle_trace.specs.declared.fault.TraceFault.{TraceFault}
 use Rattle.cycle_trace.specs.declared.fault.TraceFault.TheVariants as faults
 use Rattle.til_lexer.specs.declared.fault.LexFault.{LexFault}
 use Rattle.til_lexer.specs.declared.fault.LexFault.TheVariants as lexing
-use Rattle.tydi_tool.specs.declared.refusal.Refusal.{Refusal}
-use Rattle.tydi_tool.specs.declared.refusal.Refusal.TheVariants as refusals
+use Rattle.tydi_tool.specs.declared.refusal.Detail.{Detail}
+use Rattle.tydi_tool.specs.declared.refusal.Detail.TheVariants as details
 
-abbrev pub name_of_refusal : Refusal → List ℕ
-name_of_refusal refusals.NoFile = codes "NoFile"
-name_of_refusal refusals.TooLong = codes "TooLong"
-name_of_refusal (refusals.BadHeader line) = codes "BadHeader"
-name_of_refusal refusals.TooManyCycles = codes "TooManyCycles"
-name_of_refusal (refusals.BadRow line) = codes "BadRow"
-name_of_refusal (refusals.WrongSignals line) = codes "WrongSignals"
-name_of_refusal (refusals.RowsMissing want got) = codes "RowsMissing"
-name_of_refusal (refusals.RowsLeft line) = codes "RowsLeft"
-name_of_refusal (refusals.NotUtf8 front) = codes "NotUtf8"
-name_of_refusal (refusals.StrayChar place) = codes "StrayChar"
-name_of_refusal (refusals.OpenString place) = codes "OpenString"
-name_of_refusal (refusals.OpenDoc place) = codes "OpenDoc"
-name_of_refusal (refusals.NameNotAscii place) = codes "NameNotAscii"
-name_of_refusal (refusals.BadName place) = codes "BadName"
-name_of_refusal (refusals.NumberTooLong place) = codes "NumberTooLong"
-name_of_refusal (refusals.Unexpected place) = codes "Unexpected"
-name_of_refusal refusals.EndOfText = codes "EndOfText"
-name_of_refusal (refusals.TooDeep place) = codes "TooDeep"
+-- a detail, apart from where it lies in memory: a word, the path of a stream, a number, a place in a text, or a name
+pub data Said : Type 0 where
+  Word : List ℕ → Said
+  Stream : List (List ℕ) → Said
+  Number : ℕ → Said
+  At : Place → Said
+  Name : List ℕ → Said
 
--- a number, with a space before it
-abbrev pub number_text : ℕ → List ℕ
-number_text number = codes " " ++ decimal number
+abbrev pub said_by : Detail → Said
+said_by (details.Word word) = Word word.now
+said_by (details.Stream path) = Stream path.now
+said_by (details.Number number) = Number number
+said_by (details.At place) = At place
+said_by (details.Name name) = Name name.now
 
--- the line and the column of a place, with a space before them
-abbrev pub place_text : Place → List ℕ
-place_text place = codes " " ++ decimal place.line ++ codes ":" ++ decimal place.column
+-- a fault's name, and what its line has after it
+pub record Refusal : Type 0 where
+  pub name : List ℕ
+  pub details : List Said
 
--- what its line has after the word of the file
-abbrev pub details_text : Refusal → List ℕ
-details_text refusals.NoFile = []
-details_text refusals.TooLong = []
-details_text (refusals.BadHeader line) = number_text line
-details_text refusals.TooManyCycles = []
-details_text (refusals.BadRow line) = number_text line
-details_text (refusals.WrongSignals line) = number_text line
-details_text (refusals.RowsMissing want got) = number_text want ++ number_text got
-details_text (refusals.RowsLeft line) = number_text line
-details_text (refusals.NotUtf8 front) = number_text front
-details_text (refusals.StrayChar place) = place_text place
-details_text (refusals.OpenString place) = place_text place
-details_text (refusals.OpenDoc place) = place_text place
-details_text (refusals.NameNotAscii place) = place_text place
-details_text (refusals.BadName place) = place_text place
-details_text (refusals.NumberTooLong place) = place_text place
-details_text (refusals.Unexpected place) = place_text place
-details_text refusals.EndOfText = []
-details_text (refusals.TooDeep place) = place_text place
+abbrev pub said_text : Said → List ℕ
+said_text (Word word) = word
+said_text (Stream path) = path_text path
+said_text (Number number) = decimal number
+said_text (At place) = decimal place.line ++ codes ":" ++ decimal place.column
+said_text (Name name) = name
 
--- the refusal of a trace text with this fault; want of memory is none
-abbrev pub refusal_of : TraceFault → Option Refusal
-refusal_of (faults.BadHeader line) = Some (refusals.BadHeader line)
-refusal_of faults.TooManyCycles = Some refusals.TooManyCycles
-refusal_of (faults.BadRow line) = Some (refusals.BadRow line)
-refusal_of (faults.WrongSignals line) = Some (refusals.WrongSignals line)
-refusal_of (faults.RowsMissing want got) = Some (refusals.RowsMissing want got)
-refusal_of (faults.RowsLeft line) = Some (refusals.RowsLeft line)
-refusal_of faults.Memory = None
+-- a detail stands after one space
+abbrev pub detail_text : Said → List ℕ
+detail_text detail = codes " " ++ said_text detail
 
--- the refusal of a text with this fault of its tokens; want of memory is none
-abbrev pub refusal_of_lexing : LexFault → Option Refusal
-refusal_of_lexing (lexing.StrayChar place) = Some (refusals.StrayChar place)
-refusal_of_lexing (lexing.OpenString place) = Some (refusals.OpenString place)
-refusal_of_lexing (lexing.OpenDoc place) = Some (refusals.OpenDoc place)
-refusal_of_lexing (lexing.NameNotAscii place) = Some (refusals.NameNotAscii place)
-refusal_of_lexing (lexing.BadName place) = Some (refusals.BadName place)
-refusal_of_lexing (lexing.NumberTooLong place) = Some (refusals.NumberTooLong place)
-refusal_of_lexing lexing.Memory = None
+abbrev pub details_text : List Said → List ℕ
+details_text details = flat_map detail_text details
+
+-- the line of a fault, whatever it is
+abbrev pub refusal_line : Refusal → List ℕ
+refusal_line refusal = codes "tydi: " ++ refusal.name ++ details_text refusal.details ++ codes "\n"
+
+-- a fault of a file that names nothing else, or a place in it
+abbrev pub of_file : List ℕ → List ℕ → Refusal
+of_file name word = record { name = name; details = Word word ∷ [] }
+
+abbrev pub of_file_with : List ℕ → List ℕ → Said → Refusal
+of_file_with name word detail = record { name = name; details = Word word ∷ detail ∷ [] }
+
+-- the refusal of a trace text of this word with this fault; want of memory is none
+abbrev pub refusal_of_trace : List ℕ → TraceFault → Option Refusal
+refusal_of_trace word (faults.BadHeader line) = Some (of_file_with (codes "BadHeader") word (Number line))
+refusal_of_trace word faults.TooManyCycles = Some (of_file (codes "TooManyCycles") word)
+refusal_of_trace word (faults.BadRow line) = Some (of_file_with (codes "BadRow") word (Number line))
+refusal_of_trace word (faults.WrongSignals line) = Some (of_file_with (codes "WrongSignals") word (Number line))
+refusal_of_trace word (faults.RowsMissing want got) = Some (record { name = codes "RowsMissing"; details = Word word ∷ Number want ∷ Number got ∷ [] })
+refusal_of_trace word (faults.RowsLeft line) = Some (of_file_with (codes "RowsLeft") word (Number line))
+refusal_of_trace word faults.Memory = None
+
+-- the refusal of bytes that are not UTF-8, the longest front of which that is has so many
+abbrev pub not_utf8 : List ℕ → ℕ → Refusal
+not_utf8 word front = of_file_with (codes "NotUtf8") word (Number front)
+
+-- the refusal of a text of this word with this fault of its tokens; want of memory is none
+abbrev pub refusal_of_lexing : List ℕ → LexFault → Option Refusal
+refusal_of_lexing word (lexing.StrayChar place) = Some (of_file_with (codes "StrayChar") word (At place))
+refusal_of_lexing word (lexing.OpenString place) = Some (of_file_with (codes "OpenString") word (At place))
+refusal_of_lexing word (lexing.OpenDoc place) = Some (of_file_with (codes "OpenDoc") word (At place))
+refusal_of_lexing word (lexing.NameNotAscii place) = Some (of_file_with (codes "NameNotAscii") word (At place))
+refusal_of_lexing word (lexing.BadName place) = Some (of_file_with (codes "BadName") word (At place))
+refusal_of_lexing word (lexing.NumberTooLong place) = Some (of_file_with (codes "NumberTooLong") word (At place))
+refusal_of_lexing word lexing.Memory = None

@@ -4,19 +4,45 @@ use Rattle.std.specs.Prelude.{◌≡◌, ℕ, ◌⊎◌, List, [], Option, Some,
 use Rattle.tydi_io.specs.Store.{Files}
 use Rattle.tydi_tool.specs.declared.answer.Answer.{Answer}
 use Rattle.tydi_tool.specs.declared.answer.Answer.TheVariants as answers
+use Rattle.tydi_tool.specs.declared.answer.Reply.{Reply}
 use Rattle.tydi_tool.specs.declared.status.Status.{Status}
 use Rattle.tydi_tool.specs.declared.status.Status.TheVariants as statuses
 use Rattle.tydi_tool.specs.Words.{Request, FileWord, file_words}
-use Rattle.tydi_tool.specs.Lines.{read_fault_line}
-use Rattle.tydi_tool.specs.Outcome.{out_of_answer, err_of_answer, status_of_answer, memory_line, write_fault_line}
-use Rattle.tydi_tool.specs.Delivery.{Adds, AddsFront}
-use Rattle.tydi_tool.specs.Replies.{IsOneOf, IsPulledOut, StartsWithin, NamesStarted}
-use Rattle.tydi_tool.specs.Answers.{Says}
+use Rattle.tydi_tool.specs.Outcome.{read_fault_line, out_of_answer, err_of_answer, status_of_answer, usage_line, memory_line, write_fault_line}
+use Rattle.tydi_tool.specs.Delivery.{Adds, AddsFront, TakesLine, Delivers}
+use Rattle.tydi_tool.specs.Ask.{Decides}
+use Rattle.tydi_tool.specs.Commands.{ask_of, Says}
+use Rattle.tydi_tool.specs.Started.{IsOneOf, IsPulledOut, StartsWithin, NamesStarted}
 
 -- the files that the command names, none where there is no command
 abbrev pub files_of : Option Request → List FileWord
 files_of None = []
 files_of (Some request) = file_words request
+
+-- ---- the whole of it
+
+-- there is no command: nothing is started and nothing goes to out
+pub record EndsUnasked (err_rose : Type 0) (told : Option Files) (started_old started_new : Option (List ℕ × ℕ)) (status : Status)
+    (out_old out_new err_old err_new : Option (List ℕ)) : Type 0 where
+  pub started : IfSome told (λ known. started_new ≡ started_old)
+  pub out : Adds out_old out_new []
+  pub err : TakesLine err_rose status statuses.Usage err_old err_new usage_line
+
+-- the command has a reply, which its files decide one after another, and which is delivered
+pub record EndsAsked (store_rose out_rose err_rose : Type 0) (request : Request) (told : Option Files) (started_old started_new : Option (List ℕ × ℕ)) (status : Status)
+    (out_old out_new err_old err_new : Option (List ℕ)) : Type 0 where
+  pub reply : Reply
+  pub decided : Decides told started_old started_new store_rose (ask_of request) reply
+  pub delivered : Delivers out_rose err_rose reply status out_old out_new err_old err_new
+
+abbrev pub Runs : (store_rose out_rose err_rose : Type 0) → Option Request → Option Files → (started_old started_new : Option (List ℕ × ℕ)) → Status
+    → (out_old out_new err_old err_new : Option (List ℕ)) → Type 0
+Runs store_rose out_rose err_rose None told started_old started_new status out_old out_new err_old err_new =
+    EndsUnasked err_rose told started_old started_new status out_old out_new err_old err_new
+Runs store_rose out_rose err_rose (Some request) told started_old started_new status out_old out_new err_old err_new =
+    EndsAsked store_rose out_rose err_rose request told started_old started_new status out_old out_new err_old err_new
+
+-- ---- what follows of it
 
 -- Usage comes only where the words spell no command; there it comes, or WriteFault, where err failed
 abbrev pub UsageExactly : Option Request → Type 0 → Status → Type 0
@@ -27,21 +53,26 @@ UsageExactly request err_rose status =
 abbrev pub EndsInAnswer : Status → Type 0
 EndsInAnswer statuses.Done = Unit {0}
 EndsInAnswer statuses.Refused = Unit {0}
-EndsInAnswer statuses.Usage = Unit {0}
 EndsInAnswer statuses.Verdict = Unit {0}
 EndsInAnswer status = ⊥
 
 -- the run ended with the answer to the words and the files: out has exactly its text or verdict, err exactly its line
-pub record IsAnswered (told : Files) (request : Option Request) (status : Status) (out_old out_new err_old err_new : Option (List ℕ)) : Type 0 where
+pub record IsAnswered (told : Option Files) (request : Option Request) (status : Status) (out_old out_new err_old err_new : Option (List ℕ)) : Type 0 where
   pub answer : Answer
   pub says : Says told request answer
   pub ends : status ≡ status_of_answer answer
   pub out : Adds out_old out_new (out_of_answer answer)
   pub err : Adds err_old err_new (err_of_answer answer)
 
+-- a run over which no call failed: it ends with that answer, as Usage, or for want of memory
+abbrev pub IsComplete : Option Files → Option Request → Status → (out_old out_new err_old err_new : Option (List ℕ)) → Type 0
+IsComplete told None status out_old out_new err_old err_new = status ≡ statuses.Usage
+IsComplete told (Some request) status out_old out_new err_old err_new =
+    (status ≡ statuses.Memory) ⊎ IsAnswered told (Some request) status out_old out_new err_old err_new
+
 -- a read failed: out is as before, err has exactly the line, which names the started file, or, where none is started, the
 -- first file word that the store lacks
-pub record TellsRead (told : Option Files) (request : Option Request) (started : Option (List ℕ × ℕ)) (out_old out_new err_old err_new : Option (List ℕ)) : Type 0 where
+pub record ReportsRead (told : Option Files) (request : Option Request) (started : Option (List ℕ × ℕ)) (out_old out_new err_old err_new : Option (List ℕ)) : Type 0 where
   pub file : FileWord
   pub named : IsOneOf (files_of request) file
   pub starts : IfSome told (λ known. NamesStarted known (files_of request) started file.word)
@@ -49,13 +80,13 @@ pub record TellsRead (told : Option Files) (request : Option Request) (started :
   pub err : Adds err_old err_new (read_fault_line file.word)
 
 -- out has its old bytes, and then a front of what the answer gives to it
-pub record HasFront (told : Files) (request : Option Request) (out_old out_new : Option (List ℕ)) : Type 0 where
+pub record HasFront (told : Option Files) (request : Option Request) (out_old out_new : Option (List ℕ)) : Type 0 where
   pub answer : Answer
   pub says : Says told request answer
   pub front : AddsFront out_old out_new (out_of_answer answer)
 
 -- in every case: out is as before, or has such a front
-abbrev pub OutFront : Files → Option Request → (out_old out_new : Option (List ℕ)) → Type 0
+abbrev pub OutFront : Option Files → Option Request → (out_old out_new : Option (List ℕ)) → Type 0
 OutFront told request out_old out_new = Adds out_old out_new [] ⊎ HasFront told request out_old out_new
 
 -- the statuses with which out is as before
@@ -65,17 +96,22 @@ LeavesOut statuses.Usage = Unit {0}
 LeavesOut statuses.ReadFault = Unit {0}
 LeavesOut status = ⊥
 
+-- the statuses with which err is as before
+abbrev pub LeavesErr : Status → Type 0
+LeavesErr statuses.Done = Unit {0}
+LeavesErr statuses.Verdict = Unit {0}
+LeavesErr status = ⊥
+
 -- an answer that gives nothing to out
 abbrev pub IsRefusal : Answer → Type 0
-IsRefusal answers.Usage = Unit {0}
 IsRefusal (answers.Refused line) = Unit {0}
 IsRefusal answer = ⊥
 
--- a line that err may take: that of the answer to the words and the files, that of a failed read where the store's faults
--- rose, that of a failed write where out's faults rose, or that of want of memory
+-- a line that err may take: that of words that spell no command, that of the answer to the words and the files, that of a failed
+-- read where the store's faults rose, that of a failed write where out's faults rose, or that of want of memory
 pub record IsLineOfAnswer (told : Option Files) (request : Option Request) (line : List ℕ) : Type 0 where
   pub answer : Answer
-  pub says : IfSome told (λ known. Says known request answer)
+  pub says : Says told request answer
   pub is : line ≡ err_of_answer answer
 
 pub record IsLineOfRead (store_rose : Type 0) (request : Option Request) (line : List ℕ) : Type 0 where
@@ -84,9 +120,13 @@ pub record IsLineOfRead (store_rose : Type 0) (request : Option Request) (line :
   pub named : IsOneOf (files_of request) file
   pub is : line ≡ read_fault_line file.word
 
-abbrev pub IsLine : Option Files → Option Request → (store_rose out_rose : Type 0) → List ℕ → Type 0
-IsLine told request store_rose out_rose line =
+abbrev pub IsLineOfCommand : Option Files → Option Request → (store_rose out_rose : Type 0) → List ℕ → Type 0
+IsLineOfCommand told request store_rose out_rose line =
     IsLineOfAnswer told request line ⊎ (IsLineOfRead store_rose request line ⊎ ((out_rose × (line ≡ write_fault_line)) ⊎ (line ≡ memory_line)))
+
+abbrev pub IsLine : Option Files → Option Request → (store_rose out_rose : Type 0) → List ℕ → Type 0
+IsLine told None store_rose out_rose line = line ≡ usage_line
+IsLine told (Some request) store_rose out_rose line = IsLineOfCommand told (Some request) store_rose out_rose line
 
 -- in every case: err has its old bytes, and then a front of one such line
 pub record ErrFront (told : Option Files) (request : Option Request) (store_rose out_rose : Type 0) (err_old err_new : Option (List ℕ)) : Type 0 where
@@ -97,5 +137,5 @@ pub record ErrFront (told : Option Files) (request : Option Request) (store_rose
 -- the file that is started at the end. Without a command nothing was started. With an answer a file of the command was given
 -- to its end, or to one byte past its limit; in every case none was started, or one, within its limit.
 abbrev pub StartedAtEnd : Files → Option Request → Status → (old new : Option (List ℕ × ℕ)) → Type 0
-StartedAtEnd told None status old new = new ≡ old
-StartedAtEnd told (Some request) status old new = StartsWithin told (file_words request) old new × (EndsInAnswer status → IsPulledOut told (file_words request) new)
+StartedAtEnd known None status old new = new ≡ old
+StartedAtEnd known (Some request) status old new = StartsWithin known (file_words request) old new × (EndsInAnswer status → IsPulledOut known (file_words request) new)

@@ -1,16 +1,24 @@
-ghost use Rattle.std.specs.Prelude.{IsTrue};
-ghost use Rattle.tydi_io.specs.Faults.{Rose};
-ghost use Rattle.tydi_tool.specs.Words.{Check, Read, request_of, Allows};
-ghost use Rattle.tydi_tool.specs.Replies.{Replies, RepliesTo, RepliesToError};
+//! The commands. Each asks for its files one after another, and ends with what is said of them.
 
-use crate::answer::{Answer, Reply};
-use crate::judging::{judge_trace, refused};
-use crate::loading::{LoadError, load};
-use crate::projects::judge_project;
-use crate::refusal::Refusal;
-use crate::telling::read_fault;
-use crate::words::{Command, words_of};
+ghost use Rattle.std.specs.Prelude.{◌≡◌, IsTrue};
+ghost use Rattle.std.specs.List.{AllByRecursion};
+ghost use Rattle.til_parser.specs.Canonical.{canonical};
+ghost use Rattle.tydi_io.specs.Faults.{Rose};
+ghost use Rattle.tydi_tool.specs.Ask.{Decides, Judges};
+ghost use Rattle.tydi_tool.specs.Commands.{ask_of, check_ask, read_ask};
+ghost use Rattle.tydi_tool.specs.Outcome.{output_answer};
+ghost use Rattle.tydi_tool.specs.TraceFiles.{IsNew};
+ghost use Rattle.tydi_tool.specs.Words.{request_from, file_words};
+
+use crate::answer::Reply;
+use crate::asking::{ask, ask_text};
+use crate::ending::answered;
+use crate::projects::ProjectText;
+use crate::reports::report;
+use crate::traces::TraceFile;
+use crate::words::Command;
 use std::alloc::Global;
+use til_parser::{Ast, print};
 use tydi_base::{Memory, Text};
 use tydi_io::Store;
 
@@ -20,54 +28,59 @@ const TRACE_LIMIT: usize = 67_108_864;
 /// The most bytes of a project: 4 MiB.
 const PROJECT_LIMIT: usize = 4_194_304;
 
-/// What the tool replies to these words.
-pub(crate) fn reply_to<S: Store>(alloc: Global, words: &[Text], store: &mut S) -> Reply
-    requires { Allows (S.allowed store.old) (request_of words.now) }
-    ensures replies { Replies (request_of words.now) (S.files store.old) (S.started store.old) (S.started store.new)
-        (Rose (S.faults store.old) (S.faults store.new)) result }
+/// What the tool replies to this command.
+pub(crate) fn reply_to<S: Store>(alloc: Global, command: Command<'_>, store: &mut S) -> Reply
+    requires { AllByRecursion (λ file. IsTrue (S.allowed store.old file.word)) (file_words (request_from command)) }
+    ensures decided { Decides (S.files store.old) (S.started store.old) (S.started store.new) (Rose (S.faults store.old) (S.faults store.new))
+        (ask_of (request_from command.entry)) result }
 {
-    match words_of(words) {
-        None => Reply::Says(Answer::Usage),
-        Some(Command::Check { trace }) => check(alloc, trace, store),
-        Some(Command::Read { project }) => read(alloc, project, store),
+    match command {
+        Command::Check { trace } => check(alloc, trace, store),
+        Command::Read { project } => read(alloc, project, store),
     }
 }
 
 /// `check TRACE`.
 fn check<S: Store>(alloc: Global, trace: &Text, store: &mut S) -> Reply
     requires { IsTrue (S.allowed store.old trace.now) }
-    ensures replies { RepliesTo (Check trace.now) (S.files store.old) (S.started store.old) (S.started store.new)
-        (Rose (S.faults store.old) (S.faults store.new)) result }
+    ensures decided { Decides (S.files store.old) (S.started store.old) (S.started store.new) (Rose (S.faults store.old) (S.faults store.new))
+        (check_ask trace.now) result }
 {
-    match load(alloc, store, trace, TRACE_LIMIT) {
-        Ok(bytes) => judge_trace(alloc, trace, bytes.as_slice()),
-        Err(error) => reply_to_error(alloc, trace, error),
+    match TraceFile::new(alloc, trace) {
+        Ok(reader) => check_with(alloc, trace, reader, store),
+        Err(Memory) => Reply::Memory,
+    }
+}
+
+/// `check TRACE`, with a new reader of the trace.
+fn check_with<S: Store>(alloc: Global, trace: &Text, reader: TraceFile<'_>, store: &mut S) -> Reply
+    requires allowed { IsTrue (S.allowed store.old trace.now) }
+    requires new { IsNew trace.now reader }
+    ensures decided { Decides (S.files store.old) (S.started store.old) (S.started store.new) (Rose (S.faults store.old) (S.faults store.new))
+        (check_ask trace.now) result }
+{
+    match ask(alloc, store, trace, TRACE_LIMIT, reader) {
+        Ok(survey) => report(alloc, &survey),
+        Err(reply) => reply,
     }
 }
 
 /// `read PROJECT`.
 fn read<S: Store>(alloc: Global, project: &Text, store: &mut S) -> Reply
     requires { IsTrue (S.allowed store.old project.now) }
-    ensures replies { RepliesTo (Read project.now) (S.files store.old) (S.started store.old) (S.started store.new)
-        (Rose (S.faults store.old) (S.faults store.new)) result }
+    ensures decided { Decides (S.files store.old) (S.started store.old) (S.started store.new) (Rose (S.faults store.old) (S.faults store.new))
+        (read_ask project.now) result }
 {
-    match load(alloc, store, project, PROJECT_LIMIT) {
-        Ok(bytes) => judge_project(alloc, project, bytes.as_slice()),
-        Err(error) => reply_to_error(alloc, project, error),
+    let text = ProjectText { word: project };
+    match ask_text(alloc, store, project, PROJECT_LIMIT, text) {
+        Ok(ast) => canonical_text(alloc, &ast),
+        Err(reply) => reply,
     }
 }
 
-/// What is replied where a file was not loaded.
-fn reply_to_error(alloc: Global, word: &Text, error: LoadError) -> Reply
-    ensures { RepliesToError word.now error result }
+/// The canonical text of a tree.
+fn canonical_text(alloc: Global, ast: &Ast) -> Reply
+    ensures { Judges (λ a. a ≡ output_answer (canonical ast.now)) result }
 {
-    match error {
-        LoadError::NoFile => refused(alloc, Refusal::NoFile, word),
-        LoadError::TooLong => refused(alloc, Refusal::TooLong, word),
-        LoadError::ReadFault => match read_fault(alloc, word) {
-            Ok(line) => Reply::ReadFault(line),
-            Err(Memory) => Reply::Memory,
-        },
-        LoadError::Memory => Reply::Memory,
-    }
+    answered(alloc, print(alloc, ast))
 }

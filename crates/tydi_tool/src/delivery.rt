@@ -1,10 +1,22 @@
 ghost use Rattle.std.specs.Prelude.{◌≡◌, ◌<◌, ◌≤◌, length, take, IsOk, OnOk, OnErr};
 ghost use Rattle.tydi_io.specs.Faults.{Rose, HasCause};
-ghost use Rattle.tydi_tool.specs.Delivery.{Adds, AddsFront, Delivers};
+ghost use Rattle.tydi_tool.specs.Delivery.{Adds, AddsFront, Writes, WritesPiece, TakesLine, Delivers, DeliversText};
 
-use crate::answer::Reply;
+use crate::answer::{Answer, Reply};
+use crate::output::Output;
 use crate::status::Status;
+use std::alloc::Global;
+use tydi_base::Memory;
 use tydi_io::{Failed, Sink};
+
+/// Why a text was not written to its end.
+#[derive(Clone, Copy, Debug, PartialEq, Eq)]
+pub(crate) enum WriteError {
+    /// The sink failed.
+    Failed,
+    /// There was no memory to make the rest.
+    Memory,
+}
 
 /// Pushes all of the bytes.
 fn push_all<S: Sink>(sink: &mut S, bytes: &[u8]) -> Result<(), Failed>
@@ -20,17 +32,86 @@ fn push_all<S: Sink>(sink: &mut S, bytes: &[u8]) -> Result<(), Failed>
     Ok(())
 }
 
-/// Writes the reply, and answers how the run ends. A failure of out is told to err, and a failure of err then is ignored.
-pub(crate) fn deliver<O: Sink, E: Sink>(reply: &Reply, out: &mut O, err: &mut E) -> Status
-    ensures { Delivers (Rose (O.faults out.old) (O.faults out.new)) (Rose (E.faults err.old) (E.faults err.new))
-        reply.now result (O.taken out.old) (O.taken out.new) (E.taken err.old) (E.taken err.new) }
+/// Pushes a text, piece by piece, as it is made.
+fn write_text<S: Sink>(alloc: Global, text: Output, sink: &mut S) -> Result<(), WriteError>
+    ensures writes { Writes (Rose (S.faults sink.old) (S.faults sink.new)) result (S.taken sink.old) (S.taken sink.new) text }
 {
-    if push_all(out, reply.out()).is_err() {
-        let _ = push_all(err, b"tydi: WriteFault\n");
-        return Status::WriteFault;
+    let mut left = text;
+    'pieces: while left.len() > 0 {
+        match write_piece(alloc, &mut left, sink) {
+            Ok(()) => {}
+            Err(error) => return Err(error),
+        }
     }
-    if push_all(err, reply.line()).is_err() {
-        return Status::WriteFault;
+    Ok(())
+}
+
+/// Makes the next piece of a text and pushes it.
+fn write_piece<S: Sink>(alloc: Global, text: &mut Output, sink: &mut S) -> Result<(), WriteError>
+    requires { 0 < length text.old }
+    ensures writes { WritesPiece (Rose (S.faults sink.old) (S.faults sink.new)) result (S.taken sink.old) (S.taken sink.new) text.old text.new }
+    ensures later { S.faults sink.old ≤ S.faults sink.new }
+{
+    match text.next(alloc) {
+        Ok(piece) => match push_all(sink, piece.as_slice()) {
+            Ok(()) => Ok(()),
+            Err(Failed) => Err(WriteError::Failed),
+        },
+        Err(Memory) => Err(WriteError::Memory),
     }
-    reply.status()
+}
+
+/// Writes a line to err, and answers how the run ends: as wanted, or, where err failed, as WriteFault.
+pub(crate) fn deliver_line<E: Sink>(line: &[u8], wanted: Status, err: &mut E) -> Status
+    ensures { TakesLine (Rose (E.faults err.old) (E.faults err.new)) result wanted (E.taken err.old) (E.taken err.new) line.now }
+{
+    match push_all(err, line) {
+        Ok(()) => wanted,
+        Err(Failed) => Status::WriteFault,
+    }
+}
+
+/// Writes a text to out, and answers how the run ends: as wanted, or with a line to err. Where out failed, a failure of err is
+/// ignored.
+fn deliver_text<O: Sink, E: Sink>(
+    alloc: Global,
+    text: Output,
+    wanted: Status,
+    out: &mut O,
+    err: &mut E,
+) -> Status
+    ensures { DeliversText (Rose (O.faults out.old) (O.faults out.new)) (Rose (E.faults err.old) (E.faults err.new))
+        text wanted result (O.taken out.old) (O.taken out.new) (E.taken err.old) (E.taken err.new) }
+{
+    match write_text(alloc, text, out) {
+        Ok(()) => wanted,
+        Err(WriteError::Failed) => {
+            let _ = push_all(err, b"tydi: WriteFault\n");
+            Status::WriteFault
+        }
+        Err(WriteError::Memory) => deliver_line(b"tydi: Memory\n", Status::Memory, err),
+    }
+}
+
+/// Writes the reply, and answers how the run ends.
+pub(crate) fn deliver<O: Sink, E: Sink>(
+    alloc: Global,
+    reply: Reply,
+    out: &mut O,
+    err: &mut E,
+) -> Status
+    ensures { Delivers (Rose (O.faults out.old) (O.faults out.new)) (Rose (E.faults err.old) (E.faults err.new))
+        reply result (O.taken out.old) (O.taken out.new) (E.taken err.old) (E.taken err.new) }
+{
+    match reply {
+        Reply::Says(Answer::Refused(line)) => {
+            deliver_line(line.as_slice(), Status::Refused, err)
+        }
+        Reply::Says(Answer::Verdict(line)) => {
+            deliver_text(alloc, Output::whole(line), Status::Verdict, out, err)
+        }
+        Reply::Says(Answer::Done(text)) => deliver_text(alloc, text, Status::Done, out, err),
+        Reply::ReadFault(line) => deliver_line(line.as_slice(), Status::ReadFault, err),
+        Reply::Memory => deliver_line(b"tydi: Memory\n", Status::Memory, err),
+    }
 }

@@ -1,6 +1,7 @@
-ghost use Rattle.tydi_tool.specs.Laws.{OneAnswer};
+ghost use Rattle.tydi_tool.specs.Laws.{OneAnswer, SomeAnswer};
 
-/// The law of answers: to given words and files there is one answer.
+/// The laws of answers: to given words and files there is an answer, and one.
 pub fn answers_are_one()
-    ensures { OneAnswer }
+    ensures one { OneAnswer }
+    ensures some { SomeAnswer }
 {}

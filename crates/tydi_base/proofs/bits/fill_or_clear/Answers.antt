@@ -1,5 +1,5 @@
-use Rattle.std.proofs.Common.{◌∙◌, ap, arith, replicate}
-use Rattle.tydi_base.proofs.HexBytes.{cleared}
+use Rattle.std.proofs.Common.{arith}
+use Rattle.tydi_base.proofs.HexFilling.{cleared}
 use Rattle.tydi_base.proofs.bits.fill_or_clear.Goals as goal
 
 pub returns-then-not-spelled-clause-packed : goal.returns-then-not-spelled-clause-packed

@@ -1,5 +1,6 @@
 use Rattle.std.proofs.Common.{arith}
-use Rattle.tydi_base.proofs.HexBytes.{Filled, filled, word_at-length, word_at-none}
+use Rattle.tydi_base.proofs.HexBytes.{word_at-length, word_at-none}
+use Rattle.tydi_base.proofs.HexFilling.{filled}
 use Rattle.tydi_base.proofs.bits.fill_word.Goals as goal
 
 pub returns-then-digits-div_ceil-clause-word : goal.returns-then-digits-div_ceil-clause-word

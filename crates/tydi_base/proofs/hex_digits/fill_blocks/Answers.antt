@@ -3,7 +3,8 @@ use Rattle.std.proofs.lemmas.List.{length-drop, length-take}
 use Rattle.std.proofs.lemmas.Slice.{take-put_mid}
 use Rattle.tydi_base.specs.Bits.{unpack}
 use Rattle.tydi_base.specs.Hex.{bits_of_digits}
-use Rattle.tydi_base.proofs.HexBytes.{none_from_block, none_packed, packed_block, first_sixteen}
+use Rattle.tydi_base.proofs.HexBytes.{none_packed}
+use Rattle.tydi_base.proofs.HexFilling.{none_from_block, packed_block, first_sixteen}
 use Rattle.tydi_base.proofs.hex_digits.fill_blocks.Goals as goal
 
 pub sixteens-init : goal.sixteens-init

@@ -1,6 +1,6 @@
-use Rattle.std.proofs.Common.{◌≡◌, ◌++◌, ◌-◌, ◌*◌, ◌/◌, arith, drop, length, length-append, take}
+use Rattle.std.proofs.Common.{◌≡◌, ◌++◌, ◌-◌, ◌*◌, ◌/◌, arith, drop, length, length-append}
 use Rattle.std.proofs.lemmas.List.{length-drop, length-take}
-use Rattle.tydi_base.proofs.HexBytes.{none_from_back, packed_parts}
+use Rattle.tydi_base.proofs.HexFilling.{none_from_back, packed_parts}
 use Rattle.tydi_base.proofs.hex_digits.fill_even.Goals as goal
 
 pub returns-then-fill_blocks : goal.returns-then-fill_blocks

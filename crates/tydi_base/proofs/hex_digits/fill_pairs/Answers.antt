@@ -1,4 +1,4 @@
-use Rattle.std.proofs.Common.{◌-◌, ◌∙◌, [], refl, arith, sym, take}
+use Rattle.std.proofs.Common.{◌-◌, [], refl, arith, sym, take}
 use Rattle.std.proofs.lemmas.List.{take_more_set}
 use Rattle.tydi_base.proofs.HexBytes.{none_from_pair, none_packed, packed_more}
 use Rattle.tydi_base.proofs.hex_digits.fill_pairs.Goals as goal

@@ -1,4 +1,4 @@
-use Rattle.std.proofs.Common.{arith, length}
+use Rattle.std.proofs.Common.{arith}
 use Rattle.std.proofs.lemmas.List.{length-take}
 use Rattle.tydi_base.proofs.HexPacking.{filled_low}
 use Rattle.tydi_base.proofs.hex_word.fill_low.Goals as goal

@@ -1,5 +1,5 @@
-use Rattle.std.proofs.Common.{◌≡◌, ◌∙◌, ◌-◌, ap, arith, length, replicate}
-use Rattle.std.proofs.lemmas.List.{length-replicate, take_rest}
+use Rattle.std.proofs.Common.{◌≡◌, ◌∙◌, ◌-◌, ap, arith, length}
+use Rattle.std.proofs.lemmas.List.{take_rest}
 use Rattle.tydi_base.specs.HexWords.{hex_bits}
 use Rattle.tydi_base.proofs.BitsLemmas.{refill_whole}
 use Rattle.tydi_base.proofs.HexPacking.{Packing, packing, packing_bits, packing_packed}

@@ -1,5 +1,5 @@
-use Rattle.std.proofs.Common.{◌∙◌, ◌+◌, ◌*◌, ap, arith}
-use Rattle.tydi_base.proofs.SliceLemmas.{part-last, part-pair}
+use Rattle.std.proofs.Common.{◌∙◌, arith}
+use Rattle.tydi_base.proofs.PartLemmas.{part-last, part-pair}
 use Rattle.tydi_base.proofs.slices.part_of.Goals.{then-index-source, else-index-source}
 use Rattle.tydi_base.proofs.slices.part_of.Goals as goal
 

@@ -1,5 +1,5 @@
 use Rattle.std.proofs.Common.{arith}
-use Rattle.tydi_base.proofs.SliceLemmas.{with_part-bits}
+use Rattle.tydi_base.proofs.PartLemmas.{with_part-bits}
 use Rattle.tydi_base.proofs.slices.with_part.Goals as goal
 
 pub returns : goal.returns

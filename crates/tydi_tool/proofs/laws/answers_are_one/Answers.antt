@@ -1,6 +1,9 @@
-use Rattle.tydi_tool.specs.Words.{request_of}
-use Rattle.tydi_tool.proofs.AnswerLemmas.{Says-one}
+use Rattle.tydi_tool.proofs.AnswerLemmas.{SaysBy-request}
+use Rattle.tydi_tool.proofs.SomeLemmas.{SaysBy-request-some}
 use Rattle.tydi_tool.proofs.laws.answers_are_one.Goals as goal
 
-pub returns : goal.returns
-returns c = λ words told a b x y. Says-one told (request_of words) a b x y
+pub returns-clause-one : goal.returns-clause-one
+returns-clause-one c = λ request told a b p q. SaysBy-request told request a b p q
+
+pub returns-clause-some : goal.returns-clause-some
+returns-clause-some c = λ request told. SaysBy-request-some told request

@@ -1,6 +1,9 @@
-use Rattle.std.proofs.Common.{◌≡◌, ◌+◌, ◌*◌, length}
-use Rattle.til_parser.specs.Reading.{loop}
-use Rattle.til_parser.specs.ReadTypes.{argument_turn, ltype, part, separated_turn}
+use Rattle.std.proofs.Common.{◌≡◌, ◌+◌, ◌*◌, false, [], ◌∷◌, ◌++◌, length}
+use Rattle.til_lexer.specs.declared.token.TokenKind.TheVariants as kinds
+use Rattle.til_parser.specs.Reading.{is_kind}
+use Rattle.tydi_reading.specs.Lists.{steps_turn}
+use Rattle.tydi_reading.specs.Reading.{loop, ◌<$>◌}
+use Rattle.til_parser.specs.ReadTypes.{argument, ltype, part}
 use Rattle.til_parser.proofs.parser.Parser.+ltype.Given as goal
 
 -- a type asks for parts and for a Stream of one level less, and these for a type of as many
@@ -27,15 +30,14 @@ decreases-argument l = 4 * l.levels + 1
 
 -- the parts so far go on as all parts do
 abbrev pub invariant-separated_parts-parts : goal.invariant-separated_parts-parts
-invariant-separated_parts-parts l =
-    loop (separated_turn (part (ltype l.levels))) l.parts l.self ≡ loop (separated_turn (part (ltype l.levels))) l.initial.parts l.initial.self
+invariant-separated_parts-parts l = loop (steps_turn (is_kind kinds.CloseParen) false (is_kind kinds.Comma) (λ found. (λ x. found ++ x ∷ []) <$> part (ltype l.levels))) l.parts l.self ≡ loop (steps_turn (is_kind kinds.CloseParen) false (is_kind kinds.Comma) (λ found. (λ x. found ++ x ∷ []) <$> part (ltype l.levels))) l.initial.parts l.initial.self
 
 abbrev pub decreases-separated_parts-parts : goal.decreases-separated_parts-parts
 decreases-separated_parts-parts l = length l.self
 
 -- the arguments so far go on as all arguments do
 abbrev pub invariant-arguments-arguments : goal.invariant-arguments-arguments
-invariant-arguments-arguments l = loop (argument_turn (ltype l.levels)) l.given l.self ≡ loop (argument_turn (ltype l.levels)) l.fn.first l.fn.self
+invariant-arguments-arguments l = loop (steps_turn (is_kind kinds.CloseParen) false (is_kind kinds.Comma) (argument (ltype l.levels))) l.given l.self ≡ loop (steps_turn (is_kind kinds.CloseParen) false (is_kind kinds.Comma) (argument (ltype l.levels))) l.initial.given l.initial.self
 
 abbrev pub decreases-arguments-arguments : goal.decreases-arguments-arguments
 decreases-arguments-arguments l = length l.self

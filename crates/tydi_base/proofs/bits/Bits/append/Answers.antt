@@ -1,4 +1,4 @@
-use Rattle.std.proofs.Common.{◌≡◌, ◌∙◌, ◌+◌, ◌++◌, ap, arith, drop, length, length-append, take}
+use Rattle.std.proofs.Common.{◌≡◌, ◌∙◌, ap, arith, length, length-append}
 use Rattle.std.proofs.lemmas.List.{length-replicate}
 use Rattle.tydi_base.specs.Bits.{written_at, zero_bits}
 use Rattle.tydi_base.proofs.SliceLemmas.{written_at-end}

@@ -1,4 +1,4 @@
-use Rattle.std.proofs.Common.{◌≡◌, ◌∙◌, ap, arith, drop, length, sym, take}
+use Rattle.std.proofs.Common.{◌≡◌, ◌∙◌, ap, drop, length, take}
 use Rattle.std.specs.List.{refill}
 use Rattle.tydi_base.specs.Bits.{unpack, written_at}
 use Rattle.tydi_base.proofs.SliceLemmas.{Copied, copied}

@@ -1,5 +1,5 @@
-use Rattle.std.proofs.Common.{◌≡◌, ap, arith, length, sym}
-use Rattle.tydi_base.proofs.HexBytes.{Reads, reads}
+use Rattle.std.proofs.Common.{◌≡◌, ap, arith, length}
+use Rattle.tydi_base.proofs.HexFilling.{reads}
 use Rattle.tydi_base.proofs.bits.Bits.read_exact_hex.Goals as goal
 
 pub returns : goal.returns

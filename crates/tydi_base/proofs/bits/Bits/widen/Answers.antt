@@ -1,4 +1,4 @@
-use Rattle.std.proofs.Common.{◌≡◌, ◌+◌, ◌++◌, arith}
+use Rattle.std.proofs.Common.{◌++◌, arith}
 use Rattle.tydi_base.specs.Bits.{zero_bits}
 use Rattle.tydi_base.proofs.SliceLemmas.{Widened, widened}
 use Rattle.tydi_base.proofs.bits.Bits.widen.Goals as goal

@@ -1,6 +1,5 @@
-use Rattle.std.proofs.Common.{◌∙◌, nat_eq, rules}
+use Rattle.std.proofs.Common.{rules}
 use Rattle.std.proofs.lemmas.Slice.Eq.{bytes_eq-Decides, slice_eq-Decides}
-use Rattle.std.specs.Cmp.Lexicographic.{pointwise}
 use Rattle.tydi_base.proofs.compared.PathPartialEq.eq.Goals as goal
 
 pub returns-clause-same : goal.returns-clause-same

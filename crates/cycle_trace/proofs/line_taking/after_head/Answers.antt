@@ -1,0 +1,49 @@
+use Rattle.std.proofs.Common.{◌≡◌, ◌∙◌, ℕ, ◌+◌, ◌<◌, ◌++◌, ◌∷◌, [], List, length, Ok, Err, refl, ap, sym, subst, arith}
+use Rattle.std.proofs.lemmas.Result.{err_from_is_err_and}
+use Rattle.physical_stream.specs.declared.head.Head.{Head}
+use Rattle.cycle_trace.specs.Beginnings.{OpensWith, begun}
+use Rattle.cycle_trace.specs.ReaderView.{StandsAt}
+use Rattle.cycle_trace.specs.declared.text_read.Stage.{Stage}
+use Rattle.cycle_trace.specs.declared.text_read.Stage.TheVariants as stages
+use Rattle.cycle_trace.proofs.BeginningLemmas.{head-fails, head-ok, header-many, header-ok, heads-stand}
+use Rattle.cycle_trace.proofs.HeaderLemmas.{head_after-fits}
+use Rattle.cycle_trace.proofs.ReaderLemmas.{after_row-line, plain-none}
+use Rattle.cycle_trace.proofs.line_taking.after_head.Goals as goal
+
+pub returns-in_err-head : goal.returns-in_err-head
+returns-in_err-head g c bytes stands =
+    let text = c.args.text.now in
+    let h = subst (λ (s : Stage). StandsAt g.K.RowSink.stands_for c.args.sink.now text s c.args.line.now bytes) c.requires.heads stands in
+    let p = err_from_is_err_and c.from_residual.result c.from_residual.ensures.1 in
+    let wrong = rw c.len.ensures at (c.in_err-head.ensures.gives h.2.paths h.2.told (h.2.many ∙ sym c.len.ensures)) in
+    rw (p.1, p.2) (head-fails bytes c.args.line.now h.1 text.cycles text.heads text.paths h.2 c.in_err-head.field-0.0 (sym c.is_head_line.ensures ∙ c.if-is_head_line.true) wrong)
+
+pub returns-then-is_head_line : goal.returns-then-is_head_line
+returns-then-is_head_line g c bytes stands =
+    let text = c.args.text.now in
+    let h = subst (λ (s : Stage). StandsAt g.K.RowSink.stands_for c.args.sink.now text s c.args.line.now bytes) c.requires.heads stands in
+    let read = rw c.len.ensures at (c.in_ok-head.ensures.gives h.2.paths h.2.told (h.2.many ∙ sym c.len.ensures)) in
+    let fits : length h.2.paths < 65536 = head_after-fits h.2.paths c.args.line.now (3 + length text.heads) c.in_ok-head.head read in
+    let opens = head-ok bytes c.args.line.now h.1 text.cycles text.heads text.paths h.2 c.in_ok-head.head c.next_head.new.paths (sym c.is_head_line.ensures ∙ c.if-is_head_line.true) (omega (arith, h.2.many, fits)) read c.in_ok-head.ensures.added in
+    subst (λ (s : Stage). StandsAt g.K.RowSink.stands_for c.args.sink.now (record { stage = text.stage; cycles = text.cycles; heads = c.push.new.self; paths = c.next_head.new.paths; rows = text.rows }) s [] (bytes ++ 10 ∷ [])) (sym c.requires.heads)
+    (h.0, plain-none, subst (λ (heads : List Head). OpensWith (bytes ++ 10 ∷ []) [] text.cycles heads c.next_head.new.paths) (sym c.in_ok-push.ensures.ok) opens)
+
+pub returns-then-text-gt-MOST_CYCLES : goal.returns-then-text-gt-MOST_CYCLES
+returns-then-text-gt-MOST_CYCLES g c bytes stands =
+    let text = c.args.text.now in
+    let h = subst (λ (s : Stage). StandsAt g.K.RowSink.stands_for c.args.sink.now text s c.args.line.now bytes) c.requires.heads stands in
+    header-many bytes c.args.line.now h.1 text.cycles text.heads text.paths h.2 (sym c.is_head_line.ensures ∙ c.if-is_head_line.false) c.if-text-gt-MOST_CYCLES.true
+
+pub start_rows-requires-clause-streams : goal.start_rows-requires-clause-streams
+start_rows-requires-clause-streams g c =
+    let text = c.args.text.now in
+    let h = subst (λ (s : Stage). StandsAt g.K.RowSink.stands_for c.args.sink.now text s c.args.line.now c.requires.stands.0) c.requires.heads c.requires.stands.1 in
+    heads-stand c.requires.stands.0 c.args.line.now h.1 text.cycles text.heads text.paths h.2 (sym c.is_head_line.ensures ∙ c.if-is_head_line.false)
+
+pub returns : goal.returns
+returns g c bytes stands =
+    let text = c.args.text.now in
+    let h = subst (λ (s : Stage). StandsAt g.K.RowSink.stands_for c.args.sink.now text s c.args.line.now bytes) c.requires.heads stands in
+    let goes = header-ok bytes c.args.line.now h.1 text.cycles text.heads text.paths h.2 (sym c.is_head_line.ensures ∙ c.if-is_head_line.false) c.if-text-gt-MOST_CYCLES.false in
+    let started = c.in_ok-start_rows.ensures in
+    after_row-line g.K.RowSink.stands_for c.after_row.new.sink _ bytes c.after_row.result started.0 (c.after_row.ensures (begun text.cycles text.heads) bytes started.2 started.1 goes)

@@ -1,0 +1,16 @@
+use Rattle.std.proofs.Common.{◌≡◌, ◌∙◌, ℕ, ◌+◌, ◌<◌, ◌==◌, if◌then◌else◌, length, refl, ap, arith}
+use Rattle.std.proofs.lemmas.Option.{slice_get_within}
+use Rattle.cycle_trace.specs.Trace.{owed, params_of_heads}
+use Rattle.cycle_trace.proofs.KeepLemmas.{length-owed_heads}
+use Rattle.cycle_trace.proofs.RowsReadLemmas.{many_streams, stream_in, wants, ReadsRows-more}
+use Rattle.cycle_trace.proofs.rows_read.RowsRead.advance.Goals as goal
+
+pub next_stream-self-requires : goal.next_stream-self-requires
+next_stream-self-requires c =
+    let h = c.requires.1.1.0 in
+    omega (arith, stream_in c.args.self.now c.requires.0 h (wants c.args.self.now c.requires.0 h c.requires.1.0 c.requires.1.1.1), c.len.ensures)
+
+pub returns : goal.returns
+returns c t row h can =
+    ReadsRows-more c.args.self.now _ t row h can refl refl refl
+    (c.next_stream-self.ensures ∙ ap (λ (n : ℕ). if c.args.self.now.stream + 1 == n then 0 else c.args.self.now.stream + 1) (c.len.ensures ∙ c.args.self.now.streams.ok.0 ∙ many_streams c.args.self.now t h))

@@ -1,0 +1,82 @@
+-- What a reader of traces stands for: the bytes that it was fed (this project's own).
+use Rattle.std.specs.Prelude.{◌≡◌, ℕ, ◌+◌, ◌*◌, ◌<◌, ◌≤◌, nat_le, Bool, true, false, List, [], ◌∷◌, ◌++◌, length, map, slice_get, if◌then◌else◌, Option, Some, None, Result, Ok, Err, MatchResult}
+use Rattle.std.specs.Option.{option_and_then, option_map}
+use Rattle.tydi_base.specs.Pieces.{Lacks, lines_of}
+use Rattle.physical_stream.specs.Cycles.{Cycle}
+use Rattle.physical_stream.specs.declared.transfer.Transfer.{Transfer}
+use Rattle.cycle_trace.specs.Beginnings.{Fails, GoesOn, IsFault, Opens, OpensWith}
+use Rattle.cycle_trace.specs.HeaderText.{Opening, opening_of, opening_after}
+use Rattle.cycle_trace.specs.Surveying.{IsNextRow}
+use Rattle.cycle_trace.specs.TextSet.{HasTexts}
+use Rattle.cycle_trace.specs.Trace.{TraceText, most_cycles, params_of_heads}
+use Rattle.cycle_trace.specs.declared.fault.TraceFault.{TraceFault}
+use Rattle.cycle_trace.specs.declared.fault.TraceFault.TheVariants.{Memory}
+use Rattle.cycle_trace.specs.declared.row_text.RowBits.{RowBits}
+use Rattle.cycle_trace.specs.declared.rows_read.RowsRead.{RowsRead}
+use Rattle.cycle_trace.specs.declared.stream_rows.StreamRows.{StreamRows}
+use Rattle.cycle_trace.specs.declared.text_read.Stage.{Stage}
+use Rattle.cycle_trace.specs.declared.text_read.Stage.TheVariants as stages
+use Rattle.cycle_trace.specs.declared.text_read.TextRead.{TextRead}
+use Rattle.cycle_trace.specs.declared.trace_reader.TraceReader.{TraceReader}
+
+-- rows are read after this header and these rows
+pub record ReadsRows (rows : RowsRead) (t : TraceText) : Type 0 where
+  pub params : map (λ stream. stream.layout.params) rows.streams.items ≡ params_of_heads t.heads
+  pub few_cycles : t.cycles ≤ most_cycles
+  pub few_streams : length t.heads ≤ 65536
+  pub want : rows.want ≡ t.cycles * length t.heads
+  pub got : rows.got ≡ length t.rows
+  pub within : length t.rows ≤ t.cycles * length t.heads
+  pub turn : ℕ
+  pub next : IsNextRow t turn rows.stream
+
+-- the transfer that is kept of this stream
+abbrev pub kept_of : List StreamRows → ℕ → Option Transfer
+kept_of streams stream = option_map (λ rows. rows.kept) (slice_get streams stream)
+
+-- the cycle that was read last
+abbrev pub cycle_read : RowsRead → RowBits → Cycle
+cycle_read rows bits = record { ready = bits.ready; shown = if bits.valid then kept_of rows.streams.items rows.stream else None }
+
+-- no stream line is read
+pub record HasNoHeads (text : TextRead) : Type 0 where
+  pub heads : text.heads ≡ []
+  pub paths : HasTexts text.paths []
+
+-- what is known where the line that is begun is this
+abbrev pub StandsAt : {K : Type 0} → (K → Option TraceText → Type 0) → K → TextRead → Stage → (line bytes : List ℕ) → Type 0
+StandsAt stands sink text stages.Title line bytes = stands sink None × Lacks 10 line × HasNoHeads text × Opens bytes line opening_of
+StandsAt stands sink text stages.Cycles line bytes = stands sink None × Lacks 10 line × HasNoHeads text × Opens bytes line opening_after
+StandsAt stands sink text stages.Heads line bytes = stands sink None × Lacks 10 line × OpensWith bytes line text.cycles text.heads text.paths
+StandsAt stands sink text stages.Rows line bytes = (t : TraceText) × (stands sink (Some t) × Lacks 10 line × ReadsRows text.rows t × GoesOn bytes line t)
+StandsAt stands sink text (stages.Failed fault) line bytes = Fails bytes fault
+
+abbrev pub Stands : {K : Type 0} → (K → Option TraceText → Type 0) → K → TextRead → (line bytes : List ℕ) → Type 0
+Stands stands sink text line bytes = StandsAt stands sink text text.stage line bytes
+
+-- a reader stands for the bytes that it was fed
+abbrev pub StandsFor : {K : Type 0} → (K → Option TraceText → Type 0) → TraceReader K → List ℕ → Type 0
+StandsFor stands reader bytes = Stands stands reader.sink reader.text reader.line.items bytes
+
+-- memory ran out
+abbrev pub IsSpent : {K : Type 0} → TraceReader K → Type 0
+IsSpent reader = reader.text.stage ≡ stages.Failed Memory
+
+-- a text that has failed stays so
+abbrev pub StaysFailed : (old new : Stage) → Type 0
+StaysFailed old new = (fault : TraceFault) → old ≡ stages.Failed fault → new ≡ stages.Failed fault
+
+-- after a line: what is known where the next one begins, or the fault of every text that begins so
+abbrev pub AfterLine : {K : Type 0} → (K → Option TraceText → Type 0) → K → TextRead → List ℕ → Result (Unit {0}) TraceFault → Type 0
+AfterLine stands sink text bytes (Ok fine) = Stands stands sink text [] (bytes ++ 10 ∷ [])
+AfterLine stands sink text bytes (Err e) = Fails (bytes ++ 10 ∷ []) e
+
+-- after the line of a row
+abbrev pub AfterRow : {K : Type 0} → (K → Option TraceText → Type 0) → K → RowsRead → List ℕ → Result (Unit {0}) TraceFault → Type 0
+AfterRow stands sink rows bytes (Ok fine) = (t : TraceText) × (stands sink (Some t) × ReadsRows rows t × GoesOn (bytes ++ 10 ∷ []) [] t)
+AfterRow stands sink rows bytes (Err e) = Fails (bytes ++ 10 ∷ []) e
+
+-- at the end of a text that is read so: the sink stands for the trace, or this is the fault
+abbrev pub Finishes : {K : Type 0} → (K → Option TraceText → Type 0) → Result TraceText TraceFault → Result K TraceFault → Type 0
+Finishes stands read (Ok sink) = (t : TraceText) × ((read ≡ Ok t) × stands sink (Some t))
+Finishes stands read (Err e) = IsFault read e

@@ -1,0 +1,54 @@
+ghost use Rattle.std.specs.Prelude.{◌≡◌};
+ghost use Rattle.cycle_trace.specs.declared.text_read.Stage.TheVariants as stages;
+
+use crate::fault::TraceFault;
+use crate::rows_read::RowsRead;
+use physical_stream::Head;
+use std::alloc::Global;
+use std::collections::BTreeSet;
+use tydi_base::List;
+
+/// What the next line of a trace text is.
+#[derive(Clone, Copy, Debug, PartialEq, Eq)]
+pub(crate) enum Stage {
+    /// The first line.
+    Title,
+    /// The number of cycles.
+    Cycles,
+    /// A stream line, or what follows the header.
+    Heads,
+    /// A row, or what follows the last one.
+    Rows,
+    /// It is not looked at: the text has this fault, or memory ran out.
+    Failed(TraceFault),
+}
+
+/// How far a trace text is read.
+#[derive(Debug, Drop)]
+pub(crate) struct TextRead {
+    pub(crate) stage: Stage,
+    pub(crate) cycles: u64,
+    /// The heads that are read, until the first row.
+    pub(crate) heads: List<Head>,
+    /// The texts of their paths.
+    pub(crate) paths: BTreeSet<Vec<u8>>,
+    pub(crate) rows: RowsRead,
+}
+
+impl TextRead {
+    ghost use Rattle.cycle_trace.specs.ReaderView.{HasNoHeads};
+
+    /// A text of which nothing is read.
+    pub(crate) fn new(alloc: Global) -> TextRead
+        ensures stage { result.stage ≡ stages.Title }
+        ensures heads { HasNoHeads result }
+    {
+        TextRead {
+            stage: Stage::Title,
+            cycles: 0,
+            heads: List::new(alloc),
+            paths: BTreeSet::new(alloc),
+            rows: RowsRead::none(alloc),
+        }
+    }
+}

@@ -1,0 +1,136 @@
+-- The rules of one token: of a kind, a word, or a token of a kind with a meaning.
+use Rattle.std.proofs.Common.{◌≡◌, ℕ, Bool, true, false, cond, ◌&&◌, List, [], ◌∷◌, ◌++◌, All, Option, Some, None, option_and_then, refl, sym, subst, bytes_eq, T}
+use Rattle.std.proofs.lemmas.Option.{none-some}
+use Rattle.std.proofs.lemmas.Slice.Eq.{bytes_eq-Decides}
+use Rattle.std.proofs.lemmas.List.Elements.{All-head}
+use denote.Enum.Bare.{same_true, true_same}
+use Rattle.tydi_base.specs.declared.place.Place.{Place}
+use Rattle.tydi_reading.specs.Forms.{Never, Anything}
+use Rattle.tydi_reading.specs.Reading.{meant, leaf, tells}
+use Rattle.tydi_reading.specs.Rules.{IsRule}
+use Rattle.tydi_reading.proofs.MarkLemmas.{IsMark, mark-rule}
+use Rattle.tydi_reading.proofs.StepRules.{leaf-rule, read-rule}
+use Rattle.til_lexer.specs.contracts.token.TokenKind.{the_type}
+use Rattle.til_lexer.specs.declared.token.TokenKind.{TokenKind}
+use Rattle.til_lexer.specs.declared.token.TokenKind.TheVariants as kinds
+use Rattle.til_lexer.specs.Places.{start}
+use Rattle.til_lexer.specs.Spelling.{HasForm}
+use Rattle.til_lexer.specs.Words.{has_name_form}
+use Rattle.til_parser.specs.Grammar.{Form, One, Of, IsWord, Word}
+use Rattle.til_parser.specs.Lexemes.{Lexeme, IsFormed}
+use Rattle.til_parser.specs.Reading.{same_kind, is_kind, is_word, expect, expect_word, token}
+
+-- ---- kinds and words
+
+pub kind_is : (one other : TokenKind) → same_kind one other ≡ true → one ≡ other
+unfolding same_kind
+kind_is one other same = same_true the_type tt one other same
+
+pub same_kind-is : (one other : TokenKind) → one ≡ other → same_kind one other ≡ true
+unfolding same_kind
+same_kind-is one other is = true_same the_type one other is
+
+pub both : (b c : Bool) → (b && c) ≡ true → (b ≡ true) × (c ≡ true)
+both true c e = (refl, e)
+both false c e = absurd (no_true e)
+  where
+    no_true : false ≡ true → ⊥
+    no_true e = subst T (sym e) tt
+
+pub word_is : (word : List ℕ) (lexeme : Lexeme) → is_word word lexeme ≡ true → IsWord word lexeme
+word_is word lexeme same =
+    let parts = both (same_kind lexeme.kind kinds.Word) (bytes_eq lexeme.spelling word) same in
+    record { kind = kind_is lexeme.kind kinds.Word parts.0; text = (bytes_eq-Decides lexeme.spelling word).0 parts.1 }
+
+pub is_word-is : (word : List ℕ) (lexeme : Lexeme) → IsWord word lexeme → is_word word lexeme ≡ true
+is_word-is word lexeme is = rw (same_kind-is lexeme.kind kinds.Word is.kind) ((bytes_eq-Decides lexeme.spelling word).1 is.text)
+
+pub one : (Is : Lexeme → Type 0) (lexeme : Lexeme) → Is lexeme → One Is (lexeme ∷ [])
+one Is lexeme is = record { lexeme = lexeme; all = refl; is = is }
+
+-- a token of this kind and text, at the first place
+abbrev pub made : TokenKind → List ℕ → Lexeme
+made kind spelling = record { kind = kind; spelling = spelling; place = start }
+
+pub kind-mark : (kind : TokenKind) (spelling : List ℕ) → HasForm kind spelling → IsMark IsFormed (is_kind kind) (Of kind)
+kind-mark kind spelling form = record {
+  thing = made kind spelling;
+  good = form;
+  holds = same_kind-is kind kind refl;
+  there = λ t is. one (λ lexeme. lexeme.kind ≡ kind) t (kind_is t.kind kind is);
+  back = λ ts s. (s.lexeme, s.all, same_kind-is s.lexeme.kind kind s.is);
+}
+
+pub word-mark : (word : List ℕ) → has_name_form word ≡ true → IsMark IsFormed (is_word word) (Word word)
+word-mark word form = record {
+  thing = made kinds.Word word;
+  good = form;
+  holds = is_word-is word (made kinds.Word word) (record { kind = refl; text = refl });
+  there = λ t is. one (IsWord word) t (word_is word t is);
+  back = λ ts s. (s.lexeme, s.all, is_word-is word s.lexeme s.is);
+}
+
+pub kind-rule : (kind : TokenKind) (spelling : List ℕ) → HasForm kind spelling → IsRule IsFormed (expect kind) (λ _. Of kind) (λ _. Anything) (λ _. Unit {0}) Never
+kind-rule kind spelling form = mark-rule IsFormed (is_kind kind) (Of kind) (kind-mark kind spelling form)
+
+pub word-rule : (word : List ℕ) → has_name_form word ≡ true → IsRule IsFormed (expect_word word) (λ _. Word word) (λ _. Anything) (λ _. Unit {0}) Never
+word-rule word form = mark-rule IsFormed (is_word word) (Word word) (word-mark word form)
+
+-- ---- what a token is not
+
+-- after such a token a test for another kind or word tells no
+pub Of-not : (kind other : TokenKind) → same_kind kind other ≡ false → (front rest : List Lexeme) → Of kind front → tells (is_kind other) false (front ++ rest) ≡ false
+Of-not kind other apart front rest s = rw (s.all, s.is) apart
+
+pub Of-not_word : (kind : TokenKind) (word : List ℕ) → same_kind kind kinds.Word ≡ false → (front rest : List Lexeme) → Of kind front → tells (is_word word) false (front ++ rest) ≡ false
+Of-not_word kind word apart front rest s = rw (s.all, s.is, apart) refl
+
+pub Word-not : (word : List ℕ) (other : TokenKind) → same_kind kinds.Word other ≡ false → (front rest : List Lexeme) → Word word front → tells (is_kind other) false (front ++ rest) ≡ false
+Word-not word other apart front rest s = rw (s.all, s.is.kind) apart
+
+and_false : (b : Bool) → (b && false) ≡ false
+and_false true = refl
+and_false false = refl
+
+pub Word-not_word : (word other : List ℕ) → bytes_eq word other ≡ false → (front rest : List Lexeme) → Word word front → tells (is_word other) false (front ++ rest) ≡ false
+Word-not_word word other apart front rest s = rw (s.all, s.is.kind, s.is.text, apart) (and_false (same_kind kinds.Word kinds.Word))
+
+-- ---- a token with a meaning
+
+-- a form is that of one token of this kind with a meaning
+pub record IsToken {A : Type 0} (kind : TokenKind) (meaning : Place → List ℕ → Option A) (Spelled : A → Form) : Type 0 where
+  pub there : (x : A) (lexeme : Lexeme) → lexeme.kind ≡ kind → meaning lexeme.place lexeme.spelling ≡ Some x → Spelled x (lexeme ∷ [])
+  pub back : (x : A) (ts : List Lexeme) → Spelled x ts
+      → (lexeme : Lexeme) × (ts ≡ lexeme ∷ []) × (lexeme.kind ≡ kind) × (IsFormed lexeme → meaning lexeme.place lexeme.spelling ≡ Some x)
+
+module _ {A : Type 0} (kind : TokenKind) (meaning : Place → List ℕ → Option A) (Spelled : A → Form) (is_token : IsToken kind meaning Spelled) where
+  abbrev meaning_of : Lexeme → Option A
+  meaning_of lexeme = cond (same_kind lexeme.kind kind) (meaning lexeme.place lexeme.spelling) None
+
+  same_read : (ts : List Lexeme) → leaf meaning_of ts ≡ token kind meaning ts
+  unfolding token
+  same_read [] = refl
+  same_read (lexeme ∷ ts) = of_test (same_kind lexeme.kind kind)
+    where
+      of_test : (b : Bool) → meant (cond b (meaning lexeme.place lexeme.spelling) None) ts (lexeme ∷ ts)
+          ≡ meant (option_and_then (λ (next : Place × List ℕ). meaning next.0 next.1) (cond b (Some (lexeme.place, lexeme.spelling)) None)) ts (lexeme ∷ ts)
+      of_test true = refl
+      of_test false = refl
+
+  meant_is : (b : Bool) (o : Option A) (x : A) → cond b o None ≡ Some x → (b ≡ true) × (o ≡ Some x)
+  meant_is true o x is = (refl, is)
+  meant_is false o x is = absurd (none-some x is)
+
+  pub token-rule : (lexeme : Lexeme) (x : A) → IsFormed lexeme → lexeme.kind ≡ kind → meaning lexeme.place lexeme.spelling ≡ Some x
+      → IsRule IsFormed (token kind meaning) Spelled (λ _. Anything) (λ _. Unit {0}) Never
+  token-rule lexeme x formed is means =
+      read-rule IsFormed (leaf meaning_of) (token kind meaning) Spelled (λ _. Anything) (λ _. Unit {0}) Never same_read
+      (leaf-rule IsFormed meaning_of Spelled lexeme x formed (rw (same_kind-is lexeme.kind kind is) means)
+      (record {
+        there = λ y t made. let parts = meant_is (same_kind t.kind kind) (meaning t.place t.spelling) y made in
+            is_token.there y t (kind_is t.kind kind parts.0) parts.1;
+        back = λ y ts each s.
+            let o = is_token.back y ts s in
+            let form = All-head IsFormed o.0 [] (subst (All IsFormed) o.1 each) in
+            (o.0, o.1, rw (same_kind-is o.0.kind kind o.2) (o.3 form));
+      }))

@@ -1,0 +1,105 @@
+-- A rule that takes all: its faults are those that its form alone says.
+use Rattle.std.proofs.Common.{◌≡◌, ℕ, suc, ◌+◌, ⊎_elim, List, [], ◌∷◌, ◌++◌, All, length, take, drop, refl, sym, ap, ◌∙◌, subst, arith, append_assoc}
+use Rattle.std.proofs.lemmas.List.{append-nil, length-append, length-drop, take-append-drop}
+use Rattle.std.proofs.lemmas.List.Elements.{All-append, All-cons, All-head}
+use Rattle.std.proofs.Math.Seq.{take-append_seam}
+use Rattle.tydi_reading.specs.declared.fault.Fault.{Fault}
+use Rattle.tydi_reading.specs.declared.fault.Fault.TheVariants as faults
+use Rattle.tydi_reading.specs.Faults.{IsShallow, IsRefusedAt, IsTooDeepAt, IsCutOff}
+use Rattle.tydi_reading.specs.Forms.{Form, GoesOn}
+use Rattle.tydi_reading.specs.Reading.{Outcome, took, stopped, Reader}
+use Rattle.tydi_reading.proofs.StepLemmas.{All-front, All-back}
+use Rattle.tydi_reading.specs.Rules.{Local, IsRule}
+
+take-one : {T : Type 0} (front rest : List T) (t : T) → take (suc (length front)) (front ++ t ∷ rest) ≡ front ++ t ∷ []
+take-one [] rest t = refl
+take-one (x ∷ front) rest t = ap (λ l. x ∷ l) (take-one front rest t)
+
+-- the front of a split is so many things
+front-take : {T : Type 0} (ts front rest : List T) (k : ℕ) → ts ≡ front ++ rest → k + length rest ≡ length ts → take k ts ≡ front
+front-take ts front rest k split count =
+    let sum = ap length split ∙ length-append front rest in
+    let same : k ≡ length front = omega arith in
+    rw (same, split) (take-append_seam front rest)
+
+module _ {T A : Type 0} (Good : T → Type 0) (read : Reader T A) (Spelled : A → Form T) (Next : A → Form T) (Within : A → Type 0) (Deep : Form T)
+    (rule : IsRule Good read Spelled Next Within Deep) (closed : (x : A) → Next x []) where
+  -- what stopped did not stop later than something too deep begins
+  shallow : (ts rest : List T) (e : Fault) → All Good ts → read ts ≡ stopped e rest → (k : ℕ) → k + length rest ≡ length ts → IsShallow Deep k ts
+  shallow ts rest e good is k count j less deep =
+      let s = rule.stops (take j ts) (drop j ts) (All-front Good ts (take j ts) (drop j ts) (sym (take-append-drop j ts)) good) deep in
+      let whole = take-append-drop j ts in
+      let same : ◌≡◌ {A = Outcome T A} (stopped e rest) (stopped s.fault s.at) = sym is ∙ ap read (sym whole) ∙ s.is in
+      let place : rest ≡ s.at = cc in
+      let lengths = ap length place in
+      let many = length-drop j ts in
+      let before = s.before in
+      omega arith
+
+  refuted : (x : A) (ts rest : List T) → All Good ts → Spelled x ts → read ts ≡ stopped faults.Refused rest → ⊥
+  refuted x ts rest good spelled is =
+      ⊎_elim
+      (λ took_all. let no : ◌≡◌ {A = Outcome T A} (stopped faults.Refused rest) (took x []) = sym is ∙ ap read (sym (append-nil ts)) ∙ took_all in cc)
+      (λ far. let no : ◌≡◌ {A = Outcome T A} (stopped faults.Refused rest) (stopped faults.TooDeep far.at) = sym is ∙ ap read (sym (append-nil ts)) ∙ far.is in
+      let why : faults.Refused ≡ faults.TooDeep = cc in cc)
+      (rule.complete ts [] x good spelled (closed x))
+
+  pub refused-exact : (ts after : List T) (t : T) → All Good ts → read ts ≡ stopped faults.Refused (t ∷ after) → (k : ℕ) → k + length (t ∷ after) ≡ length ts
+      → IsRefusedAt Good Spelled Deep k ts
+  refused-exact ts after t good is k count =
+      let cut = rule.finishes ts (t ∷ after) faults.Refused is in
+      let one : take k ts ≡ cut.front = front-take ts cut.front (t ∷ after) k cut.split count in
+      let l = subst (Local read ts) is (rule.local ts) in
+      let other : take k ts ≡ l.front = front-take ts l.front (t ∷ after) k l.split count in
+      let next : take (suc k) ts ≡ l.front ++ t ∷ [] = next_of l.front k l.split count in
+      record {
+        there = omega arith;
+        goes = subst (GoesOn Good Spelled) (sym one) cut.goes;
+        ends = λ x more more_good spelled.
+            let front_good = All-front Good ts l.front (t ∷ after) l.split good in
+            let t_good = All-head Good t after (All-back Good ts l.front (t ∷ after) l.split good) in
+            let all_good = All-append Good l.front (t ∷ more) front_good (All-cons Good t more t_good more_good) in
+            let flat : take (suc k) ts ++ more ≡ l.front ++ t ∷ more = ap (λ f. f ++ more) next ∙ append_assoc l.front (t ∷ []) more in
+            refuted x (l.front ++ t ∷ more) (t ∷ more) all_good (subst (Spelled x) flat spelled) (l.stays t after more refl);
+        shallow = shallow ts (t ∷ after) faults.Refused good is k count;
+      }
+    where
+      next_of : (front : List T) (k : ℕ) → ts ≡ front ++ t ∷ after → k + length (t ∷ after) ≡ length ts → take (suc k) ts ≡ front ++ t ∷ []
+      next_of front k split count =
+          let sum = ap length split ∙ length-append front (t ∷ after) in
+          let same : k ≡ length front = omega arith in
+          rw (same, split) (take-one front after t)
+
+  pub cut_off-exact : (ts : List T) → All Good ts → read ts ≡ stopped faults.Refused [] → IsCutOff Good Spelled Deep ts
+  cut_off-exact ts good is =
+      let cut = rule.finishes ts [] faults.Refused is in
+      record {
+        goes = subst (GoesOn Good Spelled) (sym (cut.split ∙ append-nil cut.front)) cut.goes;
+        none = λ x spelled. refuted x ts [] good spelled is;
+        shallow = shallow ts [] faults.Refused good is (length ts) (omega arith);
+      }
+
+  pub too_deep-exact : (ts rest : List T) → All Good ts → read ts ≡ stopped faults.TooDeep rest → (k : ℕ) → k + length rest ≡ length ts → IsTooDeepAt Good Spelled Deep k ts
+  too_deep-exact ts rest good is k count =
+      let cut = rule.finishes ts rest faults.TooDeep is in
+      let one : take k ts ≡ cut.front = front-take ts cut.front rest k cut.split count in
+      let place = ap length cut.begins in
+      record {
+        there = omega arith;
+        deep = subst Deep (sym one) cut.deep;
+        goes = subst (GoesOn Good Spelled) (sym (next_of cut.front cut.after cut.next k (cut.split ∙ ap (λ r. cut.front ++ r) cut.begins) (rest_is cut.after cut.next cut.begins))) cut.goes;
+        shallow = shallow ts rest faults.TooDeep good is k count;
+      }
+    where
+      rest_is : (after : List T) (t : T) → rest ≡ t ∷ after → k + length (t ∷ after) ≡ length ts
+      rest_is after t is = let place = ap length is in omega arith
+
+      next_of : (front after : List T) (t : T) (k : ℕ) → ts ≡ front ++ t ∷ after → k + length (t ∷ after) ≡ length ts → take (suc k) ts ≡ front ++ t ∷ []
+      next_of front after t k split count =
+          let sum = ap length split ∙ length-append front (t ∷ after) in
+          let same : k ≡ length front = omega arith in
+          rw (same, split) (take-one front after t)
+
+  -- a fault in memory is never one of the things
+  pub memory-never : (ts rest : List T) → read ts ≡ stopped faults.Memory rest → ⊥
+  memory-never ts rest is = rule.finishes ts rest faults.Memory is

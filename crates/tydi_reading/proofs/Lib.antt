@@ -1,0 +1,14 @@
+pub mod StepLemmas
+pub mod StepRules
+pub mod ChoiceRules
+pub mod LoopLemmas
+pub mod LoopRules
+pub mod ExactLemmas
+pub mod RepeatedRule
+pub mod MarkLemmas
+pub mod MarkRules
+pub mod StepsRule
+pub mod SeparatedRule
+pub mod JoinedRule
+pub mod CheckedRule
+pub mod FilledLemmas

@@ -1,0 +1,175 @@
+-- A loop that takes a thing whenever it goes on is its first turn, and the loop after it.
+use Rattle.std.proofs.Common.{◌≡◌, ℕ, zero, suc, ◌<◌, ◌≤◌, Bool, true, false, cond, List, [], ◌∷◌, ◌++◌, length, refl, arith, Ok, Err, ap, subst, sym, ◌∙◌}
+use Rattle.std.specs.Prelude.{Result, OnOk}
+use Rattle.tydi_reading.specs.declared.fault.Fault.{Fault}
+use Rattle.tydi_reading.specs.declared.fault.Fault.TheVariants as faults
+use Rattle.tydi_reading.specs.Lists.{repeated, repeated_turn, steps_turn, separator_turn, joined_turn, mark}
+use Rattle.tydi_reading.specs.Reading.{Outcome, took, stopped, Reader, Reads, Shrinks, and_then, ◌>>=◌, ◌<$>◌, pure, rest_of, sees, ◌>>◌, Turn, again, done, turned, loop_from, loop, tells}
+
+-- each turn takes a thing where the loop goes on
+pub record Advances {T S : Type 0} (turn : S → Reader T (Turn S)) : Type 0 where
+  pub less : (s : S) (ts rest : List T) (next : S) → turn s ts ≡ took (again next) rest → length rest < length ts
+
+-- what follows a turn matters only where the loop goes on
+turned-same : {T S : Type 0} (made : Outcome T (Turn S)) (f g : S → Reader T S)
+    → ((next : S) (rest : List T) → made ≡ took (again next) rest → f next rest ≡ g next rest) → and_then made (turned f) ≡ and_then made (turned g)
+turned-same (stopped e rest) f g same = refl
+turned-same (took (again next) rest) f g same = same next rest refl
+turned-same (took (done s) rest) f g same = refl
+
+-- as many turns as things, and one, are enough
+loop_from-enough : {T S : Type 0} (turn : S → Reader T (Turn S)) → Advances turn → (n m : ℕ) (s : S) (ts : List T)
+    → length ts < n → length ts < m → loop_from turn n s ts ≡ loop_from turn m s ts
+unfolding loop_from
+loop_from-enough turn advances zero m s ts one other = absurd (omega arith)
+loop_from-enough turn advances (suc n) zero s ts one other = absurd (omega arith)
+loop_from-enough turn advances (suc n) (suc m) s ts one other =
+    turned-same (turn s ts) (loop_from turn n) (loop_from turn m)
+    (λ next rest is. let less = advances.less s ts rest next is in loop_from-enough turn advances n m next rest (omega arith) (omega arith))
+
+pub loop_unfolds : {T S : Type 0} (turn : S → Reader T (Turn S)) → Advances turn → (s : S) (ts : List T)
+    → loop turn s ts ≡ and_then (turn s ts) (turned (loop turn))
+unfolding loop loop_from
+loop_unfolds turn advances s ts =
+    turned-same (turn s ts) (loop_from turn (length ts)) (loop turn)
+    (λ next rest is.
+    let less = advances.less s ts rest next is in
+    loop_from-enough turn advances (length ts) (suc (length rest)) next rest (omega arith) (omega arith))
+
+-- ---- lists
+
+took-both : {T A : Type 0} (x y : A) (ts rest : List T) → ◌≡◌ {A = Outcome T A} (took x ts) (took y rest) → (x ≡ y) × (ts ≡ rest)
+took-both x y ts rest is = (cc, cc)
+
+no_again : {S : Type 0} (s next : S) (Goal : Type 0) → ◌≡◌ {A = Turn S} (done s) (again next) → Goal
+no_again s next Goal is = absurd cc
+
+mapped-less : {T A B : Type 0} (f : A → B) (read : Reader T A) → Shrinks read → Shrinks (f <$> read)
+mapped-less {T} {A} {B} f read shrinks = record { less = λ ts rest y is. of_made ts rest y (read ts) refl is }
+  where
+    of_made : (ts rest : List T) (y : B) (made : Outcome T A) → read ts ≡ made → and_then made (λ x. pure (f x)) ≡ took y rest → length rest < length ts
+    of_made ts rest y (stopped e middle) made is = absurd cc
+    of_made ts rest y (took x middle) made is =
+        let both = took-both (f x) y middle rest is in
+        let less = shrinks.less ts middle x made in
+        let same = ap length both.1 in
+        omega arith
+
+pub repeated_turn-advances : {T A : Type 0} (test : T → Bool) (last : Bool) (item : Reader T A) → Shrinks item → Advances (repeated_turn test last item)
+unfolding repeated_turn
+repeated_turn-advances {T} {A} test last item shrinks = record { less = λ found ts rest next is. of_test found ts rest next (tells test last ts) is }
+  where
+    of_test : (found : List A) (ts rest : List T) (next : List A) (b : Bool)
+        → (cond {A = Reader T (Turn (List A))} b (pure (done found)) ((λ x. again (found ++ x ∷ [])) <$> item)) ts ≡ took (again next) rest → length rest < length ts
+    of_test found ts rest next true is = no_again found next (length rest < length ts) (took-both (done found) (again next) ts rest is).0
+    of_test found ts rest next false is = (mapped-less (λ x. again (found ++ x ∷ [])) item shrinks).less ts rest (again next) is
+
+-- a separator, or none, leaves no more things than there were
+separator-least : {T S : Type 0} (separates : T → Bool) (s : S) (ts rest : List T) (t : Turn S) → separator_turn separates s ts ≡ took t rest → length rest ≤ length ts
+unfolding separator_turn mark
+separator-least {T} {S} separates s [] rest t is = let both = took-both (done s) t [] rest is in let same = ap length both.1 in omega arith
+separator-least {T} {S} separates s (u ∷ ts) rest t is = of_test (separates u) is
+  where
+    of_mark : (b : Bool) → and_then (cond {A = Outcome T (Unit {0})} b (took tt ts) (stopped faults.Refused (u ∷ ts))) (λ _. pure (again s)) ≡ took t rest
+        → length rest ≤ length (u ∷ ts)
+    of_mark true is = let both = took-both (again s) t ts rest is in let same = ap length both.1 in omega arith
+    of_mark false is = absurd cc
+
+    of_test : (b : Bool) → (cond {A = Reader T (Turn S)} b ((λ _. again s) <$> mark separates) (pure (done s))) (u ∷ ts) ≡ took t rest → length rest ≤ length (u ∷ ts)
+    of_test true is = of_mark (separates u) is
+    of_test false is = let both = took-both (done s) t (u ∷ ts) rest is in let same = ap length both.1 in omega arith
+
+pub steps_turn-advances : {T S : Type 0} (test : T → Bool) (last : Bool) (separates : T → Bool) (step : S → Reader T S) → ((s : S) → Shrinks (step s))
+    → Advances (steps_turn test last separates step)
+unfolding steps_turn
+steps_turn-advances {T} {S} test last separates step shrinks = record { less = λ s ts rest next is. of_test s ts rest next (tells test last ts) is }
+  where
+    of_made : (s : S) (ts rest : List T) (next : S) (made : Outcome T S) → step s ts ≡ made → and_then made (separator_turn separates) ≡ took (again next) rest → length rest < length ts
+    of_made s ts rest next (stopped e middle) made is = absurd cc
+    of_made s ts rest next (took x middle) made is =
+        let less = (shrinks s).less ts middle x made in
+        let least = separator-least separates x middle rest (again next) is in
+        omega arith
+
+    of_test : (s : S) (ts rest : List T) (next : S) (b : Bool)
+        → (cond {A = Reader T (Turn S)} b (pure (done s)) (step s >>= separator_turn separates)) ts ≡ took (again next) rest → length rest < length ts
+    of_test s ts rest next true is = no_again s next (length rest < length ts) (took-both (done s) (again next) ts rest is).0
+    of_test s ts rest next false is = of_made s ts rest next (step s ts) refl is
+
+pub separated_turn-advances : {T A : Type 0} (test : T → Bool) (last : Bool) (separates : T → Bool) (item : Reader T A) → Shrinks item
+    → Advances (steps_turn test last separates (λ found. (λ x. found ++ x ∷ []) <$> item))
+separated_turn-advances test last separates item shrinks =
+    steps_turn-advances test last separates (λ found. (λ x. found ++ x ∷ []) <$> item) (λ found. mapped-less (λ x. found ++ x ∷ []) item shrinks)
+
+-- a call that did what a reader does that takes a thing
+pub reads-less : {T A : Type 0} {read : Reader T A} → Shrinks read → (ts rest : List T) (made : Result A Fault) → Reads (read ts) made rest
+    → OnOk made (length rest < length ts)
+reads-less shrinks ts rest (Ok x) reads = shrinks.less ts rest x reads
+reads-less shrinks ts rest (Err e) reads = tt
+
+rest_of-least : {T : Type 0} (ts : List T) → length (rest_of ts) ≤ length ts
+rest_of-least [] = omega arith
+rest_of-least (t ∷ ts) = omega arith
+
+pub joined_turn-advances : {T A : Type 0} (joins : T → Bool) (item : Reader T A) → Shrinks item → Advances (joined_turn joins item)
+unfolding joined_turn mark
+joined_turn-advances {T} {A} joins item shrinks = record { less = λ found ts rest next is. of_test found ts rest next (tells joins false ts) is }
+  where
+    of_mark : (found : List A) (ts rest : List T) (next : List A) (b : Bool)
+        → and_then (cond {A = Outcome T (Unit {0})} b (took tt (rest_of ts)) (stopped faults.Refused ts)) (λ _. (λ x. again (found ++ x ∷ [])) <$> item) ≡ took (again next) rest
+        → length rest < length ts
+    of_mark found ts rest next true is =
+        let less = (mapped-less (λ x. again (found ++ x ∷ [])) item shrinks).less (rest_of ts) rest (again next) is in
+        let least = rest_of-least ts in
+        omega arith
+    of_mark found ts rest next false is = absurd cc
+
+    of_test : (found : List A) (ts rest : List T) (next : List A) (b : Bool)
+        → (cond {A = Reader T (Turn (List A))} b (mark joins >> (λ x. again (found ++ x ∷ [])) <$> item) (pure (done found))) ts ≡ took (again next) rest → length rest < length ts
+    of_test found ts rest next true is = of_mark found ts rest next (sees joins ts) is
+    of_test found ts rest next false is = no_again found next (length rest < length ts) (took-both (done found) (again next) ts rest is).0
+
+-- ---- a thing that is eaten
+
+pub eaten-least : {T : Type 0} (is : T → Bool) (old : List T) (b : Bool) (new : List T) → new ≡ cond b (rest_of old) old → length new ≤ length old
+eaten-least is old true new taken = let same = ap length taken in let least = rest_of-least old in omega arith
+eaten-least is old false new taken = let same = ap length taken in omega arith
+
+pub eaten-less : {T : Type 0} (is : T → Bool) (old : List T) (b : Bool) (new : List T) → b ≡ tells is false old → new ≡ cond b (rest_of old) old → b ≡ true → length new < length old
+eaten-less is [] b new seen taken test = absurd (let no : false ≡ true = sym seen ∙ test in cc)
+eaten-less is (t ∷ old) b new seen taken test =
+    let same : length new ≡ length old = ap length taken ∙ ap (λ c. length (cond c old (t ∷ old))) test in omega arith
+
+-- ---- where a loop ends
+
+made-ends : {T S : Type 0} (P : List T → Type 0) (turn more : S → Reader T S) (next : S → Reader T (Turn S))
+    → ((s end : S) (ts rest : List T) → next s ts ≡ took (done end) rest → P rest) → ((s end : S) (ts rest : List T) → more s ts ≡ took end rest → P rest)
+    → (s end : S) (ts rest : List T) (made : Outcome T (Turn S)) → next s ts ≡ made → and_then made (turned more) ≡ took end rest → P rest
+made-ends P turn more next ends others s end ts rest (stopped e middle) made is = absurd cc
+made-ends P turn more next ends others s end ts rest (took (again x) middle) made is = others x end middle rest is
+made-ends P turn more next ends others s end ts rest (took (done x) middle) made is = subst P (took-both x end middle rest is).1 (ends s x ts middle made)
+
+loop_from-ends : {T S : Type 0} (P : List T → Type 0) (turn : S → Reader T (Turn S)) → ((s end : S) (ts rest : List T) → turn s ts ≡ took (done end) rest → P rest)
+    → (n : ℕ) (s end : S) (ts rest : List T) → loop_from turn n s ts ≡ took end rest → P rest
+unfolding loop_from
+loop_from-ends P turn ends zero s end ts rest is = absurd cc
+loop_from-ends P turn ends (suc n) s end ts rest is =
+    made-ends P (loop_from turn n) (loop_from turn n) turn ends (loop_from-ends P turn ends n) s end ts rest (turn s ts) refl is
+
+pub loop-ends : {T S : Type 0} (P : List T → Type 0) (turn : S → Reader T (Turn S)) → ((s end : S) (ts rest : List T) → turn s ts ≡ took (done end) rest → P rest)
+    → (s end : S) (ts rest : List T) → loop turn s ts ≡ took end rest → P rest
+unfolding loop
+loop-ends P turn ends s end ts rest is = loop_from-ends P turn ends (suc (length ts)) s end ts rest is
+
+no_done : {T A B : Type 0} (made : Outcome T A) (f : A → B) (end : B) (rest : List T) → and_then made (λ x. pure {A = Turn B} (again (f x))) ≡ took (done end) rest → ⊥
+no_done {T} {A} {B} (stopped e middle) f end rest is = cc
+no_done {T} {A} {B} (took x middle) f end rest is = let turns : again (f x) ≡ done end = (took-both (again (f x)) (done end) middle rest is).0 in cc
+
+-- what is read up to the end leaves nothing
+pub repeated-all : {T A : Type 0} (item : Reader T A) (items : List A) (ts rest : List T) → repeated (λ _. false) true item ts ≡ took items rest → rest ≡ []
+unfolding repeated repeated_turn
+repeated-all {T} {A} item items ts rest is = loop-ends (λ rest. rest ≡ []) (repeated_turn (λ _. false) true item) ends [] items ts rest is
+  where
+    ends : (found end : List A) (ts rest : List T) → repeated_turn (λ _. false) true item found ts ≡ took (done end) rest → rest ≡ []
+    ends found end [] rest is = sym (took-both (done found) (done end) [] rest is).1
+    ends found end (t ∷ ts) rest is = absurd (no_done (item (t ∷ ts)) (λ x. found ++ x ∷ []) end rest is)

@@ -1,0 +1,59 @@
+-- Which lists of things have a form. No reader is in it. This project's own.
+use Rattle.std.specs.Prelude.{◌≡◌, ℕ, zero, suc, ◌⊎◌, List, [], ◌∷◌, ◌++◌, All, Option, Some}
+use Rattle.tydi_reading.specs.Reading.{Turn, again, done}
+
+-- which lists have a form
+abbrev pub Form : Type 0 → Type 1
+Form T = List T → Type 0
+
+-- the one form and then the other
+infixr 6 ◌⋯◌
+pub record ◌⋯◌ {T : Type 0} (First Second : Form T) (ts : List T) : Type 0 where
+  pub front : List T
+  pub back : List T
+  pub all : ts ≡ front ++ back
+  pub begins : First front
+  pub ends : Second back
+
+-- nothing
+abbrev pub Nothing : {T : Type 0} → Form T
+Nothing ts = ts ≡ []
+
+-- no list has this form
+abbrev pub Never : {T : Type 0} → Form T
+Never ts = ⊥
+
+-- each list has this form
+abbrev pub Anything : {T : Type 0} → Form T
+Anything ts = Unit {0}
+
+-- one thing of this meaning
+pub record One {T A : Type 0} (meaning : T → Option A) (x : A) (ts : List T) : Type 0 where
+  pub thing : T
+  pub all : ts ≡ thing ∷ []
+  pub is : meaning thing ≡ Some x
+
+-- turns of a loop from one state to another, so many at most
+abbrev pub Runs : {T S : Type 0} → (S → Turn S → Form T) → ℕ → S → S → Form T
+Runs Spelled zero s end ts = ⊥
+Runs {T} {S} Spelled (suc n) s end ts = Spelled s (done end) ts ⊎ ((next : S) × ((Spelled s (again next) ⋯ Runs Spelled n next end) ts))
+
+-- turns of a loop from one state to another
+abbrev pub Loop : {T S : Type 0} → (S → Turn S → Form T) → S → S → Form T
+Loop Spelled s end ts = (n : ℕ) × Runs Spelled n s end ts
+
+-- turns of a loop up to where something stands too deep, so many at most
+abbrev pub RunsDeep : {T S : Type 0} → (S → Turn S → Form T) → (S → Form T) → ℕ → S → Form T
+RunsDeep Spelled Deep zero s ts = ⊥
+RunsDeep {T} {S} Spelled Deep (suc n) s ts = Deep s ts ⊎ ((next : S) × ((Spelled s (again next) ⋯ RunsDeep Spelled Deep n next) ts))
+
+-- turns of a loop up to where something stands too deep
+abbrev pub LoopDeep : {T S : Type 0} → (S → Turn S → Form T) → (S → Form T) → S → Form T
+LoopDeep Spelled Deep s ts = (n : ℕ) × RunsDeep Spelled Deep n s ts
+
+-- things with which a form can go on after what stands: good ones, as texts have them
+pub record GoesOn {T A : Type 0} (Good : T → Type 0) (Spelled : A → Form T) (front : List T) : Type 0 where
+  pub value : A
+  pub more : List T
+  pub good : All Good more
+  pub spelled : Spelled value (front ++ more)

@@ -1,0 +1,6 @@
+pub mod Reading
+pub mod Calls
+pub mod Forms
+pub mod Faults
+pub mod Rules
+pub mod Lists

@@ -1,0 +1,71 @@
+-- Lists of things of one form: readers, under the names of the forms. This project's own.
+use Rattle.std.specs.Prelude.{◌⊎◌, Bool, false, List, [], ◌∷◌, ◌++◌, if◌then◌else◌}
+use Rattle.tydi_reading.specs.declared.fault.Fault.TheVariants as faults
+use Rattle.tydi_reading.specs.Forms.{Form, ◌⋯◌, Nothing}
+use Rattle.tydi_reading.specs.Reading.{Reader, took, stopped, sees, rest_of, ◌>>=◌, ◌>>◌, ◌<$>◌, pure, choose, Turn, again, done, loop}
+
+-- takes the next thing, which is to be such a one
+unfoldable pub mark : {T : Type 0} → (T → Bool) → Reader T (Unit {0})
+mark is = λ ts. if sees is ts then took tt (rest_of ts) else stopped faults.Refused ts
+
+-- ---- one after another
+
+-- items, one after another
+abbrev pub Each : {T A : Type 0} → (A → Form T) → List A → Form T
+Each Item [] = Nothing
+Each Item (item ∷ items) = Item item ⋯ Each Item items
+
+-- each item is such a one
+abbrev pub EachIs : {A : Type 0} → (A → Type 0) → List A → Type 0
+EachIs Is [] = Unit {0}
+EachIs Is (item ∷ items) = Is item × EachIs Is items
+
+-- one item more, or the end of the items
+unfoldable pub repeated_turn : {T A : Type 0} → (T → Bool) → Bool → Reader T A → List A → Reader T (Turn (List A))
+repeated_turn test last item found = choose test last (pure (done found)) ((λ x. again (found ++ x ∷ [])) <$> item)
+
+-- items up to where a test of the next thing holds
+unfoldable pub repeated : {T A : Type 0} → (T → Bool) → Bool → Reader T A → Reader T (List A)
+repeated test last item = loop (repeated_turn test last item) []
+
+-- ---- with a separator between each two, and a last one or none
+
+abbrev pub LastSeparator : {T : Type 0} → Form T → Form T
+LastSeparator Separator ts = Nothing ts ⊎ Separator ts
+
+-- items with a separator between each two, and a last one or none
+abbrev pub Separated : {T A : Type 0} → Form T → (A → Form T) → List A → Form T
+Separated Separator Item [] = Nothing
+Separated Separator Item (item ∷ []) = Item item ⋯ LastSeparator Separator
+Separated Separator Item (item ∷ next ∷ items) = Item item ⋯ Separator ⋯ Separated Separator Item (next ∷ items)
+
+-- after a step: a separator, with which the steps may go on, or their end
+unfoldable pub separator_turn : {T S : Type 0} → (T → Bool) → S → Reader T (Turn S)
+separator_turn separates found = choose separates false ((λ _. again found) <$> mark separates) (pure (done found))
+
+-- one step more and what follows it, or the end of the steps
+unfoldable pub steps_turn : {T S : Type 0} → (T → Bool) → Bool → (T → Bool) → (S → Reader T S) → S → Reader T (Turn S)
+steps_turn test last separates step s = choose test last (pure (done s)) (step s >>= separator_turn separates)
+
+-- steps with separators, each from one state to the next, up to where a test of the next thing holds
+unfoldable pub steps : {T S : Type 0} → (T → Bool) → Bool → (T → Bool) → (S → Reader T S) → S → Reader T S
+steps test last separates step = loop (steps_turn test last separates step)
+
+-- items with separators up to where a test of the next thing holds
+unfoldable pub separated : {T A : Type 0} → (T → Bool) → Bool → (T → Bool) → Reader T A → Reader T (List A)
+separated test last separates item = steps test last separates (λ found. (λ x. found ++ x ∷ []) <$> item) []
+
+-- ---- joined: one at least, with a joint between each two
+
+abbrev pub Joined : {T A : Type 0} → Form T → (A → Form T) → List A → Form T
+Joined Joint Item [] = λ _. ⊥
+Joined Joint Item (item ∷ []) = Item item
+Joined Joint Item (item ∷ next ∷ items) = Item item ⋯ Joint ⋯ Joined Joint Item (next ∷ items)
+
+-- a joint and one item more, or the end of the items
+unfoldable pub joined_turn : {T A : Type 0} → (T → Bool) → Reader T A → List A → Reader T (Turn (List A))
+joined_turn joins item found = choose joins false (mark joins >> (λ x. again (found ++ x ∷ [])) <$> item) (pure (done found))
+
+-- items with a joint between each two, one at least
+unfoldable pub joined : {T A : Type 0} → (T → Bool) → Reader T A → Reader T (List A)
+joined joins item = item >>= (λ x. loop (joined_turn joins item) (x ∷ []))

@@ -1,0 +1,140 @@
+-- The steps of which readers are made, over things of any type. This project's own.
+use Rattle.std.specs.Prelude.{◌≡◌, ◌≢◌, ◌<◌, ℕ, zero, suc, Bool, true, false, List, [], ◌∷◌, length, Option, Some, None, option_and_then, Result, Ok, Err, if◌then◌else◌}
+use Rattle.tydi_reading.specs.declared.fault.Fault.{Fault}
+use Rattle.tydi_reading.specs.declared.fault.Fault.TheVariants as faults
+
+-- what is read, or why nothing is; and the things that are left, which begin with the one at which reading stopped
+pub data Outcome (T A : Type 0) : Type 0 where
+  took : A → List T → Outcome T A
+  stopped : Fault → List T → Outcome T A
+
+-- from the things that are left to what is read of them
+abbrev pub Reader : Type 0 → Type 0 → Type 0
+Reader T A = List T → Outcome T A
+
+-- a function did what the reader does, unless memory ran out
+abbrev pub Reads : {T A : Type 0} → Outcome T A → Result A Fault → List T → Type 0
+Reads outcome (Ok x) new = outcome ≡ took x new
+Reads outcome (Err e) new = e ≢ faults.Memory → outcome ≡ stopped e new
+
+-- what is read takes a thing at least
+pub record Shrinks {T A : Type 0} (read : Reader T A) : Type 0 where
+  pub less : (ts rest : List T) (x : A) → read ts ≡ took x rest → length rest < length ts
+
+-- ---- the next thing
+
+-- nothing is left
+abbrev pub at_end : {T : Type 0} → List T → Bool
+at_end [] = true
+at_end (_ ∷ _) = false
+
+-- the next thing
+abbrev pub first : {T : Type 0} → List T → Option T
+first [] = None
+first (next ∷ _) = Some next
+
+-- the things after the next
+abbrev pub rest_of : {T : Type 0} → List T → List T
+rest_of [] = []
+rest_of (_ ∷ rest) = rest
+
+-- what a test says of the next thing, and what is said where none is left
+abbrev pub tells : {T : Type 0} → (T → Bool) → Bool → List T → Bool
+tells test last [] = last
+tells test last (next ∷ _) = test next
+
+-- there is a next thing, and it is such a one
+abbrev pub sees : {T : Type 0} → (T → Bool) → List T → Bool
+sees test = tells test false
+
+-- the next thing is such a one, or none is left
+abbrev pub stops : {T : Type 0} → (T → Bool) → List T → Bool
+stops test = tells test true
+
+-- the things without the next, where that is such a one
+abbrev pub after_eating : {T : Type 0} → (T → Bool) → List T → List T
+after_eating test [] = []
+after_eating test (next ∷ rest) = if test next then rest else next ∷ rest
+
+-- ---- steps
+
+-- takes nothing
+abbrev pub pure : {T A : Type 0} → A → Reader T A
+pure x = λ ts. took x ts
+
+-- nothing goes on
+abbrev pub refuse : {T A : Type 0} → Reader T A
+refuse = λ ts. stopped faults.Refused ts
+
+-- what is read is handed on, with the things after it; a fault stays
+abbrev pub and_then : {T A B : Type 0} → Outcome T A → (A → Reader T B) → Outcome T B
+and_then (took x rest) f = f x rest
+and_then (stopped e rest) f = stopped e rest
+
+-- one reader, and then the reader that what is read asks for
+infixl 10 ◌>>=◌
+abbrev pub ◌>>=◌ : {T A B : Type 0} → Reader T A → (A → Reader T B) → Reader T B
+p >>= f = λ ts. and_then (p ts) f
+
+-- one reader, and then another
+infixl 10 ◌>>◌
+abbrev pub ◌>>◌ : {T A B : Type 0} → Reader T A → Reader T B → Reader T B
+p >> q = p >>= (λ _. q)
+
+-- a function of what is read
+infixr 11 ◌<$>◌
+abbrev pub ◌<$>◌ : {T A B : Type 0} → (A → B) → Reader T A → Reader T B
+f <$> p = p >>= (λ x. pure (f x))
+
+-- one after another: both values
+infixr 12 ◌<&>◌
+abbrev pub ◌<&>◌ : {T A B : Type 0} → Reader T A → Reader T B → Reader T (A × B)
+p <&> q = p >>= (λ x. (λ y. (x, y)) <$> q)
+
+-- one reader, and then another: the value of the first
+infixl 12 ◌<<◌
+abbrev pub ◌<<◌ : {T A B : Type 0} → Reader T A → Reader T B → Reader T A
+p << q = p >>= (λ x. (λ _. x) <$> q)
+
+-- the one reader where a test of the next thing holds, and else the other
+abbrev pub choose : {T A : Type 0} → (T → Bool) → Bool → Reader T A → Reader T A → Reader T A
+choose test last p q = λ ts. (if tells test last ts then p else q) ts
+
+-- the next thing, which is to have a meaning
+abbrev pub meant : {T A : Type 0} → Option A → List T → List T → Outcome T A
+meant (Some x) rest all = took x rest
+meant None rest all = stopped faults.Refused all
+
+-- what is read is to have a meaning, else nothing goes on after it
+abbrev pub checked : {T A B : Type 0} → (A → Option B) → Reader T A → Reader T B
+checked meaning p = p >>= (λ x. λ rest. meant (meaning x) rest rest)
+
+-- takes the next thing, which is to have a meaning, and gives the meaning
+abbrev pub leaf : {T A : Type 0} → (T → Option A) → Reader T A
+leaf meaning = λ ts. meant (option_and_then meaning (first ts)) (rest_of ts) ts
+
+-- what may not stand here, inside as many others as are allowed: told where it begins
+abbrev pub too_deep : {T A : Type 0} → (T → Bool) → Reader T A
+too_deep begins [] = refuse []
+too_deep begins (next ∷ rest) = stopped (if begins next then faults.TooDeep else faults.Refused) (next ∷ rest)
+
+-- ---- loops
+
+-- what a turn of a loop gives: what is read so far, with which the loop goes on or ends
+pub data Turn (S : Type 0) : Type 0 where
+  again : S → Turn S
+  done : S → Turn S
+
+-- goes on with the loop, or ends it
+abbrev pub turned : {T S : Type 0} → (S → Reader T S) → Turn S → Reader T S
+turned more (again s) = more s
+turned more (done s) = pure s
+
+-- so many turns at most
+unfoldable pub loop_from : {T S : Type 0} → (S → Reader T (Turn S)) → ℕ → S → Reader T S
+loop_from turn zero s = refuse
+loop_from turn (suc turns) s = turn s >>= turned (loop_from turn turns)
+
+-- each turn that goes on takes a thing, so there are no more turns than things, and one
+unfoldable pub loop : {T S : Type 0} → (S → Reader T (Turn S)) → S → Reader T S
+loop turn s = λ ts. loop_from turn (suc (length ts)) s ts

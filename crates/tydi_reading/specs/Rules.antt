@@ -1,0 +1,79 @@
+-- What makes a reader a rule: it reads exactly what its form spells, and where it stops nothing of the form goes on. This project's own.
+use Rattle.std.specs.Prelude.{◌≡◌, ◌≤◌, ◌⊎◌, List, [], ◌∷◌, ◌++◌, length, All}
+use Rattle.tydi_reading.specs.declared.fault.Fault.{Fault}
+use Rattle.tydi_reading.specs.declared.fault.Fault.TheVariants as faults
+use Rattle.tydi_reading.specs.Forms.{Form, GoesOn}
+use Rattle.tydi_reading.specs.Reading.{Outcome, took, stopped, Reader}
+
+-- the things that are left
+abbrev pub left : {T A : Type 0} → Outcome T A → List T
+left (took x rest) = rest
+left (stopped e rest) = rest
+
+-- the same outcome with other things left
+abbrev pub leaving : {T A : Type 0} → Outcome T A → List T → Outcome T A
+leaving (took x rest) other = took x other
+leaving (stopped e rest) other = stopped e other
+
+-- what was read of the front, or refused, stays whatever follows the next thing
+pub record Local {T A : Type 0} (read : Reader T A) (ts : List T) (outcome : Outcome T A) : Type 0 where
+  pub front : List T
+  pub split : ts ≡ front ++ left outcome
+  pub stays : (next : T) (after more : List T) → left outcome ≡ next ∷ after → read (front ++ next ∷ more) ≡ leaving outcome (next ∷ more)
+
+-- what was taken spells what is read
+pub record Found {T A : Type 0} (Spelled : A → Form T) (Within : A → Type 0) (ts rest : List T) (x : A) : Type 0 where
+  pub front : List T
+  pub split : ts ≡ front ++ rest
+  pub spelled : Spelled x front
+  pub within : Within x
+
+-- reading stopped at something too deep, before the rest or at its begin; what is spelled has something too deep
+pub record TooFar {T A : Type 0} (Within : Type 0) (rest : List T) (outcome : Outcome T A) : Type 0 where
+  pub at : List T
+  pub is : outcome ≡ stopped faults.TooDeep at
+  pub before : length rest ≤ length at
+  pub beyond : Within → ⊥
+
+-- what is spelled is read, or has something too deep
+abbrev pub Reached : {T A : Type 0} → (A → Type 0) → List T → A → Outcome T A → Type 0
+Reached Within rest x outcome = (outcome ≡ took x rest) ⊎ TooFar (Within x) rest outcome
+
+-- the form can go on after what was taken
+pub record Cut {T A : Type 0} (Good : T → Type 0) (Spelled : A → Form T) (ts rest : List T) : Type 0 where
+  pub front : List T
+  pub split : ts ≡ front ++ rest
+  pub goes : GoesOn Good Spelled front
+
+-- the form can go on after the thing at which something too deep begins
+pub record CutDeep {T A : Type 0} (Good : T → Type 0) (Spelled : A → Form T) (Deep : Form T) (ts rest : List T) : Type 0 where
+  pub front : List T
+  pub next : T
+  pub after : List T
+  pub split : ts ≡ front ++ rest
+  pub begins : rest ≡ next ∷ after
+  pub deep : Deep front
+  pub goes : GoesOn Good Spelled (front ++ next ∷ [])
+
+-- what was taken before a fault can go on
+abbrev pub Finishes : {T A : Type 0} → (T → Type 0) → (A → Form T) → Form T → List T → List T → Fault → Type 0
+Finishes Good Spelled Deep ts rest faults.Refused = Cut Good Spelled ts rest
+Finishes Good Spelled Deep ts rest faults.TooDeep = CutDeep Good Spelled Deep ts rest
+Finishes Good Spelled Deep ts rest faults.Memory = ⊥
+
+-- reading stopped before the rest, or at its begin
+pub record Stops {T A : Type 0} (rest : List T) (outcome : Outcome T A) : Type 0 where
+  pub fault : Fault
+  pub at : List T
+  pub is : outcome ≡ stopped fault at
+  pub before : length rest ≤ length at
+
+-- a reader is a rule: its form, what may follow, what is within its bounds, and what leads to something too deep
+pub record IsRule {T A : Type 0} (Good : T → Type 0) (read : Reader T A) (Spelled : A → Form T) (Next : A → Form T) (Within : A → Type 0)
+    (Deep : Form T) : Type 0 where
+  pub example : GoesOn Good Spelled []
+  pub local : (ts : List T) → Local read ts (read ts)
+  pub sound : (ts rest : List T) (x : A) → read ts ≡ took x rest → Found Spelled Within ts rest x
+  pub complete : (front rest : List T) (x : A) → All Good front → Spelled x front → Next x rest → Reached Within rest x (read (front ++ rest))
+  pub finishes : (ts rest : List T) (e : Fault) → read ts ≡ stopped e rest → Finishes Good Spelled Deep ts rest e
+  pub stops : (front rest : List T) → All Good front → Deep front → Stops rest (read (front ++ rest))

@@ -1,0 +1,12 @@
+//! The steps of which readers are made, over things of any type: tokens, lines, words, bytes. A cursor over what is left, the steps
+//! in code and in definitions, and the facts of a rule, which each step has from its parts: that it reads exactly what its form
+//! spells, and that it stops at the first thing with which nothing of the form goes on. Stands on `tydi_base`.
+#![tactic(auto)]
+
+mod cursor;
+mod fault;
+mod lists;
+
+pub use cursor::Cursor;
+pub use fault::Fault;
+pub use lists::{repeated, separated};

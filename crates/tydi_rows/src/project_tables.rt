@@ -1,0 +1,108 @@
+//! Rows of `read`.
+
+/// Projects, each with its canonical text, which reads as itself.
+pub(crate) const CANONICAL: &str = "\
+# a comment, and no white space that is not needed
+$ read t
+< namespace a{type b=Bits(8);//x
+~ }
+> namespace a {
+>   type b = Bits(8);
+> }
+= again
+# a user's project: an alias, a stream, two streamlets, an implementation and a test
+$ read t
+< namespace video {
+<   type rgb = Group(r: Bits(8), g: Bits(8), b: Bits(8));
+<   type frames = Stream(data: rgb, throughput: 2.0,
+<     dimensionality: 2, complexity: 4);
+<   streamlet invert = (a: in frames, b: out frames);
+<   streamlet top = (a: in frames, b: out frames);
+<   impl wiring of top = { i = invert; a -- i.a; i.b -- b; };
+<   test two of top drive a =
+<     \"root - = [[{r: 1, g: 2, b: 3}, {r: 4, g: 5, b: 6},
+<      {r: 7, g: 8, b: 9}]] [];\" plan \"tydi-plan 1
+< cycles 3
+< \";
+< }
+> namespace video {
+>   type rgb = Group(r: Bits(8), g: Bits(8), b: Bits(8));
+>   type frames = Stream(data: rgb, throughput: 2, dimensionality: 2, synchronicity: Sync, complexity: 4, direction: Forward, user: Null, keep: false);
+>   streamlet invert = (a: in frames, b: out frames);
+>   streamlet top = (a: in frames, b: out frames);
+>   impl wiring of top = { i = invert; a -- i.a; i.b -- b; };
+>   test two of top drive a = \"root - = [[{r: 1, g: 2, b: 3}, {r: 4, g: 5, b: 6},
+>      {r: 7, g: 8, b: 9}]] [];\" plan \"tydi-plan 1
+> cycles 3
+> \";
+> }
+= again
+# documentation, an interface, a path, a linked implementation, and arguments in another order
+$ read t
+< #n# namespace a::b { #d# interface i = (#p# x: in c::t,); streamlet s = i; impl l of s = \"f\"; impl m of s = {};
+~ type u = Union(p: Null, q: Stream(keep: true, direction: Reverse, user: Bits(01), throughput: 1.50, data: Group(),)); }
+> #n#
+> namespace a::b {
+>   #d#
+>   interface i = (#p# x: in c::t);
+>   streamlet s = i;
+>   impl l of s = \"f\";
+>   impl m of s = { };
+>   type u = Union(p: Null, q: Stream(data: Group(), throughput: 1.5, dimensionality: 0, synchronicity: Sync, complexity: 4, direction: Reverse, user: Bits(1), keep: true));
+> }
+= again
+";
+
+/// Texts that are no project.
+pub(crate) const FAULTS: &str = "\
+$ read t
+~ namespace a { type b = Grüp; }
+! tydi: NameNotAscii t 1:24
+= 1
+$ read t
+< namespace a {
+<   type b_ = c;
+~ }
+! tydi: BadName t 2:8
+= 1
+$ read t
+~ namespace a { type b = Bits(1234567890123456789); }
+! tydi: NumberTooLong t 1:29
+= 1
+$ read t
+~ namespace a { $ }
+! tydi: StrayChar t 1:15
+= 1
+$ read t
+~ namespace a { impl b of c = \"d; }
+! tydi: OpenString t 1:29
+= 1
+$ read t
+~ #a namespace b {}
+! tydi: OpenDoc t 1:1
+= 1
+$ read t
+~ namespace a { type b = Stream(throughput: 2); }
+! tydi: Unexpected t 1:44
+= 1
+$ read t
+~ namespace a { type b = Stream(data: c, data: d); }
+! tydi: Unexpected t 1:40
+= 1
+$ read t
+~ namespace Null { }
+! tydi: Unexpected t 1:11
+= 1
+$ read t
+~ namespace a {
+! tydi: EndOfText t
+= 1
+$ read t
+! tydi: EndOfText t
+= 1
+# a fault of the tokens comes before one of the tree
+$ read t
+~ namespace { $ }
+! tydi: StrayChar t 1:13
+= 1
+";

@@ -1,0 +1,128 @@
+-- To given words and files there is an answer.
+use Rattle.std.proofs.Common.{◌≡◌, ℕ, List, length, Some, codes, ap, ◌∙◌, refl, inl, inr, Bool, true, false, Result, Ok, Err}
+use Rattle.std.specs.Str.{is_utf8}
+use Rattle.tydi_io.specs.Store.{Files}
+use Rattle.physical_stream.specs.First.{Offends}
+use Rattle.physical_stream.specs.declared.end.End.{End}
+use Rattle.physical_stream.specs.declared.end.End.TheVariants as ends
+use Rattle.physical_stream.specs.declared.head.Head.{Head}
+use Rattle.cycle_trace.specs.Trace.{TraceText, streams_of}
+use Rattle.cycle_trace.specs.TraceText.{trace_of}
+use Rattle.cycle_trace.specs.Survey.{survey_of}
+use Rattle.cycle_trace.specs.declared.counts.Counts.{Counts}
+use Rattle.cycle_trace.specs.declared.counts.SurveyFault.{SurveyFault}
+use Rattle.cycle_trace.specs.declared.counts.SurveyFault.TheVariants as faults
+use Rattle.cycle_trace.specs.declared.fault.TraceFault.{TraceFault}
+use Rattle.cycle_trace.specs.declared.fault.TraceFault.TheVariants as reading
+use Rattle.til_lexer.specs.Tokens.{tokens_of}
+use Rattle.til_lexer.specs.declared.fault.LexFault.{LexFault}
+use Rattle.til_lexer.specs.declared.fault.LexFault.TheVariants as lexing
+use Rattle.til_lexer.specs.declared.token.Token.{Token}
+use Rattle.til_parser.specs.Canonical.{canonical}
+use Rattle.til_parser.specs.declared.tree.Ast.{Ast}
+use Rattle.tydi_tool.specs.declared.answer.Answer.{Answer}
+use Rattle.tydi_tool.specs.declared.answer.Answer.TheVariants as answers
+use Rattle.tydi_tool.specs.declared.traces.Survey.{Survey}
+use Rattle.tydi_tool.specs.Words.{Request, Check, Read, FileWord}
+use Rattle.tydi_tool.specs.Refusals.{Refusal, of_file, refusal_line, refusal_of_trace, refusal_of_lexing}
+use Rattle.tydi_tool.specs.Reading.{RefusesBy}
+use Rattle.tydi_tool.specs.Reports.{Reports, ReportsEnd, IsUnfinished, IsFoundAmong, path_of_stream}
+use Rattle.tydi_tool.specs.Traces.{ReadsReading}
+use Rattle.tydi_tool.specs.Projects.{IsProject, ReadsTokens, ReadsCoded}
+use Rattle.tydi_tool.specs.Files.{Lack, lack_line, file_of}
+use Rattle.tydi_tool.specs.Ask.{Ask, Ends, Asks, SaysBy}
+use Rattle.tydi_tool.specs.Commands.{ask_of}
+use Rattle.tydi_tool.specs.Outcome.{output_answer}
+use Rattle.tydi_tool.specs.Laws.{HasSome, AsksAlways}
+use Rattle.tydi_tool.proofs.FaultLemmas.{trace_free, tokens_free}
+use Rattle.tydi_tool.proofs.FirstOfAll.{first_of_all}
+use Rattle.tydi_tool.proofs.ReadingLemmas.{IsFoundAmong-read}
+
+-- ---- whatever a command asks for
+
+SaysBy-some : (told : Files) (ask : Ask) → AsksAlways ask → HasSome Answer (SaysBy (Some told) ask)
+SaysBy-some told (Ends Tells) always = always
+SaysBy-some told (Asks file X Reads next) always =
+    let rest : (bytes : List ℕ) (x : X) → Reads bytes (Ok x) → HasSome Answer (SaysBy (Some told) (next x)) = λ bytes x reads. SaysBy-some told (next x) (always.1 bytes x reads) in
+    λ none. by_file told file X Reads next none always.0 rest (file_of told file) refl
+  where
+    by_read : (told : Files) (file : FileWord) (X : Type 0) (Reads : List ℕ → Result X (List ℕ) → Type 0) (next : X → Ask) →
+        ((a : Answer) → SaysBy (Some told) (Asks file X Reads next) a → ⊥) → ((bytes : List ℕ) (x : X) → Reads bytes (Ok x) → HasSome Answer (SaysBy (Some told) (next x))) →
+        (bytes : List ℕ) → file_of told file ≡ Ok bytes → (read : Result X (List ℕ)) → Reads bytes read → ⊥
+    by_read told file X Reads next none rest bytes is (Ok x) reads = rest bytes x reads (λ a says. none a (Ok bytes, (is, inr (x, (reads, says)))))
+    by_read told file X Reads next none rest bytes is (Err line) reads = none (answers.Refused line) (Ok bytes, (is, inl (line, (reads, refl))))
+
+    by_file : (told : Files) (file : FileWord) (X : Type 0) (Reads : List ℕ → Result X (List ℕ) → Type 0) (next : X → Ask) →
+        ((a : Answer) → SaysBy (Some told) (Asks file X Reads next) a → ⊥) → ((bytes : List ℕ) → HasSome (Result X (List ℕ)) (Reads bytes)) →
+        ((bytes : List ℕ) (x : X) → Reads bytes (Ok x) → HasSome Answer (SaysBy (Some told) (next x))) → (found : Result (List ℕ) Lack) → file_of told file ≡ found → ⊥
+    by_file told file X Reads next none always rest (Ok bytes) is = always bytes (λ read reads. by_read told file X Reads next none rest bytes is read reads)
+    by_file told file X Reads next none always rest (Err lack) is = none (answers.Refused (lack_line lack file.word)) (Err lack, (is, refl))
+
+-- ---- a trace
+
+RefusesBy-trace : (word : List ℕ) (fault : TraceFault) → (fault ≡ reading.Memory → ⊥) → (line : List ℕ) × RefusesBy {X = Survey} (refusal_of_trace word fault) (Err line)
+RefusesBy-trace word (reading.BadHeader line) some = (_, refl)
+RefusesBy-trace word reading.TooManyCycles some = (_, refl)
+RefusesBy-trace word (reading.BadRow line) some = (_, refl)
+RefusesBy-trace word (reading.WrongSignals line) some = (_, refl)
+RefusesBy-trace word (reading.RowsMissing want got) some = (_, refl)
+RefusesBy-trace word (reading.RowsLeft line) some = (_, refl)
+RefusesBy-trace word reading.Memory some = absurd (some refl)
+
+ReadsReading-some : (word text : List ℕ) (read : Result TraceText TraceFault) → trace_of text ≡ read → HasSome (Result Survey (List ℕ)) (ReadsReading word read)
+ReadsReading-some word text (Ok trace) is = λ none. first_of_all (Offends (streams_of trace)) (λ first is_first.
+    none (Ok (record { heads = trace.heads; found = survey_of (streams_of trace) first })) (record { heads = refl; found = record { first = first; is_first = is_first; says = refl } }))
+ReadsReading-some word text (Err fault) is = λ none.
+    let refused = RefusesBy-trace word fault (λ same. trace_free text (is ∙ ap Err same)) in none (Err refused.0) refused.1
+
+ReportsEnd-some : (path : List (List ℕ)) (end : End) → IsUnfinished end → (a : Answer) × ReportsEnd path end a
+ReportsEnd-some path ends.Whole is = absurd is
+ReportsEnd-some path ends.Pending is = (_, refl)
+ReportsEnd-some path (ends.Unclosed k) is = (_, refl)
+
+Reports-some : (heads : List Head) (found : Result Counts SurveyFault) → IsFoundAmong (length heads) found → (a : Answer) × Reports heads found a
+Reports-some heads (Ok counts) among = (_, refl)
+Reports-some heads (Err (faults.Offence cycle stream rule)) among = (_, refl)
+Reports-some heads (Err (faults.Unfinished stream end)) among = ReportsEnd-some (path_of_stream heads stream) end among.1
+Reports-some heads (Err faults.Memory) among = absurd among
+
+-- ---- a project
+
+RefusesBy-lexing : (word : List ℕ) (fault : LexFault) → (fault ≡ lexing.Memory → ⊥) → (line : List ℕ) × RefusesBy {X = Ast} (refusal_of_lexing word fault) (Err line)
+RefusesBy-lexing word (lexing.StrayChar place) some = (_, refl)
+RefusesBy-lexing word (lexing.OpenString place) some = (_, refl)
+RefusesBy-lexing word (lexing.OpenDoc place) some = (_, refl)
+RefusesBy-lexing word (lexing.NameNotAscii place) some = (_, refl)
+RefusesBy-lexing word (lexing.BadName place) some = (_, refl)
+RefusesBy-lexing word (lexing.NumberTooLong place) some = (_, refl)
+RefusesBy-lexing word lexing.Memory some = absurd (some refl)
+
+ReadsTokens-some : (word text : List ℕ) (lexed : Result (List Token) LexFault) → tokens_of text ≡ lexed → HasSome (Result Ast (List ℕ)) (ReadsTokens word text lexed)
+ReadsTokens-some word text (Ok tokens) is = λ none.
+    let no_tree : (ast : Ast) → IsProject text tokens ast → ⊥ = λ ast project. none (Ok ast) (inl (record { ast = ast; is = project; says = refl })) in
+    let refusal : Refusal = of_file (codes "EndOfText") word in
+    none (Err (refusal_line refusal)) (inr (record {
+      none = no_tree;
+      line = refusal_line refusal;
+      is = record { refusal = refusal; is = inr (inl refl); says = refl };
+      says = refl;
+    }))
+ReadsTokens-some word text (Err fault) is = λ none.
+    let refused = RefusesBy-lexing word fault (λ same. tokens_free text (is ∙ ap Err same)) in none (Err refused.0) refused.1
+
+ReadsCoded-some : (word bytes : List ℕ) (coded : Bool) → HasSome (Result Ast (List ℕ)) (ReadsCoded word bytes coded)
+ReadsCoded-some word bytes true = ReadsTokens-some word bytes (tokens_of bytes) refl
+ReadsCoded-some word bytes false = λ none. none (Err _) refl
+
+-- ---- the commands
+
+asks_always : (request : Request) → AsksAlways (ask_of request)
+asks_always (Check trace) = (
+  λ bytes. ReadsReading-some trace bytes (trace_of bytes) refl,
+  λ bytes survey reads none. let a = Reports-some survey.heads survey.found (IsFoundAmong-read trace bytes survey reads) in none a.0 a.1,
+)
+asks_always (Read project) = (λ bytes. ReadsCoded-some project bytes (is_utf8 bytes), λ bytes ast reads none. none (output_answer (canonical ast)) refl)
+
+-- some answer
+pub SaysBy-request-some : (told : Files) (request : Request) → HasSome Answer (SaysBy (Some told) (ask_of request))
+SaysBy-request-some told request = SaysBy-some told (ask_of request) (asks_always request)

@@ -1,0 +1,31 @@
+-- What each command asks of its files, and what is said of given words and files (this project's own). A command more is a case
+-- here.
+use Rattle.std.specs.Prelude.{◌≡◌, ℕ, List, Option, Some, None}
+use Rattle.tydi_io.specs.Store.{Files}
+use Rattle.til_parser.specs.Canonical.{canonical}
+use Rattle.til_parser.specs.declared.tree.Ast.{Ast}
+use Rattle.tydi_tool.specs.declared.answer.Answer.{Answer}
+use Rattle.tydi_tool.specs.declared.traces.Survey.{Survey}
+use Rattle.tydi_tool.specs.Words.{Request, Check, Read, trace_file, project_file}
+use Rattle.tydi_tool.specs.Outcome.{output_answer}
+use Rattle.tydi_tool.specs.Projects.{ReadsProject}
+use Rattle.tydi_tool.specs.Reports.{Reports}
+use Rattle.tydi_tool.specs.Traces.{ReadsTrace}
+use Rattle.tydi_tool.specs.Ask.{Ask, Ends, Asks, SaysBy}
+
+-- `check TRACE`: the report of a survey
+abbrev pub check_ask : List ℕ → Ask
+check_ask trace = Asks (trace_file trace) Survey (ReadsTrace trace) (λ survey. Ends (λ a. Reports survey.heads survey.found a))
+
+-- `read PROJECT`: the canonical text
+abbrev pub read_ask : List ℕ → Ask
+read_ask project = Asks (project_file project) Ast (ReadsProject project) (λ ast. Ends (λ a. a ≡ output_answer (canonical ast)))
+
+abbrev pub ask_of : Request → Ask
+ask_of (Check trace) = check_ask trace
+ask_of (Read project) = read_ask project
+
+-- what is said: nothing where the words spell no command
+abbrev pub Says : Option Files → Option Request → Answer → Type 0
+Says told None a = ⊥
+Says told (Some request) a = SaysBy told (ask_of request) a

@@ -1,0 +1,23 @@
+-- How the bytes of a file are read: as a value, or refused with a line (this project's own).
+use Rattle.std.specs.Prelude.{◌≡◌, ℕ, ◌⊎◌, List, Option, Some, None, Result, Ok, Err}
+use Rattle.tydi_tool.specs.declared.answer.Answer.TheVariants as answers
+use Rattle.tydi_tool.specs.declared.answer.Reply.{Reply}
+use Rattle.tydi_tool.specs.declared.answer.Reply.TheVariants as replies
+use Rattle.tydi_tool.specs.Refusals.{Refusal, refusal_line}
+
+-- a text is refused by this refusal; where there is none, it is not refused
+abbrev pub RefusesBy : {X : Type 0} → Option Refusal → Result X (List ℕ) → Type 0
+RefusesBy (Some refusal) read = read ≡ Err (refusal_line refusal)
+RefusesBy None read = ⊥
+
+-- what a reader gives of bytes: what they are read as, or the reply, which has the line that refuses them or is want of memory
+abbrev pub ReadsAs : {X : Type 0} → (Result X (List ℕ) → Type 0) → Result X Reply → Type 0
+ReadsAs Reads (Ok x) = Reads (Ok x)
+ReadsAs Reads (Err (replies.Says (answers.Refused line))) = Reads (Err line)
+ReadsAs Reads (Err replies.Memory) = Unit {0}
+ReadsAs Reads (Err reply) = ⊥
+
+-- the reply that refuses by this refusal, or want of memory; want of memory alone where there is none
+abbrev pub IsRefusedBy : Option Refusal → Reply → Type 0
+IsRefusedBy (Some refusal) reply = (reply ≡ replies.Says (answers.Refused (refusal_line refusal))) ⊎ (reply ≡ replies.Memory)
+IsRefusedBy None reply = reply ≡ replies.Memory

@@ -1,0 +1,45 @@
+//! How a command ends: with a verdict, or with a text.
+
+ghost use Rattle.std.specs.Prelude.{◌≡◌, ◌⊎◌, Ok, Err, MatchResult};
+ghost use Rattle.tydi_tool.specs.Outcome.{output_answer};
+ghost use Rattle.tydi_tool.specs.declared.answer.Answer.TheVariants as answers;
+ghost use Rattle.tydi_tool.specs.declared.answer.Reply.TheVariants as replies;
+
+use crate::answer::{Answer, Reply};
+use crate::output::Output;
+use crate::refusal::refused;
+use std::alloc::Global;
+use tydi_base::{List, Memory};
+
+/// The most bytes that an answer gives to out: 64 MiB.
+const OUTPUT_LIMIT: u64 = 67_108_864;
+
+/// A line as the verdict, or want of memory.
+pub(crate) fn verdict(line: Result<List<u8>, Memory>) -> Reply
+    ensures { MatchResult line (λ line. result ≡ replies.Says (answers.Verdict line)) (λ _. result ≡ replies.Memory) }
+{
+    match line {
+        Ok(line) => Reply::Says(Answer::Verdict(line)),
+        Err(Memory) => Reply::Memory,
+    }
+}
+
+/// A text that is there as the answer, where it is not too long, or want of memory.
+pub(crate) fn answered(alloc: Global, text: Result<List<u8>, Memory>) -> Reply
+    ensures { MatchResult text (λ text. (result ≡ replies.Says (output_answer text)) ⊎ (result ≡ replies.Memory)) (λ _. result ≡ replies.Memory) }
+{
+    match text {
+        Ok(text) => output(alloc, Output::whole(text)),
+        Err(Memory) => Reply::Memory,
+    }
+}
+
+/// A text as the answer, where it is not too long.
+pub(crate) fn output(alloc: Global, text: Output) -> Reply
+    ensures { (result ≡ replies.Says (output_answer text)) ⊎ (result ≡ replies.Memory) }
+{
+    if text.len() <= OUTPUT_LIMIT {
+        return Reply::Says(Answer::Done(text));
+    }
+    refused(alloc, "OutputTooLong", &[])
+}
