@@ -1,7 +1,7 @@
 use Rattle.std.proofs.Common.{◌≡◌, ℕ, length, subst, arith}
 use Rattle.cycle_trace.specs.Surveying.{HaveCheckers}
 use Rattle.cycle_trace.proofs.EndLemmas.{HaveCheckers-none, HaveCheckers-more}
-use Rattle.cycle_trace.proofs.surveying.checkers_of.Goals as goal
+use Rattle.cycle_trace.proofs.survey_outcome.checkers_of.Goals as goal
 
 pub heads-init : goal.heads-init
 heads-init c = HaveCheckers-none _ _ c.in_ok-checkers.ensures.items

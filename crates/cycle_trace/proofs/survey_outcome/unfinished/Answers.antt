@@ -1,6 +1,6 @@
 use Rattle.std.proofs.Common.{refl}
 use Rattle.cycle_trace.proofs.EndLemmas.{GoesOn-more, GoesOn-ends, GoesOn-all}
-use Rattle.cycle_trace.proofs.surveying.unfinished.Goals as goal
+use Rattle.cycle_trace.proofs.survey_outcome.unfinished.Goals as goal
 
 pub checkers-init : goal.checkers-init
 checkers-init c t at found = refl

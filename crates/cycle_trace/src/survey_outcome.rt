@@ -17,13 +17,13 @@ use tydi_base::{List, Memory};
 
 /// An offence: its cycle and its stream, from 0, and the rule.
 #[derive(Clone, Copy, Debug, PartialEq, Eq)]
-pub(crate) struct Found {
+pub(crate) struct FoundOffence {
     pub cycle: u32,
     pub stream: usize,
     pub rule: Rule,
 }
 
-impl Found {
+impl FoundOffence {
     /// What a survey answers that found it.
     pub(crate) fn fault(self) -> SurveyFault
         ensures { result ≡ faults.Offence self.cycle self.stream self.rule }
@@ -50,7 +50,7 @@ pub(crate) fn checkers_of(alloc: Global, heads: &[Head]) -> Result<Vec<Checker>,
 /// What the rows so far say: the first offence; else the counts, or the first stream that does not end whole.
 pub(crate) fn outcome_of(
     alloc: Global,
-    found: Option<Found>,
+    found: Option<FoundOffence>,
     checkers: &[Checker],
 ) -> Result<Counts, SurveyFault>
     ensures { (t : TraceText) → RowsSay t checkers.now found → Answers (streams_of t) result }

@@ -1,7 +1,7 @@
 use Rattle.std.proofs.Common.{◌∙◌, ℕ, List, ◌++◌, ◌∷◌, [], ap}
 use Rattle.cycle_trace.specs.declared.counts.Counts.{Counts}
 use Rattle.cycle_trace.proofs.EndLemmas.{counts_in-more, counts_in-all}
-use Rattle.cycle_trace.proofs.surveying.counts_of.Goals as goal
+use Rattle.cycle_trace.proofs.survey_outcome.counts_of.Goals as goal
 
 pub checkers-init : goal.checkers-init
 checkers-init c t at = c.new-streams.ensures

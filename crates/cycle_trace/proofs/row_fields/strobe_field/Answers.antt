@@ -1,7 +1,7 @@
 use Rattle.std.proofs.Common.{◌≡◌, ◌+◌, ◌/◌, ◌^◌, ◌<◌, ◌≤◌, sym, ◌∙◌, arith}
 use Rattle.std.proofs.lemmas.Nat.{pow_pos}
 use Rattle.cycle_trace.proofs.StrobeLemmas.{strobe_field-none, strobe_field-unread, strobe_field-large, strobe_field-read}
-use Rattle.cycle_trace.proofs.row_text.strobe_field.Goals as goal
+use Rattle.cycle_trace.proofs.row_fields.strobe_field.Goals as goal
 
 pub returns-in_default : goal.returns-in_default
 returns-in_default c =

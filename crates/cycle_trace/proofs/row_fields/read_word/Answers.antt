@@ -1,7 +1,7 @@
 use Rattle.std.proofs.Common.{◌≡◌, ◌+◌, ◌/◌, ℕ, Bool, true, false, not, Some, None, refl, subst, arith}
 use Rattle.tydi_base.specs.Hex.{word_at}
 use Rattle.cycle_trace.proofs.WordFieldLemmas.{word_field-none, word_field-read, word_field-unread}
-use Rattle.cycle_trace.proofs.row_text.read_word.Goals as goal
+use Rattle.cycle_trace.proofs.row_fields.read_word.Goals as goal
 
 true_of : (b : Bool) → not b ≡ false → b ≡ true
 true_of true is = refl

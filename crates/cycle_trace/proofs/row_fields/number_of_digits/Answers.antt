@@ -1,6 +1,6 @@
 use Rattle.std.proofs.Common.{◌∙◌, sym, arith}
 use Rattle.cycle_trace.proofs.StrobeLemmas.{number_in-nil, number_in-more, number_in-stops, number_in-room, number_in-all}
-use Rattle.cycle_trace.proofs.row_text.number_of_digits.Goals as goal
+use Rattle.cycle_trace.proofs.row_fields.number_of_digits.Goals as goal
 
 pub digits-init : goal.digits-init
 digits-init c = number_in-nil

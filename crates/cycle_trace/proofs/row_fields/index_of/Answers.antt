@@ -1,6 +1,6 @@
 use Rattle.std.proofs.Common.{arith}
 use Rattle.cycle_trace.proofs.RowLemmas.{index_of-long, index_of-none, index_of-read, index_of-large}
-use Rattle.cycle_trace.proofs.row_text.index_of.Goals as goal
+use Rattle.cycle_trace.proofs.row_fields.index_of.Goals as goal
 
 pub returns-then-digits-gt5 : goal.returns-then-digits-gt5
 returns-then-digits-gt5 c = λ width is. index_of-long width c.args.digits.now c.if-digits-gt5.true

@@ -5,14 +5,14 @@ ghost use Rattle.tydi_base.specs.Bits.{number_of_bits};
 ghost use Rattle.tydi_base.specs.Hex.{bits_of_digits};
 ghost use Rattle.tydi_base.specs.Pieces.{words_of};
 ghost use Rattle.tydi_base.specs.Reading.{Gives};
-ghost use Rattle.cycle_trace.specs.Faults.{fault_in, unspelled_in};
+ghost use Rattle.cycle_trace.specs.Faults.{fault_in, not_form_in};
 ghost use Rattle.cycle_trace.specs.RowStart.{row_start};
 ghost use Rattle.cycle_trace.specs.RowText as spec;
 ghost use Rattle.cycle_trace.specs.RowKept.{cycle_in, shown_in};
 ghost use Rattle.cycle_trace.specs.Widths.{HasWidths};
 ghost use Rattle.cycle_trace.specs.WordsLeft.{words_left};
 
-use crate::fault::{TraceFault, Unspelled};
+use crate::fault::{NotForm, TraceFault};
 use crate::row_form::row_fault;
 use crate::row_layout::{RowLayout, WordSignal};
 use crate::words_left::WordsLeft;
@@ -22,12 +22,12 @@ use tydi_base::{Bits, digit_value, read_decimal};
 /// The value of the first word, which is this key, `=` and the value; and the words after it.
 #[inline(never)]
 #[tactic(auto, unfolding(crate::specs::RowText::value_of))]
-fn value_of<'a>(key: u8, words: WordsLeft<'a>) -> Result<(&'a [u8], WordsLeft<'a>), Unspelled>
-    ensures { Gives unspelled_in (λ x. (x.0.now, words_left x.1)) result (spec.value_of key (words_left words.entry)) }
+fn value_of<'a>(key: u8, words: WordsLeft<'a>) -> Result<(&'a [u8], WordsLeft<'a>), NotForm>
+    ensures { Gives not_form_in (λ x. (x.0.now, words_left x.1)) result (spec.value_of key (words_left words.entry)) }
 {
     match words.next_word() {
         Some(([k, b'=', value @ ..], rest)) if *k == key => Ok((value, rest)),
-        _ => Err(Unspelled),
+        _ => Err(NotForm),
     }
 }
 
@@ -40,10 +40,10 @@ fn read_word<'a>(
     signal: WordSignal,
     key: u8,
     words: WordsLeft<'a>,
-) -> Result<WordsLeft<'a>, Unspelled>
+) -> Result<WordsLeft<'a>, NotForm>
     requires wide { length bits.old ≡ signal.width }
     requires absent { signal.present ≡ false → signal.width ≡ 0 }
-    ensures read { Gives unspelled_in (λ rest. (bits.new, words_left rest)) result (spec.word_field signal.present key signal.width (words_left words.entry)) }
+    ensures read { Gives not_form_in (λ rest. (bits.new, words_left rest)) result (spec.word_field signal.present key signal.width (words_left words.entry)) }
     ensures wide { length bits.new ≡ length bits.old }
 {
     if !signal.present {
@@ -51,28 +51,28 @@ fn read_word<'a>(
     }
     let size = signal.width.div_ceil(4);
     let Some((digits, rest)) = words.sized_value(key, size) else {
-        return Err(Unspelled);
+        return Err(NotForm);
     };
     if bits.read_exact_hex(digits) {
         Ok(rest)
     } else {
-        Err(Unspelled)
+        Err(NotForm)
     }
 }
 
 /// The number of a lane that at most five digits spell, below a limit.
-fn index_of(limit: u32, digits: &[u8]) -> Result<u16, Unspelled>
+fn index_of(limit: u32, digits: &[u8]) -> Result<u16, NotForm>
     requires { limit ≤ 2 ^ 16 }
-    ensures { (width : ℕ) → limit ≡ 2 ^ width → Gives unspelled_in (λ n. n) result (spec.index_of width digits.now) }
+    ensures { (width : ℕ) → limit ≡ 2 ^ width → Gives not_form_in (λ n. n) result (spec.index_of width digits.now) }
 {
     if digits.len() > 5 {
-        return Err(Unspelled);
+        return Err(NotForm);
     }
     let Some(n) = read_decimal(digits) else {
-        return Err(Unspelled);
+        return Err(NotForm);
     };
     if n >= u64::from(limit) {
-        return Err(Unspelled);
+        return Err(NotForm);
     }
     Ok(n as u16)
 }
@@ -86,9 +86,9 @@ fn index_field<'a>(
     limit: u32,
     default: u16,
     words: WordsLeft<'a>,
-) -> Result<(u16, WordsLeft<'a>), Unspelled>
+) -> Result<(u16, WordsLeft<'a>), NotForm>
     requires { limit ≤ 2 ^ 16 }
-    ensures { (width : ℕ) → limit ≡ 2 ^ width → Gives unspelled_in (λ x. (x.0, words_left x.1)) result (spec.index_field present key width default (words_left words.entry)) }
+    ensures { (width : ℕ) → limit ≡ 2 ^ width → Gives not_form_in (λ x. (x.0, words_left x.1)) result (spec.index_field present key width default (words_left words.entry)) }
 {
     if !present {
         return Ok((default, words));
@@ -115,21 +115,21 @@ fn number_of_digits(digits: &[u8]) -> Option<u128>
 fn strobe_field<'a>(
     layout: &RowLayout,
     words: WordsLeft<'a>,
-) -> Result<(u128, WordsLeft<'a>), Unspelled>
-    ensures { Gives unspelled_in (λ x. (x.0, words_left x.1)) result (spec.strobe_field layout.now.strb.present layout.now.params.lanes (words_left words.entry)) }
+) -> Result<(u128, WordsLeft<'a>), NotForm>
+    ensures { Gives not_form_in (λ x. (x.0, words_left x.1)) result (spec.strobe_field layout.now.strb.present layout.now.params.lanes (words_left words.entry)) }
 {
     if !layout.strb.present {
         return Ok((layout.all_lanes, words));
     }
     let size = layout.strb.width.div_ceil(4);
     let Some((digits, rest)) = words.sized_value(b'b', size) else {
-        return Err(Unspelled);
+        return Err(NotForm);
     };
     let Some(number) = number_of_digits(digits) else {
-        return Err(Unspelled);
+        return Err(NotForm);
     };
     if number > layout.all_lanes {
-        return Err(Unspelled);
+        return Err(NotForm);
     }
     Ok((number, rest))
 }
@@ -137,21 +137,21 @@ fn strobe_field<'a>(
 /// That no word is left.
 #[inline(always)]
 #[tactic(auto, unfolding(crate::specs::RowText::no_more))]
-fn no_more(words: WordsLeft) -> Result<(), Unspelled>
-    ensures { Gives unspelled_in (λ fine. fine) result (spec.no_more (words_left words.entry)) }
+fn no_more(words: WordsLeft) -> Result<(), NotForm>
+    ensures { Gives not_form_in (λ fine. fine) result (spec.no_more (words_left words.entry)) }
 {
     if words.is_empty() {
         Ok(())
     } else {
-        Err(Unspelled)
+        Err(NotForm)
     }
 }
 
 /// Reads the transfer that the words of a payload spell. Only the widths of its words are as before where they spell none.
 #[tactic(auto, unfolding(crate::specs::RowText::transfer_of))]
-fn read_transfer(layout: &RowLayout, kept: &mut Transfer, words: WordsLeft) -> Result<(), Unspelled>
+fn read_transfer(layout: &RowLayout, kept: &mut Transfer, words: WordsLeft) -> Result<(), NotForm>
     requires { HasWidths layout.now.params kept.old }
-    ensures read { Gives unspelled_in (λ _. kept.new) result (spec.transfer_of layout.now.params (words_left words.entry)) }
+    ensures read { Gives not_form_in (λ _. kept.new) result (spec.transfer_of layout.now.params (words_left words.entry)) }
     ensures widths { HasWidths layout.now.params kept.new }
 {
     let limit = layout.index_limit;
@@ -179,15 +179,15 @@ pub(crate) fn is_dash(words: WordsLeft) -> bool
 
 /// The words of the payload of a cycle with valid: none where `-` stands for them.
 #[tactic(auto, unfolding(crate::specs::RowText::payload_of))]
-fn payload_of<'a>(layout: &RowLayout, words: WordsLeft<'a>) -> Result<WordsLeft<'a>, Unspelled>
-    ensures { Gives unspelled_in words_left result (spec.payload_of layout.now.params (words_left words.entry)) }
+fn payload_of<'a>(layout: &RowLayout, words: WordsLeft<'a>) -> Result<WordsLeft<'a>, NotForm>
+    ensures { Gives not_form_in words_left result (spec.payload_of layout.now.params (words_left words.entry)) }
 {
     if layout.has_payload {
         Ok(words)
     } else if is_dash(words) {
         Ok(WordsLeft::none())
     } else {
-        Err(Unspelled)
+        Err(NotForm)
     }
 }
 
@@ -198,33 +198,29 @@ fn read_shown(
     kept: &mut Transfer,
     valid: bool,
     words: WordsLeft,
-) -> Result<(), Unspelled>
+) -> Result<(), NotForm>
     requires { HasWidths layout.now.params kept.old }
-    ensures read { Gives unspelled_in (λ _. shown_in kept.new valid) result (spec.shown_of layout.now.params valid (words_left words.entry)) }
+    ensures read { Gives not_form_in (λ _. shown_in kept.new valid) result (spec.shown_of layout.now.params valid (words_left words.entry)) }
     ensures widths { HasWidths layout.now.params kept.new }
 {
     if valid {
         let payload = payload_of(layout, words)?;
         return read_transfer(layout, kept, payload);
     }
-    if is_dash(words) {
-        Ok(())
-    } else {
-        Err(Unspelled)
-    }
+    if is_dash(words) { Ok(()) } else { Err(NotForm) }
 }
 
 /// The bit that a word is.
 #[tactic(auto, unfolding(crate::specs::RowText::bit_of))]
-fn bit_of(word: &[u8]) -> Result<bool, Unspelled>
-    ensures { Gives unspelled_in (λ bit. bit) result (spec.bit_of word.now) }
+fn bit_of(word: &[u8]) -> Result<bool, NotForm>
+    ensures { Gives not_form_in (λ bit. bit) result (spec.bit_of word.now) }
 {
     if word == b"1".as_slice() {
         Ok(true)
     } else if word == b"0".as_slice() {
         Ok(false)
     } else {
-        Err(Unspelled)
+        Err(NotForm)
     }
 }
 
@@ -260,14 +256,14 @@ fn two_bits(line: &[u8]) -> Option<(bool, bool, &[u8])>
 /// The valid bit and the ready bit of a row, and the words of its payload.
 #[inline(always)]
 #[tactic(auto, unfolding(crate::specs::RowStart::row_start))]
-fn start_of(line: &[u8]) -> Result<(bool, bool, WordsLeft<'_>), Unspelled>
-    ensures { Gives unspelled_in (λ x. (x.0, x.1, words_left x.2)) result (row_start (words_of line.now)) }
+fn start_of(line: &[u8]) -> Result<(bool, bool, WordsLeft<'_>), NotForm>
+    ensures { Gives not_form_in (λ x. (x.0, x.1, words_left x.2)) result (row_start (words_of line.now)) }
 {
     if let Some((valid, ready, payload)) = two_bits(line) {
         return Ok((valid, ready, WordsLeft::of(payload)));
     }
-    let (valid, words) = WordsLeft::of(line).next_word().ok_or(Unspelled)?;
-    let (ready, payload) = words.next_word().ok_or(Unspelled)?;
+    let (valid, words) = WordsLeft::of(line).next_word().ok_or(NotForm)?;
+    let (ready, payload) = words.next_word().ok_or(NotForm)?;
     let valid = bit_of(valid)?;
     let ready = bit_of(ready)?;
     Ok((valid, ready, payload))
@@ -282,9 +278,9 @@ pub(crate) struct RowBits {
 
 /// Reads the cycle that a row spells: its bits, and what it shows.
 #[tactic(auto, using(crate::proofs::RowStartLemmas::row_of_start))]
-fn read_row(layout: &RowLayout, kept: &mut Transfer, line: &[u8]) -> Result<RowBits, Unspelled>
+fn read_row(layout: &RowLayout, kept: &mut Transfer, line: &[u8]) -> Result<RowBits, NotForm>
     requires { HasWidths layout.now.params kept.old }
-    ensures read { Gives unspelled_in (cycle_in kept.new) result (spec.row_of layout.now.params line.now) }
+    ensures read { Gives not_form_in (cycle_in kept.new) result (spec.row_of layout.now.params line.now) }
     ensures widths { HasWidths layout.now.params kept.new }
 {
     let (valid, ready, payload) = start_of(line)?;

@@ -1,5 +1,5 @@
 use Rattle.cycle_trace.proofs.RowStartLemmas.{row_start-bits}
-use Rattle.cycle_trace.proofs.row_text.two_bits.Goals as goal
+use Rattle.cycle_trace.proofs.row_fields.two_bits.Goals as goal
 
 pub returns : goal.returns
 returns c =

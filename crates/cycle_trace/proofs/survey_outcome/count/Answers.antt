@@ -1,5 +1,5 @@
 use Rattle.cycle_trace.proofs.EndLemmas.{answers_fault, surveys_counts}
-use Rattle.cycle_trace.proofs.surveying.count.Goals as goal
+use Rattle.cycle_trace.proofs.survey_outcome.count.Goals as goal
 
 pub returns-in-Some : goal.returns-in-Some
 returns-in-Some c t at legal = answers_fault t c.in-Some.fault legal (c.in-Some.ensures t at)
