@@ -15,7 +15,7 @@ mod PrintedTypes
 mod ReadAgain
 mod StreamArguments
 mod TypeTexts
-mod WriterLemmas
+mod WrittenLemmas
 mod TokenRules
 mod LeafRules
 mod ListRules

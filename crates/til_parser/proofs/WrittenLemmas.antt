@@ -1,15 +1,15 @@
--- Texts that are written piece by piece.
+-- Texts that are written part after part.
 use Rattle.std.proofs.Common.{◌≡◌, ℕ, zero, suc, ◌+◌, ◌-◌, ◌*◌, ◌/◌, ◌%◌, ◌<◌, ◌≤◌, ◌++◌, List, [], ◌∷◌, refl}
-use Rattle.std.proofs.Common.{sym, ap, ◌∙◌, append_assoc, append-nil, take, drop, length, get_or, map, drop_of_length-le, codes, decimal}
+use Rattle.std.proofs.Common.{sym, ap, ◌∙◌, append_assoc, append-nil, take, drop, length, length-append, get_or, map, take-take, take_all, take_at, codes, decimal}
 use Rattle.std.proofs.Common.{arith, rules}
 use Rattle.std.proofs.Math.Seq.{take-length}
 use Rattle.std.proofs.lemmas.List.Folds.{flat_map-map}
 use Rattle.std.specs.List.{flat_map}
-use Rattle.til_parser.specs.declared.tree.AstName.{AstName}
+use Rattle.tydi_base.specs.Writing.{StandsInFront}
 use Rattle.til_parser.specs.declared.ltype.AstPart.{AstPart}
 use Rattle.til_parser.specs.Tree.{Settings, PlainPart, PlainStream, parts_of, plain_of_part}
 use Rattle.til_parser.specs.Grammar.{sync_word, direction_word, truth_word}
-use Rattle.til_parser.specs.Canonical.{behind_point, digits_of_rest, names_text, type_text, parts_text, more_parts_text, part_text}
+use Rattle.til_parser.specs.Canonical.{behind_point, digits_of_rest, type_text, parts_text, more_parts_text, part_text}
 use Rattle.til_parser.specs.Canonical.{next_part_text, listed_text, settings_text, stream_text, number_text}
 
 -- one more digit, where something is left
@@ -70,76 +70,50 @@ pub written-whole : (before whole : List ℕ) (turns rest den : ℕ) → rest �
 written-whole before whole turns rest den none all =
     written-none before whole (digits_of_rest turns rest den) (ap (λ r. digits_of_rest turns r den) none ∙ digits_none turns den) all
 
--- the names of a path that has one: the first, and each other one after `::`
-pub names_text-first : (names : List AstName) (first : AstName) (before named whole : List ℕ) → 1 ≤ length names → first ≡ get_or names 0 first
-    → named ≡ before ++ first.name → whole ≡ named ++ flat_map (λ (name : AstName). codes "::" ++ name.name) (take (length names - 1) (drop 1 names))
-    → whole ≡ before ++ names_text names
-names_text-first [] first before named whole some is one all = absurd (omega arith)
-names_text-first (name ∷ names) first before named whole some is one all =
-    let count : length (name ∷ names) - 1 ≡ length names = omega arith in
-    let rest : take (length (name ∷ names) - 1) names ≡ names = ap (λ n. take n names) count ∙ take-length names in
-    let named_rest : List ℕ = flat_map (λ (next : AstName). codes "::" ++ next.name) names in
-    let flat : (before ++ name.name) ++ named_rest ≡ before ++ (name.name ++ named_rest) = append_assoc before name.name named_rest in
-    all ∙ ap (λ ns. named ++ flat_map (λ (next : AstName). codes "::" ++ next.name) ns) rest
-    ∙ ap (λ n. n ++ named_rest) (one ∙ ap (λ (f : AstName). before ++ f.name) is) ∙ flat
+-- ---- one part after another
 
--- ---- one piece after another
-
--- two pieces that are written one after the other
+-- two parts that are written one after the other
 pub joined : (old middle new one other : List ℕ) → middle ≡ old ++ one → new ≡ middle ++ other → new ≡ old ++ (one ++ other)
 joined old middle new one other first second = second ∙ ap (λ text. text ++ other) first ∙ append_assoc old one other
 
--- the arguments of a Stream that follow its data type, piece by piece
-pub settings_written : (s : Settings) (old t1 t2 t3 t4 t5 t6 t7 t8 t9 t10 t11 : List ℕ)
-    → t1 ≡ old ++ codes ", throughput: "
-    → t2 ≡ t1 ++ number_text s.throughput
-    → t3 ≡ t2 ++ codes ", dimensionality: "
-    → t4 ≡ t3 ++ decimal s.dims
-    → t5 ≡ t4 ++ codes ", synchronicity: "
-    → t6 ≡ t5 ++ sync_word s.sync
-    → t7 ≡ t6 ++ codes ", complexity: "
-    → t8 ≡ t7 ++ decimal s.level
-    → t9 ≡ t8 ++ codes ", direction: "
-    → t10 ≡ t9 ++ direction_word s.reverse
-    → t11 ≡ t10 ++ codes ", user: "
-    → t11 ≡ old ++ settings_text s
-settings_written s old t1 t2 t3 t4 t5 t6 t7 t8 t9 t10 t11 e1 e2 e3 e4 e5 e6 e7 e8 e9 e10 e11 =
-    let a2 : List ℕ = codes ", throughput: " ++ number_text s.throughput in
-    let a3 : List ℕ = a2 ++ codes ", dimensionality: " in
-    let a4 : List ℕ = a3 ++ decimal s.dims in
-    let a5 : List ℕ = a4 ++ codes ", synchronicity: " in
-    let a6 : List ℕ = a5 ++ sync_word s.sync in
-    let a7 : List ℕ = a6 ++ codes ", complexity: " in
-    let a8 : List ℕ = a7 ++ decimal s.level in
-    let a9 : List ℕ = a8 ++ codes ", direction: " in
-    let a10 : List ℕ = a9 ++ direction_word s.reverse in
-    joined old t10 t11 a10 (codes ", user: ")
-    (joined old t9 t10 a9 (direction_word s.reverse)
-    (joined old t8 t9 a8 (codes ", direction: ")
-    (joined old t7 t8 a7 (decimal s.level)
-    (joined old t6 t7 a6 (codes ", complexity: ")
-    (joined old t5 t6 a5 (sync_word s.sync)
-    (joined old t4 t5 a4 (codes ", synchronicity: ")
-    (joined old t3 t4 a3 (decimal s.dims)
-    (joined old t2 t3 a2 (codes ", dimensionality: ")
-    (joined old t1 t2 (codes ", throughput: ") (number_text s.throughput) e1 e2) e3) e4) e5) e6) e7) e8) e9) e10) e11
+-- what stood in front of a text that more was added to, stands in front of what has that text in front
+pub front_before : (old more mid new : List ℕ) → mid ≡ old ++ more → StandsInFront mid new → StandsInFront old new
+front_before old more mid new added front =
+    let within : length old ≤ length mid = omega (arith, ap length added, length-append old more) in
+    sym (take-take (length old) (length mid) new within) ∙ ap (take (length old)) (front ∙ added) ∙ take_at old more (length old) refl
 
--- a Stream, piece by piece
-pub stream_written : (one : PlainStream) (old t1 t2 t3 t4 t5 t6 t7 : List ℕ)
+-- the arguments of a Stream that follow its data type, part after part
+pub settings_written : (s : Settings) (old new sync direction : List ℕ) (level : ℕ)
+    → sync ≡ sync_word s.sync → level ≡ s.level → direction ≡ direction_word s.reverse
+    → new ≡ old ++ (codes ", throughput: " ++ (number_text s.throughput ++ (codes ", dimensionality: " ++ (decimal s.dims
+    ++ (codes ", synchronicity: " ++ (sync ++ (codes ", complexity: " ++ (decimal level
+    ++ (codes ", direction: " ++ (direction ++ codes ", user: "))))))))))
+    → new ≡ old ++ settings_text s
+settings_written s old new sync direction level is_sync is_level is_direction written =
+    written ∙ ap (λ text. old ++ text)
+    (nested (codes ", throughput: ") (number_text s.throughput) (codes ", dimensionality: ") (decimal s.dims) (codes ", synchronicity: ") sync
+    (codes ", complexity: ") (decimal level) (codes ", direction: ") direction (codes ", user: ")
+    ∙ rw (is_sync, is_level, is_direction) refl)
+  where
+    nested : (a b c d e f g h i j k : List ℕ) → a ++ (b ++ (c ++ (d ++ (e ++ (f ++ (g ++ (h ++ (i ++ (j ++ k)))))))))
+        ≡ (((((((((a ++ b) ++ c) ++ d) ++ e) ++ f) ++ g) ++ h) ++ i) ++ j) ++ k
+    nested a b c d e f g h i j k = simp append_assoc
+
+-- a Stream, part after part
+pub stream_written : (one : PlainStream) (old t1 t2 t3 t4 t5 : List ℕ)
     → t1 ≡ old ++ codes "Stream(data: " → t2 ≡ t1 ++ type_text one.element → t3 ≡ t2 ++ settings_text one.settings → t4 ≡ t3 ++ type_text one.user
-    → t5 ≡ t4 ++ codes ", keep: " → t6 ≡ t5 ++ truth_word one.settings.keep → t7 ≡ t6 ++ codes ")" → t7 ≡ old ++ stream_text one
-stream_written one old t1 t2 t3 t4 t5 t6 t7 e1 e2 e3 e4 e5 e6 e7 =
+    → t5 ≡ t4 ++ (codes ", keep: " ++ (truth_word one.settings.keep ++ codes ")")) → t5 ≡ old ++ stream_text one
+stream_written one old t1 t2 t3 t4 t5 e1 e2 e3 e4 e5 =
     let a : List ℕ = codes "Stream(data: " ++ type_text one.element in
     let b : List ℕ = a ++ settings_text one.settings in
-    let d : List ℕ = b ++ type_text one.user in
-    let f : List ℕ = d ++ codes ", keep: " in
-    let g : List ℕ = f ++ truth_word one.settings.keep in
-    joined old t6 t7 g (codes ")")
-    (joined old t5 t6 f (truth_word one.settings.keep)
-    (joined old t4 t5 d (codes ", keep: ")
+    joined old t4 t5 (b ++ type_text one.user) _
     (joined old t3 t4 b (type_text one.user)
     (joined old t2 t3 a (settings_text one.settings)
-    (joined old t1 t2 (codes "Stream(data: ") (type_text one.element) e1 e2) e3) e4) e5) e6) e7
+    (joined old t1 t2 (codes "Stream(data: ") (type_text one.element) e1 e2) e3) e4) e5
+    ∙ ap (λ text. old ++ text) (nested (b ++ type_text one.user) (codes ", keep: ") (truth_word one.settings.keep) (codes ")"))
+  where
+    nested : (a b c d : List ℕ) → a ++ (b ++ (c ++ d)) ≡ ((a ++ b) ++ c) ++ d
+    nested a b c d = simp append_assoc
 
 -- ---- parts
 
@@ -160,10 +134,9 @@ listed_parts [] = refl
 listed_parts (first ∷ more) =
     ap (λ text. ((first.name.name ++ codes ": ") ++ type_text first.ltype) ++ text) (more_parts more)
 
--- a Group, piece by piece; and a Union likewise, which has another word
-pub brackets_written : (word inside close old t1 t2 t3 : List ℕ) → t1 ≡ old ++ word → t2 ≡ t1 ++ inside → t3 ≡ t2 ++ close
-    → t3 ≡ old ++ ((word ++ inside) ++ close)
-brackets_written word inside close old t1 t2 t3 e1 e2 e3 = joined old t2 t3 (word ++ inside) close (joined old t1 t2 word inside e1 e2) e3
+-- a Group behind what was there; and a Union likewise, which has another word
+pub bracketed : (old word inside close : List ℕ) → ((old ++ word) ++ inside) ++ close ≡ old ++ ((word ++ inside) ++ close)
+bracketed old word inside close = simp append_assoc
 
 -- parts, one at least: the first, and then the others
 pub parts_written : (parts : List AstPart) (first : AstPart) (old t1 t2 : List ℕ) → 1 ≤ length parts → first ≡ get_or parts 0 first
@@ -180,7 +153,6 @@ parts_written (part ∷ parts) first old t1 t2 some is e1 e2 =
     ∙ ap (λ more. old ++ (part_text (plain_of_part part) ++ more)) (sym (flat_map-map next_part_text plain_of_part parts))
 
 -- at the end of a loop over a list, all of it is written
-pub none_left : {A : Type 0} (text : A → List ℕ) (items : List A) (new all : List ℕ) (at : ℕ) → length items ≤ at
-    → new ++ flat_map text (drop at items) ≡ all → new ≡ all
-none_left text items new all at done written = sym (append-nil new) ∙ ap (λ rest. new ++ flat_map text rest) (sym (drop_of_length-le items done))
-    ∙ written
+pub all_taken : {A : Type 0} (text : A → List ℕ) (items : List A) (old new : List ℕ) (at : ℕ) → length items ≤ at
+    → new ≡ old ++ flat_map text (take at items) → new ≡ old ++ flat_map text items
+all_taken text items old new at done written = written ∙ ap (λ taken. old ++ flat_map text taken) (take_all at items done)
