@@ -1,5 +1,5 @@
 use Rattle.std.proofs.lemmas.Result.{on_ok_weaker, on_err_weaker}
-use Rattle.til_parser.proofs.WrittenLemmas.{behind_point-none, behind_point-written, front_before}
+use Rattle.til_parser.proofs.texts.WrittenLemmas.{behind_point-none, behind_point-written, front_before}
 use Rattle.til_parser.proofs.written.write_behind_point.Goals as goal
 
 pub returns-then-rest-eq0-clause-ok : goal.returns-then-rest-eq0-clause-ok

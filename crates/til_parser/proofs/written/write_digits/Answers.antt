@@ -1,4 +1,4 @@
-use Rattle.til_parser.proofs.WrittenLemmas.{written-pushed, written-at_most, written-whole}
+use Rattle.til_parser.proofs.texts.WrittenLemmas.{written-pushed, written-at_most, written-whole}
 use Rattle.tydi_base.proofs.WritingLemmas.{front_stays}
 use Rattle.til_parser.proofs.written.write_digits.Goals as goal
 

@@ -10,8 +10,8 @@ use Rattle.tydi_reading.specs.Forms.{◌⋯◌}
 use Rattle.til_parser.specs.Grammar.{Form, Argument, data_type, throughput, dimensionality, synchronicity, complexity, direction, user_type}
 use Rattle.til_parser.specs.Grammar.{keep, AreApart, Arguments, Commas, Given, IsDefault}
 use Rattle.til_parser.specs.Tree.{Ltype, null, Settings}
-use Rattle.til_parser.proofs.NumberTextLemmas.{IsNumberText, one-is}
-use Rattle.til_parser.proofs.PrintedLeaves.{Spelt, first_of, number_text-of, second_of, whole_below}
+use Rattle.til_parser.proofs.texts.NumberTextLemmas.{IsNumberText, one-is}
+use Rattle.til_parser.proofs.printed.PrintedLeaves.{Spelt, first_of, number_text-of, second_of, whole_below}
 
 -- ---- which argument it is
 

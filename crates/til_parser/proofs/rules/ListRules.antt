@@ -14,8 +14,8 @@ use Rattle.til_parser.specs.Lexemes.{Lexeme, IsFormed}
 use Rattle.til_parser.specs.ReadTypes.{bracketed}
 use Rattle.til_parser.specs.ReadDecls.{braced}
 use Rattle.til_parser.specs.Reading.{same_kind, is_kind, expect}
-use Rattle.til_parser.proofs.LeafRules.{PathNext}
-use Rattle.til_parser.proofs.TokenRules.{kind_is, same_kind-is, kind-mark, kind-rule}
+use Rattle.til_parser.proofs.rules.LeafRules.{PathNext}
+use Rattle.til_parser.proofs.rules.TokenRules.{kind_is, same_kind-is, kind-mark, kind-rule}
 
 -- ---- what a kind that stands next is not
 

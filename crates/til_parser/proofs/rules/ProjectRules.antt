@@ -26,11 +26,11 @@ use Rattle.til_parser.specs.Lexemes.{Lexeme, IsFormed}
 use Rattle.til_parser.specs.Reading.{same_kind, is_kind, expect, expect_word}
 use Rattle.til_parser.specs.ReadTypes.{name, path, doc}
 use Rattle.til_parser.specs.ReadDecls.{braced, keyword, kind_of, named_kind, decl, namespace, project_of, project}
-use Rattle.til_parser.proofs.BodyRules.{front-tells}
-use Rattle.til_parser.proofs.DeclRules.{doc_tells, keyword_word, keyword_of, kind_parts, kind_of_parts, KindForm, KindTo, keyword-rule, kind-rule_of}
-use Rattle.til_parser.proofs.LeafRules.{PathNext, NoDoc, name-rule, path-rule, doc-rule}
-use Rattle.til_parser.proofs.ListRules.{Braces, BracedDeep, braced-rule, Of-path}
-use Rattle.til_parser.proofs.TokenRules.{kind-rule, word-rule, Word-not}
+use Rattle.til_parser.proofs.rules.BodyRules.{front-tells}
+use Rattle.til_parser.proofs.rules.DeclRules.{doc_tells, keyword_word, keyword_of, kind_parts, kind_of_parts, KindForm, KindTo, keyword-rule, kind-rule_of}
+use Rattle.til_parser.proofs.rules.LeafRules.{PathNext, NoDoc, name-rule, path-rule, doc-rule}
+use Rattle.til_parser.proofs.rules.ListRules.{Braces, BracedDeep, braced-rule, Of-path}
+use Rattle.til_parser.proofs.rules.TokenRules.{kind-rule, word-rule, Word-not}
 
 Word-filled : (word : List ℕ) (ts : List Lexeme) → Word word ts → 0 < length ts
 Word-filled word ts s = let size = ap length s.all in omega arith

@@ -26,11 +26,11 @@ use Rattle.til_parser.specs.Reading.{same_kind, is_kind, is_word, begins_type, e
 use Rattle.til_parser.specs.ReadTypes.{name, whole, path, bits, part, bracketed, stream, type_with, ltype}
 use Rattle.til_parser.specs.Tree.{Ltype, null, Parts, no_parts, Settings, plain, depth, depth_of_parts}
 use Rattle.til_parser.specs.Tree as tree
-use Rattle.til_parser.proofs.LeafRules.{Fixed, PathNext, name-rule, whole-rule, path-rule}
-use Rattle.til_parser.proofs.ListRules.{Lists, BracketedDeep, bracketed-rule}
+use Rattle.til_parser.proofs.rules.LeafRules.{Fixed, PathNext, name-rule, whole-rule, path-rule}
+use Rattle.til_parser.proofs.rules.ListRules.{Lists, BracketedDeep, bracketed-rule}
 use Rattle.til_parser.proofs.PlainLemmas.{plain_parts, settings_of, plain-Null, plain-Bits, plain-Group, plain-Union, plain-Stream, plain-Path, of_plain, of_parts, of_plain-plain, plain-of_plain, plain_parts-of_parts}
-use Rattle.til_parser.proofs.StreamRules.{ArgumentsOf, StreamTo, StreamWithin, stream-rule, data_null, good_null, null_spelled, null_stream, null_arguments}
-use Rattle.til_parser.proofs.TokenRules.{both, made, one, word_is, kind_is, kind-rule, word-rule, Word-not_word}
+use Rattle.til_parser.proofs.rules.StreamRules.{ArgumentsOf, StreamTo, StreamWithin, stream-rule, data_null, good_null, null_spelled, null_stream, null_arguments}
+use Rattle.til_parser.proofs.rules.TokenRules.{both, made, one, word_is, kind_is, kind-rule, word-rule, Word-not_word}
 
 abbrev pub S : AstType → Form
 S x = SpellsType (plain x)
@@ -128,7 +128,7 @@ module _ {X : Type 0} (V : AstType → Type 0) (c : X → AstType) (word : List 
   begins : (First Second : Form) (front rest : List Lexeme) → ((ts : List Lexeme) → First ts → Word word ts) → (First ⋯ Second) front → tells (is_word word) false (front ++ rest) ≡ true
   begins First Second front rest words b =
       let w = words b.front b.begins in
-      rw (b.all, append_assoc b.front b.back rest, w.all) (Rattle.til_parser.proofs.TokenRules.is_word-is word w.lexeme w.is)
+      rw (b.all, append_assoc b.front b.back rest, w.all) (Rattle.til_parser.proofs.rules.TokenRules.is_word-is word w.lexeme w.is)
 
   pub word-choice : IsRule IsFormed (choose (is_word word) false (c <$> (expect_word word >> p)) q) (λ y ts. Made c word P y ts ⊎ Q y ts) (λ _. PathNext) V
       (λ ts. (Word word ⋯ Dp) ts ⊎ DQ ts)
@@ -426,7 +426,7 @@ module _ (n : ℕ) (inner : Reader Lexeme AstType) (D : Form) (rule : IsRule IsF
         which = λ y ts s. s;
         one_next = λ y front rest s next. next;
         other_next = λ y front rest s next. next;
-        one_begins = λ y front rest s next. rw (s.1.all) (Rattle.til_parser.proofs.TokenRules.is_word-is (codes "Null") s.1.lexeme s.1.is);
+        one_begins = λ y front rest s next. rw (s.1.all) (Rattle.til_parser.proofs.rules.TokenRules.is_word-is (codes "Null") s.1.lexeme s.1.is);
         other_begins = λ y front rest s next. either_lacks (codes "Null") _ ByGroup (Made-lacks types.Bits (codes "Bits") (codes "Null") (λ width. Bracketed (Whole width)) refl)
             (ByGroup-lacks (codes "Null") refl refl refl refl) y front rest s;
         one_deep = λ ts d. absurd d;
@@ -582,7 +582,7 @@ starts y front good s =
     let w = type_starts y front s in
     let form = All-head IsFormed w.0 w.1 (subst (All IsFormed) w.2 good) in
     let named : has_name_form w.0.spelling ≡ true = subst (λ kind. Rattle.til_lexer.specs.Spelling.HasForm kind w.0.spelling) w.3 form in
-    (w.0, w.1, w.2, rw (Rattle.til_parser.proofs.TokenRules.same_kind-is w.0.kind kinds.Word w.3) named)
+    (w.0, w.1, w.2, rw (Rattle.til_parser.proofs.rules.TokenRules.same_kind-is w.0.kind kinds.Word w.3) named)
 
 -- ---- types of so many levels
 

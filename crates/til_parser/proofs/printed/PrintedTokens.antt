@@ -18,7 +18,7 @@ use Rattle.til_lexer.proofs.SpelledPieces.{first_of_front}
 use Rattle.til_lexer.proofs.SpelledTokens.{made_of, map-tokens_spelled, spelled_tokens-read}
 use Rattle.til_lexer.proofs.WordLemmas.{all_ascii}
 use Rattle.til_parser.specs.Lexemes.{lexemes_of}
-use Rattle.til_parser.proofs.PrintedForms.{Fits, Item, blank, token, Matches, Stops, items_text}
+use Rattle.til_parser.proofs.printed.PrintedForms.{Fits, Item, blank, token, Matches, Stops, items_text}
 
 -- ---- items as tokens, each with the white space after it
 

@@ -15,7 +15,7 @@ use Rattle.til_parser.specs.Faults.{NamesToken, fault_at, IsFaultOf}
 use Rattle.til_parser.specs.Grammar.{Spells, IsWithin}
 use Rattle.til_parser.specs.Lexemes.{Lexeme, IsFormed}
 use Rattle.til_parser.specs.ReadDecls.{namespace, project_of, project}
-use Rattle.til_parser.proofs.ProjectRules.{ProjectTo, AtEnd, project-rule}
+use Rattle.til_parser.proofs.rules.ProjectRules.{ProjectTo, AtEnd, project-rule}
 
 took-both : {A : Type 0} (x y : A) (ts rest : List Lexeme) → ◌≡◌ {A = Outcome Lexeme A} (took x ts) (took y rest) → (x ≡ y) × (ts ≡ rest)
 took-both x y ts rest is = (cc, cc)

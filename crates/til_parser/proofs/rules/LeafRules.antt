@@ -36,8 +36,8 @@ use Rattle.til_parser.specs.Lexemes.{Lexeme, IsFormed, between_marks}
 use Rattle.til_parser.specs.Numbers.{whole_of, numerator_of, denominator_of, lowest}
 use Rattle.til_parser.specs.ReadTypes.{name_at, name, whole, number, level_of, level, quoted, doc_of, doc, path, either_word, sync}
 use Rattle.til_parser.specs.Reading.{same_kind, is_kind, is_word, expect_word, token}
-use Rattle.til_parser.proofs.FractionLemmas.{IsReduced-lowest, lowest_from_IsReduced}
-use Rattle.til_parser.proofs.TokenRules.{both, one, made, same_kind-is, is_word-is, kind-mark, word-rule, IsToken, token-rule, Word-not_word}
+use Rattle.til_parser.proofs.numbers.FractionLemmas.{IsReduced-lowest, lowest_from_IsReduced}
+use Rattle.til_parser.proofs.rules.TokenRules.{both, one, made, same_kind-is, is_word-is, kind-mark, word-rule, IsToken, token-rule, Word-not_word}
 
 -- ---- names
 

@@ -21,9 +21,9 @@ use Rattle.til_parser.specs.Lexemes.{Lexeme, IsFormed}
 use Rattle.til_parser.specs.Reading.{same_kind, is_kind, expect}
 use Rattle.til_parser.specs.ReadTypes.{name, path, quoted}
 use Rattle.til_parser.specs.ReadDecls.{braced, second, end, link_from, instance_of, stmt, body}
-use Rattle.til_parser.proofs.LeafRules.{PathNext, name-rule, path-rule, quoted-rule}
-use Rattle.til_parser.proofs.ListRules.{Braces, braced-rule, Of-path}
-use Rattle.til_parser.proofs.TokenRules.{kind-rule, Of-not, same_kind-is}
+use Rattle.til_parser.proofs.rules.LeafRules.{PathNext, name-rule, path-rule, quoted-rule}
+use Rattle.til_parser.proofs.rules.ListRules.{Braces, braced-rule, Of-path}
+use Rattle.til_parser.proofs.rules.TokenRules.{kind-rule, Of-not, same_kind-is}
 
 -- ---- what begins with a name or a token
 

@@ -21,11 +21,11 @@ use Rattle.til_parser.specs.Grammar.{Form, DeclsWithin, Doc, KindWithin, Name, N
 use Rattle.til_parser.specs.Grammar.{SpellsNamespace, SpellsStreamletPorts, StreamletWithin, Word}
 use Rattle.til_parser.specs.Same.{Alike, SameDecl, SameKind, SameName, SameNames, SameNamespace, SamePorts}
 use Rattle.til_parser.specs.Tree.{plain}
-use Rattle.til_parser.proofs.PrintedBodies.{apart_equals, four_flat, ports_same, ports_within, printed_ast, printed_body, printed_ports, semicolon}
-use Rattle.til_parser.proofs.PrintedLeaves.{Again, Spelt, first_of, printed_doc, printed_name, printed_path, printed_quoted, second_of}
-use Rattle.til_parser.proofs.PrintedLists.{alike_as, printed_each}
-use Rattle.til_parser.proofs.PrintedForms.{Printed, Stops, ends_as, free, indented, joined, made, nothing, of_text, prefixed, spaced}
-use Rattle.til_parser.proofs.PrintedForms.{suffixed, symbol, word}
+use Rattle.til_parser.proofs.printed.PrintedBodies.{apart_equals, four_flat, ports_same, ports_within, printed_ast, printed_body, printed_ports, semicolon}
+use Rattle.til_parser.proofs.printed.PrintedLeaves.{Again, Spelt, first_of, printed_doc, printed_name, printed_path, printed_quoted, second_of}
+use Rattle.til_parser.proofs.printed.PrintedLists.{alike_as, printed_each}
+use Rattle.til_parser.proofs.printed.PrintedForms.{Printed, Stops, ends_as, free, indented, joined, made, nothing, of_text, prefixed, spaced}
+use Rattle.til_parser.proofs.printed.PrintedForms.{suffixed, symbol, word}
 
 -- a kind of declaration is the same as another, and its types no deeper
 pub record LikeKind (one other : AstKind) : Type 0 where

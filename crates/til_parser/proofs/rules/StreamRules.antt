@@ -24,13 +24,13 @@ use Rattle.til_parser.specs.Lexemes.{Lexeme, IsFormed}
 use Rattle.til_parser.specs.Reading.{same_kind, is_kind, expect}
 use Rattle.til_parser.specs.ReadTypes.{none_given, filled, stream_of, argument, arguments, stream}
 use Rattle.til_parser.specs.Tree.{plain}
-use Rattle.til_parser.proofs.ArgumentFields.{Value, value, field, put, field-put, field-put_other, field-none_given, one_or_two, value-filled, IsDefault-filled}
-use Rattle.til_parser.proofs.ArgumentFields.{IsGivenOr, stream_of-given, Contains-none, Contains-first, Contains-more, Contains-cases, give, field-give}
-use Rattle.til_parser.proofs.ArgumentRules.{word, Spelled, Named, ValueWithin, ValueDeep, In, Step, StepWithin, StepDeep, step-rule}
-use Rattle.til_parser.proofs.LeafRules.{PathNext}
-use Rattle.til_parser.proofs.ListRules.{kind-not, kind-path}
+use Rattle.til_parser.proofs.rules.ArgumentFields.{Value, value, field, put, field-put, field-put_other, field-none_given, one_or_two, value-filled, IsDefault-filled}
+use Rattle.til_parser.proofs.rules.ArgumentFields.{IsGivenOr, stream_of-given, Contains-none, Contains-first, Contains-more, Contains-cases, give, field-give}
+use Rattle.til_parser.proofs.rules.ArgumentRules.{word, Spelled, Named, ValueWithin, ValueDeep, In, Step, StepWithin, StepDeep, step-rule}
+use Rattle.til_parser.proofs.rules.LeafRules.{PathNext}
+use Rattle.til_parser.proofs.rules.ListRules.{kind-not, kind-path}
 use Rattle.til_parser.proofs.PlainLemmas.{settings_of, plain-Null}
-use Rattle.til_parser.proofs.TokenRules.{kind-mark, kind-rule, Word-not, made, one, same_kind-is}
+use Rattle.til_parser.proofs.rules.TokenRules.{kind-mark, kind-rule, Word-not, made, one, same_kind-is}
 
 abbrev S : AstType → Form
 S x = SpellsType (plain x)

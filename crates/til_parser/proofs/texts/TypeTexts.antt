@@ -6,7 +6,7 @@ use Rattle.til_parser.specs.declared.ltype.AstType.TheVariants as types
 use Rattle.til_parser.specs.Canonical.{type_text, listed_text, parts_text, stream_text}
 use Rattle.til_parser.specs.Tree.{plain, plain_of_part, plain_of_stream}
 use Rattle.til_parser.proofs.PlainLemmas.{plain_parts, stream_fold-is, parts_of-map, plain-Group, plain-Union, plain-Stream}
-use Rattle.til_parser.proofs.WrittenLemmas.{listed_parts}
+use Rattle.til_parser.proofs.texts.WrittenLemmas.{listed_parts}
 
 listed : (parts : List AstPart) → listed_text (map plain_of_part parts) ≡ parts_text (plain_parts parts)
 listed parts = sym (listed_parts (map plain_of_part parts)) ∙ ap parts_text (parts_of-map parts)

@@ -28,11 +28,11 @@ use Rattle.til_parser.specs.Reading.{same_kind, is_kind, expect, expect_word}
 use Rattle.til_parser.specs.ReadTypes.{name, path, doc, quoted, either_word, bracketed, ltype}
 use Rattle.til_parser.specs.ReadDecls.{body, port, streamlet_ports, keyword, impl_kind, test_kind, kind_of}
 use Rattle.til_parser.specs.Tree.{plain}
-use Rattle.til_parser.proofs.BodyRules.{Name-not, Name-filled, front-tells, Of-tells, body-rule, no_deep-rule}
-use Rattle.til_parser.proofs.LeafRules.{PathNext, NoDoc, Fixed, plain-same, word_or-rule, fixed-rule, name-rule, path-rule, doc-rule, quoted-rule, either-rule}
-use Rattle.til_parser.proofs.ListRules.{Lists, BracketedDeep, bracketed-rule, Of-path}
-use Rattle.til_parser.proofs.TokenRules.{kind-rule, word-rule, Word-not_word}
-use Rattle.til_parser.proofs.TypeRules.{S, Fits, ltype-rule}
+use Rattle.til_parser.proofs.rules.BodyRules.{Name-not, Name-filled, front-tells, Of-tells, body-rule, no_deep-rule}
+use Rattle.til_parser.proofs.rules.LeafRules.{PathNext, NoDoc, Fixed, plain-same, word_or-rule, fixed-rule, name-rule, path-rule, doc-rule, quoted-rule, either-rule}
+use Rattle.til_parser.proofs.rules.ListRules.{Lists, BracketedDeep, bracketed-rule, Of-path}
+use Rattle.til_parser.proofs.rules.TokenRules.{kind-rule, word-rule, Word-not_word}
+use Rattle.til_parser.proofs.rules.TypeRules.{S, Fits, ltype-rule}
 
 -- ---- ports
 

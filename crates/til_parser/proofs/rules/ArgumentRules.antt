@@ -18,9 +18,9 @@ use Rattle.til_parser.specs.Lexemes.{Lexeme, IsFormed}
 use Rattle.til_parser.specs.Reading.{same_kind, is_word, expect}
 use Rattle.til_parser.specs.ReadTypes.{whole, number, level, sync, either_word, labelled, setting, argument}
 use Rattle.til_parser.specs.Tree.{plain}
-use Rattle.til_parser.proofs.ArgumentFields.{Value, field, put, field-put, field-put_other, one_or_two}
-use Rattle.til_parser.proofs.LeafRules.{PathNext, number-rule, whole-rule, level-rule, sync-rule, either-rule}
-use Rattle.til_parser.proofs.TokenRules.{both, made, word_is, one, kind-rule}
+use Rattle.til_parser.proofs.rules.ArgumentFields.{Value, field, put, field-put, field-put_other, one_or_two}
+use Rattle.til_parser.proofs.rules.LeafRules.{PathNext, number-rule, whole-rule, level-rule, sync-rule, either-rule}
+use Rattle.til_parser.proofs.rules.TokenRules.{both, made, word_is, one, kind-rule}
 
 -- the word of an argument
 abbrev pub word : Argument → List ℕ

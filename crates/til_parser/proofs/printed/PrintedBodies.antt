@@ -16,12 +16,12 @@ use Rattle.til_parser.specs.Grammar.{Of, PortsWithin, SpellsBody, SpellsEnd, Spe
 use Rattle.til_parser.specs.Same.{Alike, SameBody, SameEnd, SamePort, SameStmt, SameType}
 use Rattle.til_parser.specs.Tree.{depth, plain}
 use Rattle.til_parser.proofs.PlainLemmas.{of_plain, plain-of_plain}
-use Rattle.til_parser.proofs.PrintedLeaves.{Again, Spelt, first_of, inside_of, printed_doc, printed_name, printed_path, printed_quoted, second_of}
-use Rattle.til_parser.proofs.PrintedLists.{alike_as, printed_commas, printed_each}
-use Rattle.til_parser.proofs.PrintedTypes.{printed_type}
-use Rattle.til_parser.proofs.PrintedForms.{Printed, bracketed, colon, ends_as, free, indented, joined, made, nothing, of_text, prefixed}
-use Rattle.til_parser.proofs.PrintedForms.{spaced, suffixed}
-use Rattle.til_parser.proofs.PrintedForms.{symbol, word}
+use Rattle.til_parser.proofs.printed.PrintedLeaves.{Again, Spelt, first_of, inside_of, printed_doc, printed_name, printed_path, printed_quoted, second_of}
+use Rattle.til_parser.proofs.printed.PrintedLists.{alike_as, printed_commas, printed_each}
+use Rattle.til_parser.proofs.printed.PrintedTypes.{printed_type}
+use Rattle.til_parser.proofs.printed.PrintedForms.{Printed, bracketed, colon, ends_as, free, indented, joined, made, nothing, of_text, prefixed}
+use Rattle.til_parser.proofs.printed.PrintedForms.{spaced, suffixed}
+use Rattle.til_parser.proofs.printed.PrintedForms.{symbol, word}
 
 -- ---- a type
 

@@ -15,11 +15,11 @@ use Rattle.til_parser.specs.Grammar.{SpellsNamespace}
 use Rattle.til_parser.specs.Laws.{IsReadAgain, IsTreeOf, TreesAreReadAsPrinted}
 use Rattle.til_parser.specs.Lexemes.{HasFormIn, lexemes_of}
 use Rattle.til_parser.specs.Same.{Alike, SameNamespace}
-use Rattle.til_parser.proofs.PrintedDecls.{LikeNamespace, namespaces_within, printed_namespaces}
-use Rattle.til_parser.proofs.PrintedLeaves.{Again, Formed, Spelt}
-use Rattle.til_parser.proofs.PrintedLists.{alike_as}
-use Rattle.til_parser.proofs.PrintedTokens.{IsLexed, items_text-lexed}
-use Rattle.til_parser.proofs.PrintedForms.{Fits, Printed, free, items_text}
+use Rattle.til_parser.proofs.printed.PrintedDecls.{LikeNamespace, namespaces_within, printed_namespaces}
+use Rattle.til_parser.proofs.printed.PrintedLeaves.{Again, Formed, Spelt}
+use Rattle.til_parser.proofs.printed.PrintedLists.{alike_as}
+use Rattle.til_parser.proofs.printed.PrintedTokens.{IsLexed, items_text-lexed}
+use Rattle.til_parser.proofs.printed.PrintedForms.{Fits, Printed, free, items_text}
 
 formed_lexemes : (text : List ℕ) (tokens : List Token) → All (HasFormIn text) tokens → Formed (lexemes_of text tokens)
 formed_lexemes text [] all = tt

@@ -28,8 +28,8 @@ use Rattle.til_parser.specs.Grammar.{Form, Bracketed, Doc, IsMarked, Level, Name
 use Rattle.til_parser.specs.Lexemes.{Lexeme, between_marks}
 use Rattle.til_parser.specs.Numbers.{denominator_of, numerator_of}
 use Rattle.til_parser.specs.Same.{SameName, SameNames}
-use Rattle.til_parser.proofs.NumberTextLemmas.{IsNumberText, number_text-is, power_fits, read_on-below}
-use Rattle.til_parser.proofs.PrintedForms.{Printed, free, joined, made, of_text, nothing, one_token, prefixed, spaced, symbol}
+use Rattle.til_parser.proofs.texts.NumberTextLemmas.{IsNumberText, number_text-is, power_fits, read_on-below}
+use Rattle.til_parser.proofs.printed.PrintedForms.{Printed, free, joined, made, of_text, nothing, one_token, prefixed, spaced, symbol}
 
 -- ---- what spells
 

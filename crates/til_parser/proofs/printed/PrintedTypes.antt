@@ -17,14 +17,14 @@ use Rattle.til_parser.specs.Grammar.{Form, Arguments, Bracketed, Name, Of, Spell
 use Rattle.til_parser.specs.Lexemes.{Lexeme}
 use Rattle.til_parser.specs.Same.{SameName, SameParts, SameType}
 use Rattle.til_parser.specs.Tree.{Ltype, null, bits, group, union, stream, path, Parts, no_parts, part, Settings, depth, depth_of_parts}
-use Rattle.til_parser.proofs.NumberTextLemmas.{IsNumberText}
-use Rattle.til_parser.proofs.PrintedLeaves.{Again, Spelt, first_of, inside_of, printed_level, printed_name, printed_number, printed_path}
-use Rattle.til_parser.proofs.PrintedLeaves.{printed_whole, printed_whole_below, second_of}
-use Rattle.til_parser.proofs.PrintedLists.{with_no_comma}
-use Rattle.til_parser.proofs.PrintedForms.{Printed, Stops, bracketed, colon, comma, ends_as, joined, labelled, made, nothing, of_text}
-use Rattle.til_parser.proofs.PrintedForms.{prefixed, suffixed}
-use Rattle.til_parser.proofs.PrintedForms.{word}
-use Rattle.til_parser.proofs.StreamArguments.{all_arguments, all_arguments-all, all_arguments-apart, arguments-found}
+use Rattle.til_parser.proofs.texts.NumberTextLemmas.{IsNumberText}
+use Rattle.til_parser.proofs.printed.PrintedLeaves.{Again, Spelt, first_of, inside_of, printed_level, printed_name, printed_number, printed_path}
+use Rattle.til_parser.proofs.printed.PrintedLeaves.{printed_whole, printed_whole_below, second_of}
+use Rattle.til_parser.proofs.printed.PrintedLists.{with_no_comma}
+use Rattle.til_parser.proofs.printed.PrintedForms.{Printed, Stops, bracketed, colon, comma, ends_as, joined, labelled, made, nothing, of_text}
+use Rattle.til_parser.proofs.printed.PrintedForms.{prefixed, suffixed}
+use Rattle.til_parser.proofs.printed.PrintedForms.{word}
+use Rattle.til_parser.proofs.printed.StreamArguments.{all_arguments, all_arguments-all, all_arguments-apart, arguments-found}
 
 -- a type that is read again: the same, and as deep
 pub record AgainType (one : Ltype) : Type 0 where

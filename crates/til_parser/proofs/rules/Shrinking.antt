@@ -10,12 +10,12 @@ use Rattle.til_parser.specs.Grammar.{Of, Word, Name, SpellsPort, SpellsStmt, Spe
 use Rattle.til_parser.specs.Lexemes.{Lexeme, IsFormed}
 use Rattle.til_parser.specs.ReadTypes.{name, ltype, part, argument}
 use Rattle.til_parser.specs.ReadDecls.{port, stmt, decl, namespace}
-use Rattle.til_parser.proofs.ArgumentRules.{word, Spelled, Step, StepWithin, StepDeep, step-rule}
-use Rattle.til_parser.proofs.BodyRules.{Name-filled, stmt-rule, stmt-filled}
-use Rattle.til_parser.proofs.DeclRules.{PortTo, port-rule, port-lists}
-use Rattle.til_parser.proofs.LeafRules.{PathNext, name-rule}
-use Rattle.til_parser.proofs.ProjectRules.{DocDeclTo, decl-rule, decl-filled, NamespaceTo, namespace-rule, namespace-filled}
-use Rattle.til_parser.proofs.TypeRules.{S, Fits, Item, PartTo, part-rule, part-lists, ltype-rule}
+use Rattle.til_parser.proofs.rules.ArgumentRules.{word, Spelled, Step, StepWithin, StepDeep, step-rule}
+use Rattle.til_parser.proofs.rules.BodyRules.{Name-filled, stmt-rule, stmt-filled}
+use Rattle.til_parser.proofs.rules.DeclRules.{PortTo, port-rule, port-lists}
+use Rattle.til_parser.proofs.rules.LeafRules.{PathNext, name-rule}
+use Rattle.til_parser.proofs.rules.ProjectRules.{DocDeclTo, decl-rule, decl-filled, NamespaceTo, namespace-rule, namespace-filled}
+use Rattle.til_parser.proofs.rules.TypeRules.{S, Fits, Item, PartTo, part-rule, part-lists, ltype-rule}
 
 pub Shrinks-name : Shrinks name
 Shrinks-name = shrinks-rule IsFormed name Name (λ _. Anything) (λ _. Unit {0}) Never Name-filled name-rule

@@ -9,8 +9,8 @@ use Rattle.tydi_reading.specs.Lists.{Each}
 use Rattle.til_parser.specs.Grammar.{Form, Commas, LastComma, Of}
 use Rattle.til_parser.specs.Lexemes.{Lexeme}
 use Rattle.til_parser.specs.Same.{Alike}
-use Rattle.til_parser.proofs.PrintedLeaves.{Again, Spelt, first_of, second_of}
-use Rattle.til_parser.proofs.PrintedForms.{Printed, comma, free, joined, made, nothing, of_text, prefixed}
+use Rattle.til_parser.proofs.printed.PrintedLeaves.{Again, Spelt, first_of, second_of}
+use Rattle.til_parser.proofs.printed.PrintedForms.{Printed, comma, free, joined, made, nothing, of_text, prefixed}
 
 pub with_no_comma : (P : Form) (ts : List Lexeme) → P ts → (P ⋯ LastComma) ts
 with_no_comma P ts is = record { front = ts; back = []; all = sym (append-nil ts); begins = is; ends = inl refl }
