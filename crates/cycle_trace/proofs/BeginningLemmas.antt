@@ -1,5 +1,5 @@
 -- What is known of every text that begins so, line by line.
-use Rattle.std.proofs.Common.{◌≡◌, ◌∙◌, ℕ, zero, suc, ◌+◌, ◌*◌, ◌<◌, ◌≤◌, Bool, true, false, List, [], ◌∷◌, ◌++◌, length, drop, get_or, nat_le, Option, Some, None, Result, Ok, Err, MatchOption, append_assoc, length-append, refl, sym, ap, subst, arith}
+use Rattle.std.proofs.Common.{◌≡◌, ◌∙◌, ℕ, suc, ◌+◌, ◌*◌, ◌<◌, ◌≤◌, true, false, List, [], ◌∷◌, ◌++◌, length, drop, get_or, nat_le, Option, Some, None, Result, Ok, Err, MatchOption, append_assoc, length-append, refl, sym, ap, subst, arith}
 use Rattle.std.specs.List.{slice_get}
 use Rattle.std.specs.BTreeSet.{BTreeSet}
 use Rattle.std.specs.declared.vec.Vec.{Vec}
@@ -25,7 +25,7 @@ use Rattle.cycle_trace.specs.RowText.{row_at}
 use Rattle.cycle_trace.specs.RowsText.{cut_row}
 use Rattle.cycle_trace.specs.TextSet.{AddsText, HasTexts}
 use Rattle.cycle_trace.specs.Trace.{TraceText, are_heads, most_cycles, owed, params_of_heads}
-use Rattle.cycle_trace.specs.TraceText.{rows_after, rows_from, trace_from, trace_of}
+use Rattle.cycle_trace.specs.TraceText.{rows_from, trace_from, trace_of}
 use Rattle.cycle_trace.proofs.HeaderLemmas.{after_cycles, heads_from-head, heads_from-other, of_title, opening_after-one, opening_of-one, some_lines}
 use Rattle.cycle_trace.proofs.KeepLemmas.{length-owed_heads}
 use Rattle.cycle_trace.proofs.RowsLemmas.{rows_from-cons, rows_from-cut, rows_from-left, some_line}

@@ -1,10 +1,9 @@
 -- The header of a trace, read.
-use Rattle.std.proofs.Common.{◌≡◌, ℕ, suc, ◌+◌, ◌^◌, ◌<◌, ◌≤◌, Bool, true, false, not, ◌&&◌, List, [], ◌∷◌, ◌++◌, length, eqb, Option, Some, None, Result, Ok, Err, IfOk, nat_le, nat_lt, MatchOption, refl, sym, ap, ◌∙◌, arith, append_assoc, length-append, subst, codes, if◌then◌else◌}
+use Rattle.std.proofs.Common.{◌≡◌, ℕ, suc, ◌^◌, ◌<◌, ◌≤◌, Bool, true, false, not, ◌&&◌, List, [], ◌∷◌, length, eqb, Option, Some, None, Result, Ok, Err, IfOk, nat_le, nat_lt, MatchOption, refl, sym, ap, ◌∙◌, arith, if◌then◌else◌}
 use Rattle.std.proofs.Math.Bool.{and-false}
 use Rattle.std.proofs.lemmas.Bool.Decides.{nat_tests}
 use Rattle.std.proofs.lemmas.Option.{cond_some}
 use Rattle.std.proofs.lemmas.Str.Parse.{digits_value_short}
-use Rattle.std.proofs.lemmas.List.{append-nil}
 use Rattle.std.proofs.lemmas.List.Splits.{length-slice_split}
 use Rattle.std.specs.List.{list_any}
 use Rattle.std.specs.Str.{bytes_eq}
@@ -18,11 +17,10 @@ use Rattle.tydi_base.specs.Pieces.{lines_of}
 use Rattle.tydi_base.proofs.ReadingLaws.{fails_then, bind_ok}
 use Rattle.tydi_base.proofs.DecimalLaws.{own, is_decimal-to}
 use Rattle.physical_stream.specs.declared.head.Head.{Head}
-use Rattle.cycle_trace.specs.declared.fault.TraceFault.{TraceFault}
 use Rattle.cycle_trace.specs.declared.fault.TraceFault.TheVariants.{BadHeader}
 use Rattle.cycle_trace.specs.declared.fault.Misspelling.{Misspelling}
 use Rattle.cycle_trace.specs.declared.fault.Misspelling.TheVariants as misspellings
-use Rattle.cycle_trace.specs.Faults.{misspelling_in, header_fault}
+use Rattle.cycle_trace.specs.Faults.{misspelling_in}
 use Rattle.cycle_trace.specs.HeaderText.{header_number, head_of, head_after, is_head_line, in_header, heads_from, title_of, count_of_cycles, opening_after, opening_of}
 use Rattle.cycle_trace.specs.TextSet.{has_text, HasTexts}
 
@@ -42,11 +40,11 @@ below-all (Some n) h = let lt = h n refl in let fits : n < 2 ^ 64 = omega arith 
 pub below-short : (digits : List ℕ) → length digits ≤ 10 → below (2 ^ 64) (decimal_of digits) ≡ decimal_of digits
 below-short digits short = below-all (decimal_of digits) (λ n e. decimal_of-short digits n short e)
 
-ok_or-gives : (o : Option ℕ) → Gives misspelling_in (λ n. n) (ok_or o misspellings.Unspelled) (or_fault tt o)
+ok_or-gives : (o : Option ℕ) → Gives misspelling_in (λ n. n) (ok_or o misspellings.NotForm) (or_fault tt o)
 ok_or-gives None = refl
 ok_or-gives (Some n) = refl
 
-pub header_number-gives : (digits : List ℕ) (found : Option ℕ) (result : Result ℕ Misspelling) → length digits ≤ 10 → found ≡ below (2 ^ 64) (decimal_of digits) → result ≡ ok_or found misspellings.Unspelled
+pub header_number-gives : (digits : List ℕ) (found : Option ℕ) (result : Result ℕ Misspelling) → length digits ≤ 10 → found ≡ below (2 ^ 64) (decimal_of digits) → result ≡ ok_or found misspellings.NotForm
     → Gives misspelling_in (λ n. n) result (header_number digits)
 unfolding header_number
 header_number-gives digits found result short e f =
@@ -54,11 +52,11 @@ header_number-gives digits found result short e f =
     let same : found ≡ decimal_of digits = e ∙ below-short digits short in
     rw (f, same, within) (ok_or-gives (decimal_of digits))
 
-ok_or-below : (o : Option ℕ) → ((n : ℕ) → o ≡ Some n → n < 10 ^ 10) → IfOk (ok_or o misspellings.Unspelled) (λ n. n < 10 ^ 10)
+ok_or-below : (o : Option ℕ) → ((n : ℕ) → o ≡ Some n → n < 10 ^ 10) → IfOk (ok_or o misspellings.NotForm) (λ n. n < 10 ^ 10)
 ok_or-below None h = tt
 ok_or-below (Some n) h = h n refl
 
-pub header_number-below : (digits : List ℕ) (found : Option ℕ) (result : Result ℕ Misspelling) → length digits ≤ 10 → found ≡ below (2 ^ 64) (decimal_of digits) → result ≡ ok_or found misspellings.Unspelled → IfOk result (λ n. n < 10 ^ 10)
+pub header_number-below : (digits : List ℕ) (found : Option ℕ) (result : Result ℕ Misspelling) → length digits ≤ 10 → found ≡ below (2 ^ 64) (decimal_of digits) → result ≡ ok_or found misspellings.NotForm → IfOk result (λ n. n < 10 ^ 10)
 header_number-below digits found result short e f =
     let same : found ≡ decimal_of digits = e ∙ below-short digits short in
     rw (f, same) (ok_or-below (decimal_of digits) (λ n g. decimal_of-short digits n short g))

@@ -1,16 +1,14 @@
 -- A reader of traces, line by line and piece by piece.
-use Rattle.std.proofs.Common.{◌≡◌, ◌≢◌, ◌∙◌, ℕ, ◌==◌, true, List, [], ◌∷◌, ◌++◌, length, Option, Some, None, Result, Ok, Err, MatchOption, append_assoc, refl, sym, ap, subst, arith}
+use Rattle.std.proofs.Common.{◌≡◌, ◌≢◌, ◌∙◌, ℕ, ◌==◌, true, List, [], ◌∷◌, ◌++◌, length, Option, Result, Ok, Err, append_assoc, refl, sym, ap, subst, arith}
 use Rattle.std.proofs.lemmas.Bool.{eqb-true}
 use Rattle.std.proofs.lemmas.List.{append-nil}
 use Rattle.std.proofs.lemmas.List.Elements.{All-append, All-head, All-nil}
 use Rattle.std.specs.List.{All}
 use Rattle.tydi_base.proofs.PieceLaws.{pieces_of-each_lacks}
 use Rattle.tydi_base.specs.Pieces.{Lacks, lines_of}
-use Rattle.cycle_trace.specs.Beginnings.{Fails, GoesOn, GoesOnLine, IsFault, Opens, OpensWith, begun, rows_on}
 use Rattle.cycle_trace.specs.HeaderText.{opening_of, opening_after}
 use Rattle.cycle_trace.specs.ReaderView.{AfterLine, AfterRow, StandsAt, StaysFailed}
 use Rattle.cycle_trace.specs.Trace.{TraceText}
-use Rattle.cycle_trace.specs.TraceText.{trace_of}
 use Rattle.cycle_trace.specs.declared.fault.TraceFault.{TraceFault}
 use Rattle.cycle_trace.specs.declared.text_read.Stage.{Stage}
 use Rattle.cycle_trace.specs.declared.text_read.Stage.TheVariants as stages

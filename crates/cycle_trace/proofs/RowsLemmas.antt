@@ -1,27 +1,17 @@
 -- All rows of a trace text, read in their order.
-use Rattle.std.proofs.Common.{◌≡◌, ℕ, zero, suc, ◌+◌, ◌*◌, ◌/◌, ◌%◌, ◌<◌, ◌≤◌, true, false, List, [], ◌∷◌, ◌++◌, length, map, get_or, drop, eqb, Option, Some, None, Result, Ok, Err, MatchOption, append_assoc, length-append, add-one, subst, refl, sym, ap, ◌∙◌, arith}
-use Rattle.std.proofs.Math.Nat.{suc-mul, zero-mul, add-mul, mul-le-mul_right, lt_of_not-le, div-add-mod', mod-lt}
-use Rattle.std.proofs.Math.Seq.{drop-cons}
-use Rattle.std.proofs.Math.ListN.{drop_of_length-le}
-use Rattle.std.specs.List.{join_with_byte}
+use Rattle.std.proofs.Common.{◌≡◌, ℕ, zero, suc, ◌+◌, ◌*◌, ◌<◌, ◌≤◌, true, false, List, [], ◌∷◌, length, get_or, eqb, Some, Ok, Err, length-append, refl, sym, ◌∙◌, arith}
+use Rattle.std.proofs.Math.Nat.{suc-mul, zero-mul, mul-le-mul_right, lt_of_not-le}
 use Rattle.std.proofs.lemmas.Bool.Decides.{nat_tests}
-use Rattle.std.proofs.lemmas.List.{map-append, append-nil, get_or_append_left, get_or-append-add}
-use Rattle.std.proofs.Math.ListN.{get_or-map}
-use Rattle.std.proofs.lemmas.Option.{slice_get-get_or, get_or_from_slice_get}
+use Rattle.std.proofs.lemmas.List.{get_or_append_left, get_or-append-add}
 use Rattle.std.proofs.lemmas.List.Splits.{length-slice_split}
 use Rattle.tydi_base.specs.Reading.{◌>>=◌}
 use Rattle.tydi_base.specs.Pieces.{lines_of}
-use Rattle.tydi_base.proofs.PieceLaws.{join-pieces_of}
 use Rattle.physical_stream.specs.Params.{Parameters}
-use Rattle.physical_stream.specs.Cycles.{Cycle}
-use Rattle.cycle_trace.specs.declared.fault.TraceFault.{TraceFault}
 use Rattle.cycle_trace.specs.declared.fault.TraceFault.TheVariants.{RowsLeft}
-use Rattle.cycle_trace.specs.declared.own_row.OwnRow.{OwnRow}
-use Rattle.cycle_trace.specs.declared.row_layout.RowLayout.{RowLayout}
 use Rattle.cycle_trace.specs.Faults.{fault_in}
 use Rattle.cycle_trace.specs.RowText.{row_at}
 use Rattle.cycle_trace.specs.RowsText.{cut_row}
-use Rattle.cycle_trace.specs.Trace.{cycle_of, cycles_of, owed}
+use Rattle.cycle_trace.specs.Trace.{owed}
 use Rattle.cycle_trace.specs.TraceText.{rows_from}
 
 -- ---- the streams of the rows

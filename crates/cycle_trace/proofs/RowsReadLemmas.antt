@@ -1,30 +1,29 @@
 -- How far the rows of a text are read.
-use Rattle.std.proofs.Common.{◌≡◌, ◌≢◌, ◌↔◌, IsTrue, ◌∙◌, ℕ, zero, suc, ◌+◌, ◌*◌, ◌<◌, ◌≤◌, Bool, true, false, ◌==◌, ◌&&◌, if◌then◌else◌, nat_le, List, [], ◌∷◌, ◌++◌, length, map, get_or, Option, Some, None, IfSome, Result, Ok, Err, MatchOption, refl, sym, ap, subst, arith}
+use Rattle.std.proofs.Common.{◌≡◌, ◌≢◌, ◌↔◌, IsTrue, ◌∙◌, ℕ, zero, suc, ◌+◌, ◌*◌, ◌<◌, ◌≤◌, Bool, true, false, ◌==◌, ◌&&◌, if◌then◌else◌, nat_le, List, [], ◌∷◌, length, map, get_or, Option, Some, None, Result, Ok, Err, MatchOption, refl, sym, ap, subst, arith}
 use Rattle.std.specs.List.{slice_get}
 use Rattle.std.specs.Option.{option_map}
 use Rattle.std.proofs.Math.ListN.{set}
 use Rattle.std.proofs.lemmas.Bool.Decides.{nat_tests}
 use Rattle.std.proofs.lemmas.List.{length-append, length-map}
-use Rattle.std.proofs.lemmas.Option.{slice_get_within, slice_get-map, slice_get-get_or, get_or_from_slice_get}
+use Rattle.std.proofs.lemmas.Option.{slice_get_within, slice_get-map, slice_get-get_or}
 use Rattle.tydi_base.specs.Reading.{Gives}
 use Rattle.physical_stream.specs.Params.{Parameters}
 use Rattle.physical_stream.specs.Cycles.{Cycle}
-use Rattle.physical_stream.specs.Signals.{Shows}
 use Rattle.physical_stream.specs.declared.head.Head.{Head}
 use Rattle.physical_stream.specs.declared.transfer.Transfer.{Transfer}
 use Rattle.cycle_trace.specs.declared.fault.TraceFault.{TraceFault}
-use Rattle.cycle_trace.specs.declared.row_text.RowBits.{RowBits}
+use Rattle.cycle_trace.specs.declared.row_fields.RowBits.{RowBits}
 use Rattle.cycle_trace.specs.declared.rows_read.RowsRead.{RowsRead}
 use Rattle.cycle_trace.specs.declared.stream_rows.StreamRows.{StreamRows}
 use Rattle.cycle_trace.specs.Faults.{fault_in}
-use Rattle.cycle_trace.specs.ReaderView.{ReadsRows, cycle_read, kept_of}
+use Rattle.cycle_trace.specs.ReaderView.{ReadsRows, kept_of}
 use Rattle.cycle_trace.specs.RowKept.{cycle_in}
 use Rattle.cycle_trace.specs.RowSink.{CanTake, with_row}
 use Rattle.cycle_trace.specs.RowText.{row_at}
-use Rattle.cycle_trace.specs.Trace.{TraceText, all_distinct, are_heads, owed, params_of_heads}
+use Rattle.cycle_trace.specs.Trace.{TraceText, are_heads, owed, params_of_heads}
 use Rattle.cycle_trace.proofs.KeepLemmas.{length-owed_heads}
 use Rattle.cycle_trace.proofs.ShownLemmas.{row_of-shows, row_at-ok}
-use Rattle.cycle_trace.proofs.SurveyorLemmas.{HasTurn, has_turn, next_row}
+use Rattle.cycle_trace.proofs.SurveyorLemmas.{has_turn, next_row}
 
 both_true : (a b : Bool) → (a && b) ≡ true → a ≡ true
 both_true true b e = refl

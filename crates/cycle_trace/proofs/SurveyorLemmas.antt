@@ -1,27 +1,26 @@
 -- The survey of rows as they come: one row more.
-use Rattle.std.proofs.Common.{◌≡◌, ◌∙◌, ℕ, get_or, zero, suc, ◌+◌, ◌-◌, ◌*◌, ◌^◌, ◌<◌, ◌≤◌, inl, inr, ◌⊎◌, Bool, true, false, ◌==◌, if◌then◌else◌, List, [], ◌∷◌, ◌++◌, length, map, Option, None, Some, IfSome, refl, sym, ap, subst, arith}
+use Rattle.std.proofs.Common.{◌≡◌, ◌∙◌, ℕ, get_or, zero, suc, ◌+◌, ◌-◌, ◌*◌, ◌^◌, ◌<◌, ◌≤◌, inl, inr, ◌⊎◌, Bool, true, false, ◌==◌, if◌then◌else◌, List, [], ◌∷◌, ◌++◌, length, Option, None, Some, IfSome, refl, sym, ap, subst, arith}
 use Rattle.std.specs.List.{slice_get}
 use Rattle.std.specs.Option.{option_map}
 use Rattle.std.proofs.Math.ListN.{set}
 use Rattle.std.proofs.Math.Nat.{suc-mul}
-use Rattle.std.proofs.lemmas.Bool.{cases_lt, false_from_ne_true, eqb-true}
+use Rattle.std.proofs.lemmas.Bool.{cases_lt}
 use Rattle.std.proofs.lemmas.Bool.Decides.{nat_tests}
 use Rattle.std.proofs.lemmas.List.{length-append, length-set, length-map}
 use Rattle.std.proofs.lemmas.Option.{slice_get_within, slice_get-map, get_or_from_slice_get}
 use Rattle.physical_stream.specs.Params.{Parameters}
 use Rattle.physical_stream.specs.Cycles.{Cycle}
 use Rattle.physical_stream.specs.Breaks.{BreaksAfter}
-use Rattle.physical_stream.specs.First.{Offends, IsFirst}
 use Rattle.physical_stream.specs.Signals.{Shows, Fits}
 use Rattle.physical_stream.specs.declared.transfer.Transfer.{Transfer}
 use Rattle.physical_stream.specs.declared.head.Head.{Head}
 use Rattle.physical_stream.specs.declared.rule.Rule.{Rule}
 use Rattle.complexity_rules.specs.Checking.{StandsFor, Steps, params_in, seen_in}
 use Rattle.complexity_rules.specs.declared.checker.Checker.{Checker}
-use Rattle.cycle_trace.specs.Trace.{TraceText, cycles_of_stream, most_cycles, owed, params_of_heads, streams_of}
+use Rattle.cycle_trace.specs.Trace.{TraceText, cycles_of_stream, most_cycles, owed, params_of_heads}
 use Rattle.cycle_trace.specs.RowSink.{CanTake, with_row}
-use Rattle.cycle_trace.specs.Surveying.{AreChecked, IsChecked, IsNextRow, RowsSay, offence_of}
-use Rattle.cycle_trace.specs.declared.surveying.Found.{Found}
+use Rattle.cycle_trace.specs.Surveying.{IsChecked, IsNextRow, RowsSay, offence_of}
+use Rattle.cycle_trace.specs.declared.survey_outcome.FoundOffence.{FoundOffence}
 use Rattle.cycle_trace.proofs.RowsLemmas.{length-owed, get_or-owed, turn_below}
 use Rattle.cycle_trace.proofs.RowAdded.{cycles_of_stream-turn, cycles_of_stream-other, length-cycles_here, IsFirst-stays, IsFirst-none, IsFirst-turn}
 
@@ -94,7 +93,7 @@ module _ (t : TraceText) (cycle stream : ℕ) (next : IsNextRow t cycle stream) 
   turn = has_turn t cycle stream next can.params can.turn
 
   -- what the survey so far says stays so where an offence was found
-  pub RowsSay-found : (checkers new : List Checker) (found : Found) → RowsSay t checkers (Some found) → RowsSay (with_row t row) new (Some found)
+  pub RowsSay-found : (checkers new : List Checker) (found : FoundOffence) → RowsSay t checkers (Some found) → RowsSay (with_row t row) new (Some found)
   RowsSay-found checkers new found says = IsFirst-stays t cycle stream next.place turn.in_streams turn.in_cycles row (offence_of found) says
 
   module _ (checkers : List Checker) (says : RowsSay t checkers None) where

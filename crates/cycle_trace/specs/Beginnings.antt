@@ -1,6 +1,6 @@
 -- What is known of every text that begins with the bytes so far (this project's own). `begun` is the line that is begun, without
 -- an LF: the lines before it are read.
-use Rattle.std.specs.Prelude.{◌≡◌, ℕ, ◌+◌, ◌*◌, ◌≤◌, List, [], ◌∷◌, ◌++◌, length, drop, Option, Result, Ok, Err, MatchOption}
+use Rattle.std.specs.Prelude.{◌≡◌, ℕ, ◌+◌, ◌*◌, ◌≤◌, List, [], ◌∷◌, ◌++◌, length, drop, Result, Ok, Err, MatchOption}
 use Rattle.std.specs.declared.vec.Vec.{Vec}
 use Rattle.std.specs.BTreeSet.{BTreeSet}
 use Rattle.tydi_base.specs.Pieces.{lines_of}

@@ -1,5 +1,5 @@
 -- What a trace that is kept stands for (this project's own).
-use Rattle.std.specs.Prelude.{◌≡◌, ℕ, ◌*◌, ◌≤◌, true, length, slice_get, Option, Some, None}
+use Rattle.std.specs.Prelude.{◌≡◌, ℕ, ◌≤◌, true, length, slice_get, Option, Some, None}
 use Rattle.physical_stream.specs.Params.{Parameters}
 use Rattle.physical_stream.specs.Signals.{Shows}
 use Rattle.physical_stream.specs.Cycles.{Cycle}

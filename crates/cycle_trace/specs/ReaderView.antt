@@ -1,17 +1,17 @@
 -- What a reader of traces stands for: the bytes that it was fed (this project's own).
-use Rattle.std.specs.Prelude.{◌≡◌, ℕ, ◌+◌, ◌*◌, ◌<◌, ◌≤◌, nat_le, Bool, true, false, List, [], ◌∷◌, ◌++◌, length, map, slice_get, if◌then◌else◌, Option, Some, None, Result, Ok, Err, MatchResult}
-use Rattle.std.specs.Option.{option_and_then, option_map}
-use Rattle.tydi_base.specs.Pieces.{Lacks, lines_of}
+use Rattle.std.specs.Prelude.{◌≡◌, ℕ, ◌*◌, ◌≤◌, List, [], ◌∷◌, ◌++◌, length, map, slice_get, if◌then◌else◌, Option, Some, None, Result, Ok, Err}
+use Rattle.std.specs.Option.{option_map}
+use Rattle.tydi_base.specs.Pieces.{Lacks}
 use Rattle.physical_stream.specs.Cycles.{Cycle}
 use Rattle.physical_stream.specs.declared.transfer.Transfer.{Transfer}
 use Rattle.cycle_trace.specs.Beginnings.{Fails, GoesOn, IsFault, Opens, OpensWith}
-use Rattle.cycle_trace.specs.HeaderText.{Opening, opening_of, opening_after}
+use Rattle.cycle_trace.specs.HeaderText.{opening_of, opening_after}
 use Rattle.cycle_trace.specs.Surveying.{IsNextRow}
 use Rattle.cycle_trace.specs.TextSet.{HasTexts}
 use Rattle.cycle_trace.specs.Trace.{TraceText, most_cycles, params_of_heads}
 use Rattle.cycle_trace.specs.declared.fault.TraceFault.{TraceFault}
 use Rattle.cycle_trace.specs.declared.fault.TraceFault.TheVariants.{Memory}
-use Rattle.cycle_trace.specs.declared.row_text.RowBits.{RowBits}
+use Rattle.cycle_trace.specs.declared.row_fields.RowBits.{RowBits}
 use Rattle.cycle_trace.specs.declared.rows_read.RowsRead.{RowsRead}
 use Rattle.cycle_trace.specs.declared.stream_rows.StreamRows.{StreamRows}
 use Rattle.cycle_trace.specs.declared.text_read.Stage.{Stage}

@@ -1,5 +1,5 @@
 -- What a sink of rows stands for: a header and the rows so far, which may be fewer than the header asks for (this project's own).
-use Rattle.std.specs.Prelude.{◌≡◌, ℕ, ◌≤◌, true, List, [], ◌∷◌, ◌++◌, length, slice_get, Some, IfSome}
+use Rattle.std.specs.Prelude.{◌≡◌, ◌≤◌, true, [], ◌∷◌, ◌++◌, length, slice_get, Some, IfSome}
 use Rattle.physical_stream.specs.Params.{Parameters}
 use Rattle.physical_stream.specs.Signals.{Shows}
 use Rattle.physical_stream.specs.Cycles.{Cycle}

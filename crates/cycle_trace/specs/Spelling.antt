@@ -41,11 +41,15 @@ header_text cycles heads = codes "tydi-trace 1\ncycles " ++ decimal cycles ++ LF
 abbrev pub signal_words : Bool → ℕ → List ℕ → List (List ℕ)
 signal_words present key value = if present then (key ∷ 61 ∷ value) ∷ [] else []
 
--- the signals that a stream has, in their order
-abbrev pub transfer_words : Parameters → Transfer → List (List ℕ)
-transfer_words p t =
+-- the signals that a stream has, in their order, with these strobe bits
+abbrev pub words_of_signals : Parameters → Transfer → List Bool → List (List ℕ)
+words_of_signals p t strb =
     signal_words (has_content p) 100 (hex_of t.content) ++ signal_words (has_last p) 108 (hex_of t.last) ++ signal_words (has_stai p) 115 (decimal t.stai)
-    ++ signal_words (has_endi p) 101 (decimal t.endi) ++ signal_words (has_strb p) 98 (hex_of (bits_of p.lanes t.strb)) ++ signal_words (has_user p) 117 (hex_of t.user)
+    ++ signal_words (has_endi p) 101 (decimal t.endi) ++ signal_words (has_strb p) 98 (hex_of strb) ++ signal_words (has_user p) 117 (hex_of t.user)
+
+-- the signals that a stream has of a transfer
+abbrev pub transfer_words : Parameters → Transfer → List (List ℕ)
+transfer_words p t = words_of_signals p t (bits_of p.lanes t.strb)
 
 -- `-` where there is no word
 abbrev pub or_dash : List (List ℕ) → List (List ℕ)

@@ -1,15 +1,14 @@
 -- The survey of a trace, row by row (this project's own).
-use Rattle.std.specs.Prelude.{◌≡◌, ℕ, ◌+◌, ◌*◌, ◌<◌, ◌≤◌, List, [], length, Option, Some, None, IfSome, slice_get}
-use Rattle.physical_stream.specs.Cycles.{StreamTrace}
+use Rattle.std.specs.Prelude.{◌≡◌, ℕ, ◌+◌, ◌*◌, ◌<◌, ◌≤◌, List, [], length, Option, Some, None, slice_get}
 use Rattle.physical_stream.specs.First.{Offence, Offends, IsFirst}
 use Rattle.physical_stream.specs.declared.head.Head.{Head}
 use Rattle.physical_stream.specs.declared.head.Header.{Header}
 use Rattle.complexity_rules.specs.Checking.{StandsFor, params_in}
 use Rattle.complexity_rules.specs.declared.checker.Checker.{Checker}
 use Rattle.cycle_trace.specs.Trace.{TraceText, cycles_of_stream, most_cycles, streams_of}
-use Rattle.cycle_trace.specs.declared.surveying.Found.{Found}
+use Rattle.cycle_trace.specs.declared.survey_outcome.FoundOffence.{FoundOffence}
 
-abbrev pub offence_of : Found → Offence
+abbrev pub offence_of : FoundOffence → Offence
 offence_of found = record { cycle = found.cycle; stream = found.stream; rule = found.rule }
 
 -- a checker of this stream stands for the cycles of it so far
@@ -28,7 +27,7 @@ pub record HaveCheckers (heads : List Head) (n : ℕ) (checkers : List Checker) 
   pub each : (stream : ℕ) (checker : Checker) (head : Head) → slice_get checkers stream ≡ Some checker → slice_get heads stream ≡ Some head → (params_in checker ≡ head.params) × StandsFor checker []
 
 -- what the rows so far say: none of them breaks a rule, and the checkers stand for them; or this is the first offence
-abbrev pub RowsSay : TraceText → List Checker → Option Found → Type 0
+abbrev pub RowsSay : TraceText → List Checker → Option FoundOffence → Type 0
 RowsSay t checkers None = AreChecked t checkers × IsFirst (Offends (streams_of t)) None
 RowsSay t checkers (Some found) = IsFirst (Offends (streams_of t)) (Some (offence_of found))
 
@@ -38,7 +37,7 @@ pub record IsNextRow (t : TraceText) (cycle stream : ℕ) : Type 0 where
   pub within : 0 < length t.heads → stream < length t.heads
 
 -- what a survey keeps of a header and the rows so far
-pub record SurveysRows (t : TraceText) (header : Header) (checkers : List Checker) (cycle stream : ℕ) (found : Option Found) : Type 0 where
+pub record SurveysRows (t : TraceText) (header : Header) (checkers : List Checker) (cycle stream : ℕ) (found : Option FoundOffence) : Type 0 where
   pub cycles : header.cycles ≡ t.cycles
   pub heads : header.heads ≡ t.heads
   pub few : t.cycles ≤ most_cycles

@@ -35,8 +35,8 @@ impl From<Memory> for TraceFault {
 /// Why words were not read.
 #[derive(Clone, Copy, Debug, PartialEq, Eq)]
 pub(crate) enum Misspelling {
-    /// They spell nothing.
-    Unspelled,
+    /// They are not of their form.
+    NotForm,
     /// There was no memory.
     Memory,
 }
@@ -49,6 +49,6 @@ impl From<Memory> for Misspelling {
     }
 }
 
-/// That words spell nothing.
+/// That words are not of their form.
 #[derive(Clone, Copy, Debug, PartialEq, Eq)]
-pub(crate) struct Unspelled;
+pub(crate) struct NotForm;

@@ -44,7 +44,7 @@ fn header_fault(line: u64, misspelling: Misspelling) -> TraceFault
     ensures { fault_in result ≡ header_fault line (misspelling_in misspelling) }
 {
     match misspelling {
-        Misspelling::Unspelled => TraceFault::BadHeader(line),
+        Misspelling::NotForm => TraceFault::BadHeader(line),
         Misspelling::Memory => TraceFault::Memory,
     }
 }
@@ -81,11 +81,11 @@ fn head_after(
 {
     let head = head_of(alloc, line)?;
     if count >= MOST_STREAMS {
-        return Err(Misspelling::Unspelled);
+        return Err(Misspelling::NotForm);
     }
     let text = path_text(alloc, &head.path)?;
     if !add_text(paths, text)? {
-        return Err(Misspelling::Unspelled);
+        return Err(Misspelling::NotForm);
     }
     Ok(head)
 }
@@ -114,9 +114,9 @@ fn header_number(digits: &[u8]) -> Result<u64, Misspelling>
     ensures below { IfOk result (λ n. n < 10 ^ 10) }
 {
     if digits.len() > 10 {
-        return Err(Misspelling::Unspelled);
+        return Err(Misspelling::NotForm);
     }
-    read_decimal(digits).ok_or(Misspelling::Unspelled)
+    read_decimal(digits).ok_or(Misspelling::NotForm)
 }
 
 /// The parameters that five words spell.
@@ -135,7 +135,7 @@ fn params_of(
     let level = header_number(level)?;
     let element = header_number(element)?;
     let user = header_number(user)?;
-    made_of(lanes, dims, level, element, user).ok_or(Misspelling::Unspelled)
+    made_of(lanes, dims, level, element, user).ok_or(Misspelling::NotForm)
 }
 
 /// The parameters of these numbers. None exactly where one of them is out of its range.
@@ -160,7 +160,7 @@ fn direction_of(word: &[u8]) -> Result<bool, Misspelling>
     } else if word == b"reverse".as_slice() {
         Ok(true)
     } else {
-        Err(Misspelling::Unspelled)
+        Err(Misspelling::NotForm)
     }
 }
 
@@ -198,7 +198,7 @@ fn head_of_words(alloc: Global, words: &[&[u8]]) -> Result<Head, Misspelling>
     requires { length words.now ≡ 13 }
     ensures { Gives misspelling_in (λ head. head) result (spec.head_of_words (map (λ word. word.now) words.now)) }
 {
-    let path = Path::read_dotted(alloc, word_at(words, 1))?.ok_or(Misspelling::Unspelled)?;
+    let path = Path::read_dotted(alloc, word_at(words, 1))?.ok_or(Misspelling::NotForm)?;
     let params = params_of(
         word_at(words, 3),
         word_at(words, 5),
@@ -221,7 +221,7 @@ fn head_of(alloc: Global, line: &[u8]) -> Result<Head, Misspelling>
 {
     let words = words_of(alloc, line)?;
     if !has_keys(words.as_slice()) {
-        return Err(Misspelling::Unspelled);
+        return Err(Misspelling::NotForm);
     }
     head_of_words(alloc, words.as_slice())
 }
@@ -239,7 +239,7 @@ fn count_of_cycles(line: &[u8]) -> Result<u64, Misspelling>
     ensures { Gives misspelling_in (λ n. n) result (spec.count_of_cycles line.now) }
 {
     if !line.starts_with(b"cycles ") {
-        return Err(Misspelling::Unspelled);
+        return Err(Misspelling::NotForm);
     }
     header_number(&line[7..])
 }

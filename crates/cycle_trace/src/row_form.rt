@@ -9,7 +9,7 @@ ghost use Rattle.cycle_trace.specs.RowText as spec;
 ghost use Rattle.cycle_trace.specs.WordsLeft.{words_left};
 
 use crate::fault::TraceFault;
-use crate::row_text::is_dash;
+use crate::row_fields::is_dash;
 use crate::words_left::WordsLeft;
 use tydi_base::read_decimal;
 

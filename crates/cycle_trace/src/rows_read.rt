@@ -12,7 +12,7 @@ ghost use Rattle.cycle_trace.specs.RowText as rows;
 ghost use Rattle.cycle_trace.specs.Trace.{TraceText, owed, params_of_heads};
 
 use crate::fault::TraceFault;
-use crate::row_text::RowBits;
+use crate::row_fields::RowBits;
 use crate::stream_rows::StreamRows;
 use crate::turn::next_stream;
 use physical_stream::{Head, Header, Row};

@@ -6,8 +6,8 @@ ghost use Rattle.cycle_trace.specs.RowText.{row_at};
 ghost use Rattle.cycle_trace.specs.Widths.{HasWidths};
 
 use crate::fault::TraceFault;
+use crate::row_fields::{RowBits, row_at};
 use crate::row_layout::RowLayout;
-use crate::row_text::{RowBits, row_at};
 use physical_stream::{Params, Transfer};
 use std::alloc::Global;
 use tydi_base::Memory;

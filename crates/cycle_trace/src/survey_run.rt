@@ -5,8 +5,8 @@ ghost use Rattle.cycle_trace.specs.Surveying.{RowsSay};
 ghost use Rattle.cycle_trace.specs.SurveyorView.{AnswersTrace, IsSameBut, RunStands};
 ghost use Rattle.cycle_trace.specs.Trace.{TraceText};
 
+use crate::survey_outcome::{FoundOffence, checkers_of, outcome_of};
 use crate::surveyed::Surveyed;
-use crate::surveying::{Found, checkers_of, outcome_of};
 use crate::turn::{next_cycle, next_stream};
 use complexity_rules::Checker;
 use physical_stream::{Header, Row};
@@ -23,7 +23,7 @@ pub(crate) struct SurveyRun {
     /// The stream of the next row, from 0.
     pub(crate) stream: usize,
     /// The first offence.
-    pub(crate) found: Option<Found>,
+    pub(crate) found: Option<FoundOffence>,
 }
 
 impl SurveyRun {
@@ -75,7 +75,7 @@ impl SurveyRun {
         ensures same { IsSameBut self.old self.new }
     {
         if let Some(rule) = self.checkers[self.stream].step(row) {
-            self.found = Some(Found {
+            self.found = Some(FoundOffence {
                 cycle: self.cycle,
                 stream: self.stream,
                 rule,

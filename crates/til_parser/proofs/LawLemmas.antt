@@ -8,7 +8,7 @@ use Rattle.til_parser.specs.Grammar.{Spells}
 use Rattle.til_parser.specs.Laws.{TreesAreApart}
 use Rattle.til_parser.specs.Lexemes.{Lexeme, HasFormIn, IsFormed, lexeme_of, lexemes_of}
 use Rattle.til_parser.proofs.LevelLemmas.{IsWithin-more, IsWithin-some}
-use Rattle.til_parser.proofs.ParseLemmas.{project_complete}
+use Rattle.til_parser.proofs.rules.ParseLemmas.{project_complete}
 use Rattle.tydi_reading.specs.Reading.{Outcome, took}
 
 -- tokens of a text with their form are lexemes with their form

@@ -19,7 +19,7 @@ mod printing;
 mod tests;
 mod tree;
 mod types;
-mod writer;
+mod written;
 
 pub use fault::ParseFault;
 pub use laws::{trees_are_apart, trees_are_read_as_printed};

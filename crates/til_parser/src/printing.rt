@@ -1,321 +1,238 @@
-//! The canonical text of a tree. A method for each rule of the grammar, named as the rule is.
+//! The canonical text of a tree, by the text of each of its parts.
 
-ghost use Rattle.std.specs.Prelude.{◌≡◌, ◌++◌, IfOk, OnOk, codes, map};
+ghost use Rattle.std.specs.Prelude.{◌≡◌, ◌++◌, IfOk, OnErr, OnOk, codes, map};
 ghost use Rattle.std.specs.List.{flat_map};
 ghost use Rattle.til_parser.specs.Canonical as spec;
-ghost use Rattle.til_parser.specs.Grammar.{direction_word, sync_word, truth_word};
-ghost use Rattle.til_parser.specs.Tree.{plain, plain_of_part, plain_of_stream, parts_of};
+ghost use Rattle.til_parser.specs.Grammar.{direction_word, sync_word, truth_word, way_word};
+ghost use Rattle.til_parser.specs.Tree.{plain, plain_of_part, plain_of_stream};
+ghost use Rattle.tydi_base.specs.Writing.{StandsInFront};
 
 use crate::ltype::{AstPart, AstStream, AstSync, AstType};
 use crate::tree::{
     Ast, AstBody, AstDecl, AstEnd, AstKind, AstName, AstNamespace, AstPort, AstPorts, AstStmt,
 };
-use crate::writer::Writer;
+use crate::written::{Doc, DocLine, EachAfter, FewestDigits, Quoted};
 use std::alloc::Global;
-use tydi_base::{List, Memory, Text};
+use tydi_base::{Each, List, Memory, Written, emit};
 
 /// The canonical text of a tree, or `Memory` where there is none for it. A Stream shows all its arguments, and no place is shown.
 pub fn print(alloc: Global, ast: &Ast) -> Result<List<u8>, Memory>
     ensures { IfOk result (λ text. text ≡ spec.canonical ast.now) }
 {
-    let mut writer = Writer::new(alloc);
-    writer.namespaces(ast.namespaces.as_slice())?;
-    Ok(writer.into_text())
+    let mut text = List::new(alloc);
+    emit!(text; Each(ast.namespaces.as_slice()))?;
+    Ok(text)
 }
 
-impl Writer {
-    fn namespaces(&mut self, namespaces: &[AstNamespace]) -> Result<(), Memory>
-        ensures { OnOk result (self.new ≡ self.old ++ flat_map spec.namespace_text namespaces.now) }
-    {
-        'namespaces: for namespace in namespaces {
-            self.namespace(namespace)?;
-        }
-        Ok(())
-    }
+impl Written for AstNamespace {
+    ghost text = { spec.namespace_text };
 
-    fn namespace(&mut self, namespace: &AstNamespace) -> Result<(), Memory>
-        ensures { OnOk result (self.new ≡ self.old ++ spec.namespace_text namespace.now) }
-    {
-        self.doc(&namespace.doc, "\n")?;
-        self.piece("namespace ")?;
-        self.path(&namespace.path)?;
-        self.piece(" {\n")?;
-        self.decls(namespace.decls.as_slice())?;
-        self.piece("}\n")
+    fn write_to(&self, out: &mut List<u8>) -> Result<(), Memory> {
+        emit!(out; DocLine("", &self.doc), "namespace ", &self.path, " {\n", Each(self.decls.as_slice()), "}\n")
     }
+}
 
-    fn decls(&mut self, decls: &[AstDecl]) -> Result<(), Memory>
-        ensures { OnOk result (self.new ≡ self.old ++ flat_map spec.decl_text decls.now) }
-    {
-        'decls: for decl in decls {
-            self.decl(decl)?;
-        }
-        Ok(())
+impl Written for AstDecl {
+    ghost text = { spec.decl_text };
+
+    fn write_to(&self, out: &mut List<u8>) -> Result<(), Memory> {
+        emit!(out; DocLine("  ", &self.doc), "  ", Declared(&self.name, &self.kind), ";\n")
     }
+}
 
-    fn decl(&mut self, decl: &AstDecl) -> Result<(), Memory>
-        ensures { OnOk result (self.new ≡ self.old ++ spec.decl_text decl.now) }
-    {
-        self.doc_line(&decl.doc)?;
-        self.piece("  ")?;
-        self.kind(&decl.name, &decl.kind)?;
-        self.piece(";\n")
-    }
+/// What is declared by this name, up to the semicolon.
+#[derive(Clone, Copy)]
+struct Declared<'a>(&'a AstName, &'a AstKind);
 
-    /// The documentation of a declaration, on a line of its own.
-    fn doc_line(&mut self, doc: &Option<Text>) -> Result<(), Memory>
-        ensures { OnOk result (self.new ≡ self.old ++ spec.doc_line (codes "  ") doc.now) }
-    {
-        if doc.is_some() {
-            self.piece("  ")?;
-        }
-        self.doc(doc, "\n")
-    }
+impl Written for Declared<'_> {
+    ghost text = { λ declared. spec.kind_text declared.0.now.name declared.1.now };
 
-    fn kind(&mut self, name: &AstName, kind: &AstKind) -> Result<(), Memory>
-        ensures { OnOk result (self.new ≡ self.old ++ spec.kind_text name.now.name kind.now) }
-    {
-        match kind {
-            AstKind::Alias(ltype) => {
-                self.opening("type ", name, " = ")?;
-                self.ltype(ltype)
-            }
-            AstKind::Interface(ports) => {
-                self.opening("interface ", name, " = ")?;
-                self.ports(ports)
-            }
-            AstKind::Streamlet(ports) => {
-                self.opening("streamlet ", name, " = ")?;
-                self.streamlet_ports(ports)
-            }
-            AstKind::Impl { target, body } => {
-                self.opening("impl ", name, " of ")?;
-                self.path(target)?;
-                self.piece(" = ")?;
-                self.body(body)
-            }
+    fn write_to(&self, out: &mut List<u8>) -> Result<(), Memory> {
+        let name = self.0;
+        match self.1 {
+            AstKind::Alias(ltype) => emit!(out; "type ", name, " = ", ltype),
+            AstKind::Interface(ports) => emit!(out; "interface ", name, " = ", Ports(ports)),
+            AstKind::Streamlet(ports) => emit!(out; "streamlet ", name, " = ", ports),
+            AstKind::Impl { target, body } =>
+                emit!(out; "impl ", name, " of ", target, " = ", body),
             AstKind::Test {
                 target,
                 port,
                 value,
                 plan,
-            } => {
-                self.opening("test ", name, " of ")?;
-                self.path(target)?;
-                self.opening(" drive ", port, " = ")?;
-                self.quoted(value)?;
-                self.piece(" plan ")?;
-                self.quoted(plan)
-            }
+            } =>
+                emit!(out; "test ", name, " of ", target, " drive ", port, " = ", Quoted(value), " plan ", Quoted(plan)),
         }
     }
+}
 
-    /// A name, with what stands before and after it.
-    fn opening(&mut self, before: &str, name: &AstName, after: &str) -> Result<(), Memory>
-        ensures { OnOk result (self.new ≡ self.old ++ before.now ++ name.now.name ++ after.now) }
-    {
-        self.piece(before)?;
-        self.name(name)?;
-        self.piece(after)
-    }
+impl Written for AstPorts {
+    ghost text = { spec.streamlet_text };
 
-    fn streamlet_ports(&mut self, ports: &AstPorts) -> Result<(), Memory>
-        ensures { OnOk result (self.new ≡ self.old ++ spec.streamlet_text ports.now) }
-    {
-        match ports {
-            AstPorts::Own(ports) => self.ports(ports),
-            AstPorts::Named(path) => self.path(path),
+    fn write_to(&self, out: &mut List<u8>) -> Result<(), Memory> {
+        match self {
+            AstPorts::Own(ports) => emit!(out; Ports(ports)),
+            AstPorts::Named(path) => emit!(out; path),
         }
     }
+}
 
-    fn ports(&mut self, ports: &List<AstPort>) -> Result<(), Memory>
-        ensures { OnOk result (self.new ≡ self.old ++ spec.ports_text ports.now) }
-    {
-        let [first, others @ ..] = ports.as_slice() else {
-            return self.piece("()");
+/// Ports in brackets.
+#[derive(Clone, Copy)]
+struct Ports<'a>(&'a List<AstPort>);
+
+impl Written for Ports<'_> {
+    ghost text = { λ ports. spec.ports_text ports.0.now };
+
+    fn write_to(&self, out: &mut List<u8>) -> Result<(), Memory> {
+        let [first, others @ ..] = self.0.as_slice() else {
+            return emit!(out; "()");
         };
-        self.piece("(")?;
-        self.port(first)?;
-        self.more_ports(others)?;
-        self.piece(")")
+        emit!(out; "(", first, EachAfter(", ", others), ")")
     }
+}
 
-    /// The ports that follow the first.
-    fn more_ports(&mut self, ports: &[AstPort]) -> Result<(), Memory>
-        ensures { OnOk result (self.new ≡ self.old ++ flat_map spec.next_port_text ports.now) }
-    {
-        'ports: for port in ports {
-            self.next_port(port)?;
+impl Written for AstPort {
+    ghost text = { spec.port_text };
+
+    fn write_to(&self, out: &mut List<u8>) -> Result<(), Memory> {
+        emit!(out; Doc(&self.doc, " "), &self.name, ": ", way_word(self.inward), " ", &self.ltype)
+    }
+}
+
+impl Written for AstBody {
+    ghost text = { spec.body_text };
+
+    fn write_to(&self, out: &mut List<u8>) -> Result<(), Memory> {
+        match self {
+            AstBody::Linked(text) => emit!(out; Quoted(text)),
+            AstBody::Structural(stmts) => emit!(out; "{ ", Stmts(stmts), "}"),
+        }
+    }
+}
+
+/// Statements, with a space after each.
+#[derive(Clone, Copy)]
+struct Stmts<'a>(&'a List<AstStmt>);
+
+impl Written for Stmts<'_> {
+    ghost text = { λ stmts. flat_map spec.spaced_text stmts.0.now };
+
+    fn write_to(&self, out: &mut List<u8>) -> Result<(), Memory> {
+        'stmts: for stmt in self.0.as_slice() {
+            emit!(out; stmt, " ")?;
         }
         Ok(())
     }
+}
 
-    /// A port that follows another.
-    fn next_port(&mut self, port: &AstPort) -> Result<(), Memory>
-        ensures { OnOk result (self.new ≡ self.old ++ spec.next_port_text port.now) }
-    {
-        self.piece(", ")?;
-        self.port(port)
-    }
+impl Written for AstStmt {
+    ghost text = { spec.stmt_text };
 
-    fn port(&mut self, port: &AstPort) -> Result<(), Memory>
-        ensures { OnOk result (self.new ≡ self.old ++ spec.port_text port.now) }
-    {
-        self.doc(&port.doc, " ")?;
-        self.name(&port.name)?;
-        self.piece(if port.inward { ": in " } else { ": out " })?;
-        self.ltype(&port.ltype)
-    }
-
-    fn body(&mut self, body: &AstBody) -> Result<(), Memory>
-        ensures { OnOk result (self.new ≡ self.old ++ spec.body_text body.now) }
-    {
-        match body {
-            AstBody::Linked(text) => self.quoted(text),
-            AstBody::Structural(stmts) => {
-                self.piece("{ ")?;
-                self.stmts(stmts.as_slice())?;
-                self.piece("}")
-            }
+    fn write_to(&self, out: &mut List<u8>) -> Result<(), Memory> {
+        match self {
+            AstStmt::Instance { name, streamlet } => emit!(out; name, " = ", streamlet, ";"),
+            AstStmt::Link { first, second } => emit!(out; first, " -- ", second, ";"),
         }
     }
+}
 
-    /// Statements, with a space after each.
-    fn stmts(&mut self, stmts: &[AstStmt]) -> Result<(), Memory>
-        ensures { OnOk result (self.new ≡ self.old ++ flat_map spec.spaced_text stmts.now) }
-    {
-        'stmts: for stmt in stmts {
-            self.spaced_stmt(stmt)?;
-        }
-        Ok(())
-    }
+impl Written for AstEnd {
+    ghost text = { spec.end_text };
 
-    /// A statement, and a space after it.
-    fn spaced_stmt(&mut self, stmt: &AstStmt) -> Result<(), Memory>
-        ensures { OnOk result (self.new ≡ self.old ++ spec.spaced_text stmt.now) }
-    {
-        self.stmt(stmt)?;
-        self.piece(" ")
-    }
-
-    fn stmt(&mut self, stmt: &AstStmt) -> Result<(), Memory>
-        ensures { OnOk result (self.new ≡ self.old ++ spec.stmt_text stmt.now) }
-    {
-        match stmt {
-            AstStmt::Instance { name, streamlet } => {
-                self.name(name)?;
-                self.piece(" = ")?;
-                self.path(streamlet)?;
-            }
-            AstStmt::Link { first, second } => {
-                self.end(first)?;
-                self.piece(" -- ")?;
-                self.end(second)?;
-            }
-        }
-        self.piece(";")
-    }
-
-    fn end(&mut self, end: &AstEnd) -> Result<(), Memory>
-        ensures { OnOk result (self.new ≡ self.old ++ spec.end_text end.now) }
-    {
-        self.name(&end.first)?;
-        match &end.second {
-            None => Ok(()),
-            Some(second) => {
-                self.piece(".")?;
-                self.name(second)
-            }
+    fn write_to(&self, out: &mut List<u8>) -> Result<(), Memory> {
+        match &self.second {
+            None => emit!(out; &self.first),
+            Some(second) => emit!(out; &self.first, ".", second),
         }
     }
+}
 
-    #[cycle(ltype)]
-    fn ltype(&mut self, ltype: &AstType) -> Result<(), Memory>
-        ensures { OnOk result (self.new ≡ self.old ++ spec.type_text (plain ltype.now)) }
-    {
-        match ltype {
-            AstType::Null => self.piece("Null"),
-            AstType::Bits(width) => {
-                self.piece("Bits(")?;
-                self.decimal(*width)?;
-                self.piece(")")
-            }
-            AstType::Group(parts) => {
-                self.piece("Group(")?;
-                self.parts(parts.as_slice())?;
-                self.piece(")")
-            }
-            AstType::Union(parts) => {
-                self.piece("Union(")?;
-                self.parts(parts.as_slice())?;
-                self.piece(")")
-            }
-            AstType::Stream(stream) => self.stream(stream.get()),
-            AstType::Path(path) => self.path(path),
-        }
-    }
+impl Written for AstType {
+    ghost text = { λ ltype. spec.type_text (plain ltype) };
 
-    #[cycle(ltype)]
-    fn parts(&mut self, parts: &[AstPart]) -> Result<(), Memory>
-        ensures { OnOk result (self.new ≡ self.old ++ spec.listed_text (map plain_of_part parts.now)) }
-    {
-        let [first, others @ ..] = parts else {
-            return Ok(());
-        };
-        self.part(first)?;
-        'parts: for part in others {
-            self.next_part(part)?;
-        }
-        Ok(())
+    fn write_to(&self, out: &mut List<u8>) -> Result<(), Memory> {
+        write_type(self, out)
     }
+}
 
-    /// A part that follows another.
-    #[cycle(ltype)]
-    fn next_part(&mut self, part: &AstPart) -> Result<(), Memory>
-        ensures { OnOk result (self.new ≡ self.old ++ spec.next_part_text (plain_of_part part.now)) }
-    {
-        self.piece(", ")?;
-        self.part(part)
+#[cycle(ltype)]
+fn write_type(ltype: &AstType, out: &mut List<u8>) -> Result<(), Memory>
+    ensures ok { OnOk result (out.new ≡ out.old ++ spec.type_text (plain ltype.now)) }
+    ensures err { OnErr result (StandsInFront out.old out.new) }
+{
+    match ltype {
+        AstType::Null => emit!(out; "Null"),
+        AstType::Bits(width) => emit!(out; "Bits(", *width, ")"),
+        AstType::Group(parts) => write_parts("Group(", parts.as_slice(), out),
+        AstType::Union(parts) => write_parts("Union(", parts.as_slice(), out),
+        AstType::Stream(stream) => write_stream(stream.get(), out),
+        AstType::Path(path) => emit!(out; path),
     }
+}
 
-    #[cycle(ltype)]
-    fn part(&mut self, part: &AstPart) -> Result<(), Memory>
-        ensures { OnOk result (self.new ≡ self.old ++ spec.part_text (plain_of_part part.now)) }
-    {
-        self.name(&part.name)?;
-        self.piece(": ")?;
-        self.ltype(&part.ltype)
+/// Parts with this word before them, a comma and a space between each two, and a closing bracket.
+#[cycle(ltype)]
+fn write_parts(word: &str, parts: &[AstPart], out: &mut List<u8>) -> Result<(), Memory>
+    ensures ok { OnOk result (out.new ≡ out.old ++ word.now ++ spec.listed_text (map plain_of_part parts.now) ++ codes ")") }
+    ensures err { OnErr result (StandsInFront out.old out.new) }
+{
+    let [first, others @ ..] = parts else {
+        return emit!(out; word, ")");
+    };
+    write_part(word, first, out)?;
+    'parts: for part in others {
+        write_part(", ", part, out)?;
     }
+    emit!(out; ")")
+}
 
-    #[cycle(ltype)]
-    fn stream(&mut self, stream: &AstStream) -> Result<(), Memory>
-        ensures { OnOk result (self.new ≡ self.old ++ spec.stream_text (plain_of_stream stream.now)) }
-    {
-        self.piece("Stream(data: ")?;
-        self.ltype(&stream.element)?;
-        self.settings(stream)?;
-        self.ltype(&stream.user)?;
-        self.piece(", keep: ")?;
-        self.piece(truth_word(stream.keep))?;
-        self.piece(")")
-    }
+/// A part, with this text before it.
+#[cycle(ltype)]
+fn write_part(before: &str, part: &AstPart, out: &mut List<u8>) -> Result<(), Memory>
+    ensures ok { OnOk result (out.new ≡ out.old ++ before.now ++ spec.part_text (plain_of_part part.now)) }
+    ensures err { OnErr result (StandsInFront out.old out.new) }
+{
+    emit!(out; before, &part.name, ": ")?;
+    write_type(&part.ltype, out)
+}
 
-    /// The arguments of a Stream that follow its data type, up to its user type.
-    fn settings(&mut self, stream: &AstStream) -> Result<(), Memory>
-        ensures { OnOk result (self.new ≡ self.old ++ spec.settings_text (plain_of_stream stream.now).settings) }
-    {
-        self.piece(", throughput: ")?;
-        self.number(stream.throughput)?;
-        self.piece(", dimensionality: ")?;
-        self.decimal(stream.dims)?;
-        self.piece(", synchronicity: ")?;
-        self.piece(sync_word(stream.sync))?;
-        self.piece(", complexity: ")?;
-        self.decimal(u64::from(stream.level.number()))?;
-        self.piece(", direction: ")?;
-        self.piece(direction_word(stream.reverse))?;
-        self.piece(", user: ")
+#[cycle(ltype)]
+fn write_stream(stream: &AstStream, out: &mut List<u8>) -> Result<(), Memory>
+    ensures ok { OnOk result (out.new ≡ out.old ++ spec.stream_text (plain_of_stream stream.now)) }
+    ensures err { OnErr result (StandsInFront out.old out.new) }
+{
+    emit!(out; "Stream(data: ")?;
+    write_type(&stream.element, out)?;
+    emit!(out; Settings(stream))?;
+    write_type(&stream.user, out)?;
+    emit!(out; ", keep: ", truth_word(stream.keep), ")")
+}
+
+/// The arguments of a Stream that follow its data type, up to its user type.
+#[derive(Clone, Copy)]
+struct Settings<'a>(&'a AstStream);
+
+impl Written for Settings<'_> {
+    ghost text = { λ settings. spec.settings_text (plain_of_stream settings.0.now).settings };
+
+    fn write_to(&self, out: &mut List<u8>) -> Result<(), Memory> {
+        let stream = self.0;
+        emit!(out;
+            ", throughput: ", FewestDigits(stream.throughput),
+            ", dimensionality: ", stream.dims,
+            ", synchronicity: ", sync_word(stream.sync),
+            ", complexity: ", stream.level.number(),
+            ", direction: ", direction_word(stream.reverse),
+            ", user: ")
     }
+}
+
+/// The word of a way.
+fn way_word(inward: bool) -> &'static str
+    ensures { result.now ≡ way_word inward }
+{
+    if inward { "in" } else { "out" }
 }
 
 /// The word of a direction.

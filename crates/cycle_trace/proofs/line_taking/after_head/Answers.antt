@@ -1,10 +1,9 @@
-use Rattle.std.proofs.Common.{◌≡◌, ◌∙◌, ℕ, ◌+◌, ◌<◌, ◌++◌, ◌∷◌, [], List, length, Ok, Err, refl, ap, sym, subst, arith}
+use Rattle.std.proofs.Common.{◌∙◌, ◌+◌, ◌<◌, ◌++◌, ◌∷◌, [], List, length, sym, subst, arith}
 use Rattle.std.proofs.lemmas.Result.{err_from_is_err_and}
 use Rattle.physical_stream.specs.declared.head.Head.{Head}
 use Rattle.cycle_trace.specs.Beginnings.{OpensWith, begun}
 use Rattle.cycle_trace.specs.ReaderView.{StandsAt}
 use Rattle.cycle_trace.specs.declared.text_read.Stage.{Stage}
-use Rattle.cycle_trace.specs.declared.text_read.Stage.TheVariants as stages
 use Rattle.cycle_trace.proofs.BeginningLemmas.{head-fails, head-ok, header-many, header-ok, heads-stand}
 use Rattle.cycle_trace.proofs.HeaderLemmas.{head_after-fits}
 use Rattle.cycle_trace.proofs.ReaderLemmas.{after_row-line, plain-none}

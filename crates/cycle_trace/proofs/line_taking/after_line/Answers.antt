@@ -1,10 +1,9 @@
-use Rattle.std.proofs.Common.{◌≡◌, ◌∙◌, ℕ, ◌++◌, ◌∷◌, [], List, Ok, Err, refl, ap, sym, subst}
+use Rattle.std.proofs.Common.{◌++◌, ◌∷◌, [], List, sym, subst}
 use Rattle.std.proofs.lemmas.Result.{err_from_is_err_and}
 use Rattle.physical_stream.specs.declared.head.Head.{Head}
 use Rattle.cycle_trace.specs.Beginnings.{OpensWith}
 use Rattle.cycle_trace.specs.ReaderView.{StandsAt}
 use Rattle.cycle_trace.specs.declared.text_read.Stage.{Stage}
-use Rattle.cycle_trace.specs.declared.text_read.Stage.TheVariants as stages
 use Rattle.cycle_trace.proofs.BeginningLemmas.{GoesOn-line, cycles-fails, cycles-ok, title-fails, title-ok}
 use Rattle.cycle_trace.proofs.ReaderLemmas.{after_row-line, plain-none}
 use Rattle.cycle_trace.proofs.line_taking.after_line.Goals as goal

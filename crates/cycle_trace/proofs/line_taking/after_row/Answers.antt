@@ -1,7 +1,7 @@
-use Rattle.std.proofs.Common.{◌≡◌, ◌∙◌, ℕ, ◌+◌, ◌*◌, ◌≤◌, length, Ok, Err, refl, ap, sym, subst, arith}
+use Rattle.std.proofs.Common.{◌∙◌, ℕ, ◌+◌, ◌≤◌, length, Ok, Err, refl, ap, sym, arith}
 use Rattle.std.proofs.lemmas.Result.{err_from_is_err_and}
-use Rattle.physical_stream.specs.Cycles.{Cycle, cycle_in}
-use Rattle.cycle_trace.specs.RowSink.{CanTake, with_row}
+use Rattle.physical_stream.specs.Cycles.{cycle_in}
+use Rattle.cycle_trace.specs.RowSink.{with_row}
 use Rattle.cycle_trace.specs.Trace.{owed, params_of_heads}
 use Rattle.cycle_trace.specs.declared.fault.TraceFault.TheVariants.{RowsLeft}
 use Rattle.cycle_trace.proofs.BeginningLemmas.{left-fails, row-fails, row-ok}

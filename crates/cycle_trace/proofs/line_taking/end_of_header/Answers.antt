@@ -1,7 +1,6 @@
-use Rattle.std.proofs.Common.{◌≡◌, ◌∙◌, ℕ, ◌+◌, ◌*◌, ◌≤◌, ◌<◌, [], length, Err, ap, sym, arith}
+use Rattle.std.proofs.Common.{◌≡◌, ◌∙◌, ℕ, ◌+◌, ◌*◌, ◌≤◌, ◌<◌, length, Err, ap, sym, arith}
 use Rattle.cycle_trace.specs.Beginnings.{begun}
 use Rattle.cycle_trace.specs.RowsText.{cut_row}
-use Rattle.cycle_trace.specs.Trace.{most_cycles}
 use Rattle.cycle_trace.specs.TraceText.{trace_of}
 use Rattle.cycle_trace.specs.declared.fault.TraceFault.TheVariants.{BadHeader, RowsLeft}
 use Rattle.cycle_trace.proofs.BeginningLemmas.{IsFault-cut, header-cut, header-end, header-end_many, rows_on-cut_at, rows_on-end_at, rows_on-rest_at}

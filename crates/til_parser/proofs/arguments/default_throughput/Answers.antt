@@ -1,5 +1,5 @@
 use Rattle.std.proofs.Common.{refl, arith}
-use Rattle.til_parser.proofs.FractionLemmas.{lowest_from_Some}
+use Rattle.til_parser.proofs.numbers.FractionLemmas.{lowest_from_Some}
 use Rattle.til_parser.proofs.arguments.default_throughput.Goals as goal
 
 pub returns : goal.returns

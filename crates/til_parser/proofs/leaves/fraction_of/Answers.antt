@@ -1,7 +1,7 @@
 use Rattle.std.proofs.Common.{◌-◌, length, take, drop, refl, ◌∙◌, arith}
 use Rattle.til_parser.specs.Numbers.{numerator_of, denominator_of, digits_before, digits_behind}
-use Rattle.til_parser.proofs.FractionLemmas.{lowest_from_Some}
-use Rattle.til_parser.proofs.NumberLemmas.{AreParts-number, room-whole, room-behind, read_on-append, cut-before, cut-behind, tens_pos, tens_fit}
+use Rattle.til_parser.proofs.numbers.FractionLemmas.{lowest_from_Some}
+use Rattle.til_parser.proofs.numbers.NumberLemmas.{AreParts-number, room-whole, room-behind, read_on-append, cut-before, cut-behind, tens_pos, tens_fit}
 use Rattle.til_parser.proofs.leaves.fraction_of.Goals as goal
 
 pub with_digits-whole-requires-clause-digits : goal.with_digits-whole-requires-clause-digits

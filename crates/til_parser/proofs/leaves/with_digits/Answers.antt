@@ -1,6 +1,6 @@
 use Rattle.std.proofs.Common.{◌∙◌, sym, arith}
 use Rattle.tydi_base.proofs.DecimalLaws.{read_on-drop}
-use Rattle.til_parser.proofs.NumberLemmas.{room-next, room-fits}
+use Rattle.til_parser.proofs.numbers.NumberLemmas.{room-next, room-fits}
 use Rattle.til_parser.proofs.leaves.with_digits.Goals as goal
 
 pub overflow_mul-value : goal.overflow_mul-value

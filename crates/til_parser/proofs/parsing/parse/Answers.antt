@@ -4,7 +4,7 @@ use Rattle.til_parser.specs.Lexemes.{lexemes_of}
 use Rattle.til_parser.specs.ReadDecls.{project}
 use Rattle.til_parser.proofs.LawLemmas.{AreFormed-lexemes}
 use Rattle.til_parser.proofs.LexemeLemmas.{length-lexemes}
-use Rattle.til_parser.proofs.ParseLemmas.{project_sound, said_none, said_exact, names-token}
+use Rattle.til_parser.proofs.rules.ParseLemmas.{project_sound, said_none, said_exact, names-token}
 use Rattle.til_parser.proofs.parsing.parse.Goals as goal
 
 pub new-parser-requires-clause-each : goal.new-parser-requires-clause-each

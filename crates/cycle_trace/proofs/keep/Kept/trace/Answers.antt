@@ -1,4 +1,4 @@
-use Rattle.std.proofs.Common.{◌≡◌, ℕ, ◌*◌, length, arith}
+use Rattle.std.proofs.Common.{◌≡◌, ◌*◌, length}
 use Rattle.cycle_trace.proofs.KeepLemmas.{text-many, text-whole}
 use Rattle.cycle_trace.proofs.keep.Kept.trace.Goals as goal
 

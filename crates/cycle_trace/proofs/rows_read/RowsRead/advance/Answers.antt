@@ -1,7 +1,4 @@
-use Rattle.std.proofs.Common.{◌≡◌, ◌∙◌, ℕ, ◌+◌, ◌<◌, ◌==◌, if◌then◌else◌, length, refl, ap, arith}
-use Rattle.std.proofs.lemmas.Option.{slice_get_within}
-use Rattle.cycle_trace.specs.Trace.{owed, params_of_heads}
-use Rattle.cycle_trace.proofs.KeepLemmas.{length-owed_heads}
+use Rattle.std.proofs.Common.{◌∙◌, ℕ, ◌+◌, ◌==◌, if◌then◌else◌, refl, ap, arith}
 use Rattle.cycle_trace.proofs.RowsReadLemmas.{many_streams, stream_in, wants, ReadsRows-more}
 use Rattle.cycle_trace.proofs.rows_read.RowsRead.advance.Goals as goal
 

@@ -1,4 +1,4 @@
-use Rattle.std.proofs.Common.{◌≡◌, ◌∙◌, ℕ, ◌+◌, ◌==◌, if◌then◌else◌, length, ap, sym, subst, arith}
+use Rattle.std.proofs.Common.{◌∙◌, ℕ, ◌+◌, ◌==◌, if◌then◌else◌, length, ap, sym, subst, arith}
 use Rattle.physical_stream.specs.Cycles.{cycle_in}
 use Rattle.physical_stream.specs.declared.head.Header.{Header}
 use Rattle.cycle_trace.specs.Surveying.{IsNextRow}

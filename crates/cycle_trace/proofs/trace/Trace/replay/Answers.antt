@@ -1,8 +1,8 @@
-use Rattle.std.proofs.Common.{◌≡◌, ◌∙◌, ◌+◌, ◌<◌, List, length, get_or, Option, Some, ap, sym, subst}
+use Rattle.std.proofs.Common.{◌≡◌, ◌∙◌, ◌<◌, List, length, get_or, Option, Some, ap, sym, subst}
 use Rattle.physical_stream.specs.Cycles.{Cycle}
 use Rattle.physical_stream.specs.declared.transfer.Transfer.{Transfer}
 use Rattle.cycle_trace.specs.RowSink.{CanTake, with_row}
-use Rattle.cycle_trace.specs.Trace.{TraceText, cycle_of}
+use Rattle.cycle_trace.specs.Trace.{TraceText}
 use Rattle.cycle_trace.specs.declared.own_row.OwnRow.{OwnRow}
 use Rattle.cycle_trace.proofs.KeepLemmas.{first_rows, replay_can, replay_next}
 use Rattle.cycle_trace.proofs.trace.Trace.replay.Goals as goal

@@ -1,4 +1,4 @@
-use Rattle.std.proofs.Common.{◌≡◌, ◌∙◌, List, [], ◌∷◌, ℕ, ◌++◌, length, true, ◌==◌, sym, subst, arith}
+use Rattle.std.proofs.Common.{◌∙◌, List, [], ◌∷◌, ℕ, ◌++◌, sym, subst}
 use Rattle.cycle_trace.specs.ReaderView.{Stands}
 use Rattle.cycle_trace.proofs.ReaderLemmas.{StandsAt-more, no_line}
 use Rattle.cycle_trace.proofs.trace_reader.TraceReader.end_line.Goals as goal

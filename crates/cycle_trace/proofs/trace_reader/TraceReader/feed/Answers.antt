@@ -1,4 +1,4 @@
-use Rattle.std.proofs.Common.{◌∙◌, [], sym}
+use Rattle.std.proofs.Common.{[]}
 use Rattle.tydi_base.specs.Pieces.{lines_of}
 use Rattle.cycle_trace.specs.ReaderView.{StandsFor}
 use Rattle.cycle_trace.proofs.ReaderLemmas.{FedSoFar-more, plain-first}

@@ -11,7 +11,7 @@ use Rattle.tydi_reading.specs.Lists.{separated, steps, steps_turn, separator_tur
 use Rattle.tydi_reading.specs.Reading.{and_then, turned, loop, ◌<$>◌}
 use Rattle.tydi_reading.proofs.LoopLemmas.{loop_unfolds, separated_turn-advances, steps_turn-advances, eaten-least}
 use Rattle.til_parser.proofs.WordLemmas.{passed, eaten, still, then_taken, at_group, at_union, at_stream, at_path}
-use Rattle.til_parser.proofs.Shrinking.{Shrinks-part, Shrinks-argument}
+use Rattle.til_parser.proofs.rules.Shrinking.{Shrinks-part, Shrinks-argument}
 use Rattle.til_parser.proofs.parser.Parser.+ltype.Goals as goal
 
 -- ---- a type

@@ -3,7 +3,7 @@ use Rattle.std.proofs.lemmas.Grind.{common_steps}
 use Rattle.til_parser.specs.ReadDecls.{namespace}
 use Rattle.tydi_reading.specs.Lists.{repeated, repeated_turn}
 use Rattle.tydi_reading.proofs.LoopLemmas.{loop_unfolds, repeated_turn-advances}
-use Rattle.til_parser.proofs.Shrinking.{Shrinks-namespace}
+use Rattle.til_parser.proofs.rules.Shrinking.{Shrinks-namespace}
 use Rattle.til_parser.proofs.parser.Parser.namespaces.Goals as goal
 
 pub returns-in_err-namespace : goal.returns-in_err-namespace

@@ -5,7 +5,7 @@ use Rattle.til_parser.specs.Reading.{is_kind}
 use Rattle.til_parser.specs.ReadTypes.{name, path}
 use Rattle.tydi_reading.specs.Lists.{joined, joined_turn, mark}
 use Rattle.tydi_reading.proofs.LoopLemmas.{loop_unfolds, joined_turn-advances, eaten-less}
-use Rattle.til_parser.proofs.Shrinking.{Shrinks-name}
+use Rattle.til_parser.proofs.rules.Shrinking.{Shrinks-name}
 use Rattle.til_parser.proofs.parser.Parser.path.Goals as goal
 
 pub returns-in_err-name : goal.returns-in_err-name

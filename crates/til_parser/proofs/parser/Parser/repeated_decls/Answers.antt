@@ -5,7 +5,7 @@ use Rattle.til_parser.specs.Reading.{is_kind}
 use Rattle.til_parser.specs.ReadDecls.{decl}
 use Rattle.tydi_reading.specs.Lists.{repeated, repeated_turn}
 use Rattle.tydi_reading.proofs.LoopLemmas.{loop_unfolds, repeated_turn-advances}
-use Rattle.til_parser.proofs.Shrinking.{Shrinks-decl}
+use Rattle.til_parser.proofs.rules.Shrinking.{Shrinks-decl}
 use Rattle.til_parser.proofs.parser.Parser.repeated_decls.Goals as goal
 
 pub returns-in_err-decl : goal.returns-in_err-decl

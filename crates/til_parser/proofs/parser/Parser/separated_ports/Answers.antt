@@ -6,7 +6,7 @@ use Rattle.til_parser.specs.ReadDecls.{port}
 use Rattle.tydi_reading.specs.Lists.{separated, steps, steps_turn, separator_turn, mark}
 use Rattle.tydi_reading.specs.Reading.{◌<$>◌}
 use Rattle.tydi_reading.proofs.LoopLemmas.{loop_unfolds, separated_turn-advances, eaten-least}
-use Rattle.til_parser.proofs.Shrinking.{Shrinks-port}
+use Rattle.til_parser.proofs.rules.Shrinking.{Shrinks-port}
 use Rattle.til_parser.proofs.parser.Parser.separated_ports.Goals as goal
 
 pub returns-in_err-port : goal.returns-in_err-port

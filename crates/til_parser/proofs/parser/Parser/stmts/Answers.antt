@@ -5,7 +5,7 @@ use Rattle.til_parser.specs.Reading.{is_kind}
 use Rattle.til_parser.specs.ReadDecls.{stmt, braced}
 use Rattle.tydi_reading.specs.Lists.{repeated, repeated_turn}
 use Rattle.tydi_reading.proofs.LoopLemmas.{loop_unfolds, repeated_turn-advances}
-use Rattle.til_parser.proofs.Shrinking.{Shrinks-stmt}
+use Rattle.til_parser.proofs.rules.Shrinking.{Shrinks-stmt}
 use Rattle.til_parser.proofs.parser.Parser.stmts.Goals as goal
 
 pub returns-in_err-stmt : goal.returns-in_err-stmt

@@ -1,0 +1,7 @@
+use Rattle.std.proofs.Common.{◌≡◌, Some, take}
+use Rattle.cycle_trace.proofs.StrobeLemmas.{number_in}
+use Rattle.cycle_trace.proofs.row_fields.number_of_digits.Given as goal
+
+-- the digits so far spell the number so far
+abbrev pub invariant-digits : goal.invariant-digits
+invariant-digits l = number_in (take l.digit-index l.digits) ≡ Some l.number

@@ -1,0 +1,8 @@
+use Rattle.std.proofs.Common.{◌≡◌, ◌++◌, take}
+use Rattle.std.specs.List.{flat_map}
+use Rattle.cycle_trace.specs.Spelling.{head_text}
+use Rattle.cycle_trace.proofs.writing.StreamLinesWritten.write_to.Given as goal
+
+-- the lines so far stand behind what was there
+abbrev pub invariant-heads : goal.invariant-heads
+invariant-heads l = l.out ≡ l.initial.out ++ flat_map head_text (take l.head-index l.head-items)

@@ -1,0 +1,308 @@
+//! The rows of a trace text.
+
+ghost use Rattle.std.specs.Prelude.{◌≡◌, ◌≢◌, ◌≤◌, ◌<◌, ◌^◌, ℕ, length, [], ◌∷◌, Ok, option_map, false, IfErr, IfSome, IsSome};
+ghost use Rattle.tydi_base.specs.Bits.{number_of_bits};
+ghost use Rattle.tydi_base.specs.Hex.{bits_of_digits};
+ghost use Rattle.tydi_base.specs.Pieces.{words_of};
+ghost use Rattle.tydi_base.specs.Reading.{Gives};
+ghost use Rattle.cycle_trace.specs.Faults.{fault_in, not_form_in};
+ghost use Rattle.cycle_trace.specs.RowStart.{row_start};
+ghost use Rattle.cycle_trace.specs.RowText as spec;
+ghost use Rattle.cycle_trace.specs.RowKept.{cycle_in, shown_in};
+ghost use Rattle.cycle_trace.specs.Widths.{HasWidths};
+ghost use Rattle.cycle_trace.specs.WordsLeft.{words_left};
+
+use crate::fault::{NotForm, TraceFault};
+use crate::row_form::row_fault;
+use crate::row_layout::{RowLayout, WordSignal};
+use crate::words_left::WordsLeft;
+use physical_stream::Transfer;
+use tydi_base::{Bits, digit_value, read_decimal};
+
+/// The value of the first word, which is this key, `=` and the value; and the words after it.
+#[inline(never)]
+#[tactic(auto, unfolding(crate::specs::RowText::value_of))]
+fn value_of<'a>(key: u8, words: WordsLeft<'a>) -> Result<(&'a [u8], WordsLeft<'a>), NotForm>
+    ensures { Gives not_form_in (λ x. (x.0.now, words_left x.1)) result (spec.value_of key (words_left words.entry)) }
+{
+    match words.next_word() {
+        Some(([k, b'=', value @ ..], rest)) if *k == key => Ok((value, rest)),
+        _ => Err(NotForm),
+    }
+}
+
+/// Reads a word of bits: nothing where the signal is absent, else exactly its hexadecimal digits. Only its width is as before
+/// where they spell no word.
+#[inline(always)]
+#[tactic(auto, unfolding(crate::specs::RowText::word_field))]
+fn read_word<'a>(
+    bits: &mut Bits,
+    signal: WordSignal,
+    key: u8,
+    words: WordsLeft<'a>,
+) -> Result<WordsLeft<'a>, NotForm>
+    requires wide { length bits.old ≡ signal.width }
+    requires absent { signal.present ≡ false → signal.width ≡ 0 }
+    ensures read { Gives not_form_in (λ rest. (bits.new, words_left rest)) result (spec.word_field signal.present key signal.width (words_left words.entry)) }
+    ensures wide { length bits.new ≡ length bits.old }
+{
+    if !signal.present {
+        return Ok(words);
+    }
+    let size = signal.width.div_ceil(4);
+    let Some((digits, rest)) = words.sized_value(key, size) else {
+        return Err(NotForm);
+    };
+    if bits.read_exact_hex(digits) {
+        Ok(rest)
+    } else {
+        Err(NotForm)
+    }
+}
+
+/// The number of a lane that at most five digits spell, below a limit.
+fn index_of(limit: u32, digits: &[u8]) -> Result<u16, NotForm>
+    requires { limit ≤ 2 ^ 16 }
+    ensures { (width : ℕ) → limit ≡ 2 ^ width → Gives not_form_in (λ n. n) result (spec.index_of width digits.now) }
+{
+    if digits.len() > 5 {
+        return Err(NotForm);
+    }
+    let Some(n) = read_decimal(digits) else {
+        return Err(NotForm);
+    };
+    if n >= u64::from(limit) {
+        return Err(NotForm);
+    }
+    Ok(n as u16)
+}
+
+/// The number of a lane: its default where the signal is absent.
+#[inline(always)]
+#[tactic(auto, unfolding(crate::specs::RowText::index_field))]
+fn index_field<'a>(
+    present: bool,
+    key: u8,
+    limit: u32,
+    default: u16,
+    words: WordsLeft<'a>,
+) -> Result<(u16, WordsLeft<'a>), NotForm>
+    requires { limit ≤ 2 ^ 16 }
+    ensures { (width : ℕ) → limit ≡ 2 ^ width → Gives not_form_in (λ x. (x.0, words_left x.1)) result (spec.index_field present key width default (words_left words.entry)) }
+{
+    if !present {
+        return Ok((default, words));
+    }
+    let (digits, rest) = value_of(key, words)?;
+    Ok((index_of(limit, digits)?, rest))
+}
+
+/// The number that hexadecimal digits spell, the highest first.
+fn number_of_digits(digits: &[u8]) -> Option<u128>
+    requires { length digits.now ≤ 32 }
+    ensures { result ≡ option_map number_of_bits (bits_of_digits digits.now) }
+{
+    let mut number: u128 = 0;
+    'digits: for digit in digits {
+        number = 16 * number + u128::from(digit_value(*digit)?);
+    }
+    Some(number)
+}
+
+/// The strobe bits: all ones where the signal is absent.
+#[inline(always)]
+#[tactic(auto, unfolding(crate::specs::RowText::strobe_field))]
+fn strobe_field<'a>(
+    layout: &RowLayout,
+    words: WordsLeft<'a>,
+) -> Result<(u128, WordsLeft<'a>), NotForm>
+    ensures { Gives not_form_in (λ x. (x.0, words_left x.1)) result (spec.strobe_field layout.now.strb.present layout.now.params.lanes (words_left words.entry)) }
+{
+    if !layout.strb.present {
+        return Ok((layout.all_lanes, words));
+    }
+    let size = layout.strb.width.div_ceil(4);
+    let Some((digits, rest)) = words.sized_value(b'b', size) else {
+        return Err(NotForm);
+    };
+    let Some(number) = number_of_digits(digits) else {
+        return Err(NotForm);
+    };
+    if number > layout.all_lanes {
+        return Err(NotForm);
+    }
+    Ok((number, rest))
+}
+
+/// That no word is left.
+#[inline(always)]
+#[tactic(auto, unfolding(crate::specs::RowText::no_more))]
+fn no_more(words: WordsLeft) -> Result<(), NotForm>
+    ensures { Gives not_form_in (λ fine. fine) result (spec.no_more (words_left words.entry)) }
+{
+    if words.is_empty() {
+        Ok(())
+    } else {
+        Err(NotForm)
+    }
+}
+
+/// Reads the transfer that the words of a payload spell. Only the widths of its words are as before where they spell none.
+#[tactic(auto, unfolding(crate::specs::RowText::transfer_of))]
+fn read_transfer(layout: &RowLayout, kept: &mut Transfer, words: WordsLeft) -> Result<(), NotForm>
+    requires { HasWidths layout.now.params kept.old }
+    ensures read { Gives not_form_in (λ _. kept.new) result (spec.transfer_of layout.now.params (words_left words.entry)) }
+    ensures widths { HasWidths layout.now.params kept.new }
+{
+    let limit = layout.index_limit;
+    let words = read_word(&mut kept.content, layout.content, b'd', words)?;
+    let words = read_word(&mut kept.last, layout.last, b'l', words)?;
+    let (stai, words) = index_field(layout.has_stai, b's', limit, 0, words)?;
+    kept.stai = stai;
+    let (endi, words) = index_field(layout.has_endi, b'e', limit, layout.last_lane, words)?;
+    kept.endi = endi;
+    let (strb, words) = strobe_field(layout, words)?;
+    kept.strb = strb;
+    let words = read_word(&mut kept.user, layout.user, b'u', words)?;
+    no_more(words)
+}
+
+/// Whether the payload is the word `-` alone.
+pub(crate) fn is_dash(words: WordsLeft) -> bool
+    ensures { result ≡ spec.is_dash (words_left words.entry) }
+{
+    match words.next_word() {
+        Some((word, rest)) => word == b"-".as_slice() && rest.is_empty(),
+        None => false,
+    }
+}
+
+/// The words of the payload of a cycle with valid: none where `-` stands for them.
+#[tactic(auto, unfolding(crate::specs::RowText::payload_of))]
+fn payload_of<'a>(layout: &RowLayout, words: WordsLeft<'a>) -> Result<WordsLeft<'a>, NotForm>
+    ensures { Gives not_form_in words_left result (spec.payload_of layout.now.params (words_left words.entry)) }
+{
+    if layout.has_payload {
+        Ok(words)
+    } else if is_dash(words) {
+        Ok(WordsLeft::none())
+    } else {
+        Err(NotForm)
+    }
+}
+
+/// Reads what a cycle shows.
+#[tactic(auto, unfolding(crate::specs::RowText::shown_of))]
+fn read_shown(
+    layout: &RowLayout,
+    kept: &mut Transfer,
+    valid: bool,
+    words: WordsLeft,
+) -> Result<(), NotForm>
+    requires { HasWidths layout.now.params kept.old }
+    ensures read { Gives not_form_in (λ _. shown_in kept.new valid) result (spec.shown_of layout.now.params valid (words_left words.entry)) }
+    ensures widths { HasWidths layout.now.params kept.new }
+{
+    if valid {
+        let payload = payload_of(layout, words)?;
+        return read_transfer(layout, kept, payload);
+    }
+    if is_dash(words) { Ok(()) } else { Err(NotForm) }
+}
+
+/// The bit that a word is.
+#[tactic(auto, unfolding(crate::specs::RowText::bit_of))]
+fn bit_of(word: &[u8]) -> Result<bool, NotForm>
+    ensures { Gives not_form_in (λ bit. bit) result (spec.bit_of word.now) }
+{
+    if word == b"1".as_slice() {
+        Ok(true)
+    } else if word == b"0".as_slice() {
+        Ok(false)
+    } else {
+        Err(NotForm)
+    }
+}
+
+/// The bit that a byte is.
+#[inline(always)]
+#[tactic(auto, unfolding(crate::specs::RowText::bit_of))]
+fn bit_in(byte: u8) -> Option<bool>
+    ensures bit { IfSome result (λ bit. spec.bit_of (byte ∷ []) ≡ Ok bit) }
+    ensures plain { IfSome result (λ bit. byte ≢ 32) }
+{
+    if byte == b'1' {
+        Some(true)
+    } else if byte == b'0' {
+        Some(false)
+    } else {
+        None
+    }
+}
+
+/// The valid bit and the ready bit of a row, and what follows the space after them. None where a row does not begin so.
+#[inline(always)]
+fn two_bits(line: &[u8]) -> Option<(bool, bool, &[u8])>
+    ensures { IfSome result (λ x. row_start (words_of line.now) ≡ Ok (x.0, x.1, words_of x.2.now)) }
+{
+    if line.len() < 4 || line[1] != b' ' || line[3] != b' ' {
+        return None;
+    }
+    let valid = bit_in(line[0])?;
+    let ready = bit_in(line[2])?;
+    Some((valid, ready, &line[4..]))
+}
+
+/// The valid bit and the ready bit of a row, and the words of its payload.
+#[inline(always)]
+#[tactic(auto, unfolding(crate::specs::RowStart::row_start))]
+fn start_of(line: &[u8]) -> Result<(bool, bool, WordsLeft<'_>), NotForm>
+    ensures { Gives not_form_in (λ x. (x.0, x.1, words_left x.2)) result (row_start (words_of line.now)) }
+{
+    if let Some((valid, ready, payload)) = two_bits(line) {
+        return Ok((valid, ready, WordsLeft::of(payload)));
+    }
+    let (valid, words) = WordsLeft::of(line).next_word().ok_or(NotForm)?;
+    let (ready, payload) = words.next_word().ok_or(NotForm)?;
+    let valid = bit_of(valid)?;
+    let ready = bit_of(ready)?;
+    Ok((valid, ready, payload))
+}
+
+/// The valid bit and the ready bit of a row.
+#[derive(Clone, Copy, Debug, PartialEq, Eq)]
+pub(crate) struct RowBits {
+    pub valid: bool,
+    pub ready: bool,
+}
+
+/// Reads the cycle that a row spells: its bits, and what it shows.
+#[tactic(auto, using(crate::proofs::RowStartLemmas::row_of_start))]
+fn read_row(layout: &RowLayout, kept: &mut Transfer, line: &[u8]) -> Result<RowBits, NotForm>
+    requires { HasWidths layout.now.params kept.old }
+    ensures read { Gives not_form_in (cycle_in kept.new) result (spec.row_of layout.now.params line.now) }
+    ensures widths { HasWidths layout.now.params kept.new }
+{
+    let (valid, ready, payload) = start_of(line)?;
+    read_shown(layout, kept, valid, payload)?;
+    Ok(RowBits { valid, ready })
+}
+
+/// Reads the cycle that the line of this number spells: its bits, and what it shows. It takes no memory.
+#[tactic(auto, unfolding(crate::specs::RowText::row_at))]
+pub(crate) fn row_at(
+    layout: &RowLayout,
+    kept: &mut Transfer,
+    number: u64,
+    line: &[u8],
+) -> Result<RowBits, TraceFault>
+    requires { HasWidths layout.now.params kept.old }
+    ensures read { Gives fault_in (cycle_in kept.new) result (spec.row_at number layout.now.params line.now) }
+    ensures widths { HasWidths layout.now.params kept.new }
+    ensures calm { IfErr result (λ e. IsSome (fault_in e)) }
+{
+    match read_row(layout, kept, line) {
+        Ok(bits) => Ok(bits),
+        Err(_) => Err(row_fault(number, line)),
+    }
+}

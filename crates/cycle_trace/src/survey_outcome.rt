@@ -1,0 +1,98 @@
+//! What a survey keeps of a trace: a checker for each stream, and the first offence.
+
+ghost use Rattle.std.specs.Prelude.{◌≡◌, ◌<◌, ◌≤◌, [], ◌+◌, length, map, slice_get, IfOk, MatchOption, Result, Option, Some, None, Ok, Err, IfSome, if◌then◌else◌, ◌==◌};
+ghost use Rattle.physical_stream.specs.First.{Offends, IsFirst};
+ghost use Rattle.cycle_trace.specs.Survey.{Answers, counts_of, first_unfinished};
+ghost use Rattle.cycle_trace.specs.declared.counts.Counts.{Counts};
+ghost use Rattle.cycle_trace.specs.declared.counts.SurveyFault.{SurveyFault};
+ghost use Rattle.cycle_trace.specs.declared.counts.SurveyFault.TheVariants as faults;
+ghost use Rattle.cycle_trace.specs.Surveying.{AreChecked, HaveCheckers, RowsSay};
+ghost use Rattle.cycle_trace.specs.Trace.{TraceText, streams_of};
+
+use crate::counts::{Counts, SurveyFault};
+use complexity_rules::Checker;
+use physical_stream::{End, Head, Rule};
+use std::alloc::Global;
+use tydi_base::{List, Memory};
+
+/// An offence: its cycle and its stream, from 0, and the rule.
+#[derive(Clone, Copy, Debug, PartialEq, Eq)]
+pub(crate) struct FoundOffence {
+    pub cycle: u32,
+    pub stream: usize,
+    pub rule: Rule,
+}
+
+impl FoundOffence {
+    /// What a survey answers that found it.
+    pub(crate) fn fault(self) -> SurveyFault
+        ensures { result ≡ faults.Offence self.cycle self.stream self.rule }
+    {
+        SurveyFault::Offence {
+            cycle: self.cycle,
+            stream: self.stream,
+            rule: self.rule,
+        }
+    }
+}
+
+/// A checker for each stream, which has seen no row.
+pub(crate) fn checkers_of(alloc: Global, heads: &[Head]) -> Result<Vec<Checker>, Memory>
+    ensures { IfOk result (λ checkers. HaveCheckers heads.now (length heads.now) checkers.items) }
+{
+    let mut checkers = Vec::with_capacity(alloc, heads.len())?;
+    'heads: for head in heads {
+        checkers.push(Checker::new(alloc, head.params)?)?;
+    }
+    Ok(checkers)
+}
+
+/// What the rows so far say: the first offence; else the counts, or the first stream that does not end whole.
+pub(crate) fn outcome_of(
+    alloc: Global,
+    found: Option<FoundOffence>,
+    checkers: &[Checker],
+) -> Result<Counts, SurveyFault>
+    ensures { (t : TraceText) → RowsSay t checkers.now found → Answers (streams_of t) result }
+{
+    match found {
+        Some(found) => Err(found.fault()),
+        None => count(alloc, checkers),
+    }
+}
+
+/// The counts of all streams, or the first one that does not end whole, where no row breaks a rule.
+fn count(alloc: Global, checkers: &[Checker]) -> Result<Counts, SurveyFault>
+    ensures { (t : TraceText) → AreChecked t checkers.now → IsFirst (Offends (streams_of t)) None → Answers (streams_of t) result }
+{
+    if let Some(fault) = unfinished(checkers) {
+        return Err(fault);
+    }
+    Ok(counts_of(alloc, checkers)?)
+}
+
+/// That a stream does not end whole, and which the first one is.
+fn unfinished(checkers: &[Checker]) -> Option<SurveyFault>
+    ensures { (t : TraceText) → AreChecked t checkers.now → (found : Result Counts SurveyFault) → MatchOption result
+        (first_unfinished 0 (streams_of t) found ≡ found)
+        (λ fault. first_unfinished 0 (streams_of t) found ≡ Err fault) }
+{
+    'checkers: for (stream, checker) in checkers.iter().enumerate() {
+        match checker.end() {
+            End::Whole => {}
+            end => return Some(SurveyFault::Unfinished { stream, end }),
+        }
+    }
+    None
+}
+
+/// The transfers and the packets that each stream has done.
+fn counts_of(alloc: Global, checkers: &[Checker]) -> Result<Counts, Memory>
+    ensures { IfOk result (λ counts. (t : TraceText) → AreChecked t checkers.now → counts ≡ counts_of (streams_of t)) }
+{
+    let mut streams = List::new(alloc);
+    'checkers: for checker in checkers {
+        streams.push((checker.transfers(), checker.packets()))?;
+    }
+    Ok(Counts { streams })
+}

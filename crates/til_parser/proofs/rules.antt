@@ -1,0 +1,12 @@
+pub mod TokenRules
+pub mod LeafRules
+pub mod ListRules
+pub mod ArgumentFields
+pub mod ArgumentRules
+pub mod StreamRules
+pub mod TypeRules
+pub mod BodyRules
+pub mod DeclRules
+pub mod ProjectRules
+pub mod Shrinking
+pub mod ParseLemmas

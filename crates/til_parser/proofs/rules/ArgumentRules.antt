@@ -1,0 +1,416 @@
+-- The rule of one argument of a Stream, beside those that are given.
+use Rattle.std.proofs.Common.{◌≡◌, ℕ, ◌⊎◌, inl, inr, ⊎_elim, Bool, true, false, cond, ◌&&◌, List, [], ◌∷◌, Option, Some, None, refl, sym, ap, ◌∙◌, subst, codes}
+use Rattle.std.specs.Option.{is_none}
+use Rattle.std.proofs.lemmas.Option.{none-some, same_Some}
+use Rattle.tydi_reading.specs.declared.fault.Fault.TheVariants as faults
+use Rattle.tydi_reading.specs.Forms.{Never, Anything, ◌⋯◌}
+use Rattle.tydi_reading.specs.Reading.{stopped, Reader, and_then, meant, leaf, refuse, ◌>>=◌, ◌>>◌, ◌<$>◌}
+use Rattle.tydi_reading.specs.Rules.{IsRule}
+use Rattle.tydi_reading.proofs.MarkRules.{skip-rule}
+use Rattle.tydi_reading.proofs.StepRules.{IsLeaf, leaf-rule, then-rule, map-rule, read-rule, same-rule}
+use Rattle.tydi_reading.proofs.StepsRule.{IsStuck}
+use Rattle.til_lexer.specs.declared.token.TokenKind.TheVariants as kinds
+use Rattle.til_parser.specs.declared.arguments.Arguments.{Arguments}
+use Rattle.til_parser.specs.declared.ltype.AstType.{AstType}
+use Rattle.til_parser.specs.Grammar.{Form, Of, IsWord, Word, Whole, Number, Level, sync_word, direction_word, truth_word}
+use Rattle.til_parser.specs.Grammar.{Argument, data_type, throughput, dimensionality, synchronicity, complexity, direction, user_type, keep}
+use Rattle.til_parser.specs.Lexemes.{Lexeme, IsFormed}
+use Rattle.til_parser.specs.Reading.{same_kind, is_word, expect}
+use Rattle.til_parser.specs.ReadTypes.{whole, number, level, sync, either_word, labelled, setting, argument}
+use Rattle.til_parser.specs.Tree.{plain}
+use Rattle.til_parser.proofs.rules.ArgumentFields.{Value, field, put, field-put, field-put_other, one_or_two}
+use Rattle.til_parser.proofs.rules.LeafRules.{PathNext, number-rule, whole-rule, level-rule, sync-rule, either-rule}
+use Rattle.til_parser.proofs.rules.TokenRules.{both, made, word_is, one, kind-rule}
+
+-- the word of an argument
+abbrev pub word : Argument → List ℕ
+word data_type = codes "data"
+word throughput = codes "throughput"
+word dimensionality = codes "dimensionality"
+word synchronicity = codes "synchronicity"
+word complexity = codes "complexity"
+word direction = codes "direction"
+word user_type = codes "user"
+word keep = codes "keep"
+
+-- the reader of an argument's value
+abbrev pub value_reader : Reader Lexeme AstType → (a : Argument) → Reader Lexeme (Value a)
+value_reader inner data_type = inner
+value_reader inner throughput = number
+value_reader inner dimensionality = whole
+value_reader inner synchronicity = sync
+value_reader inner complexity = level
+value_reader inner direction = either_word (codes "Reverse") (codes "Forward")
+value_reader inner user_type = inner
+value_reader inner keep = either_word (codes "true") (codes "false")
+
+-- the tokens that spell the value of an argument
+abbrev pub Spelled : (AstType → Form) → (a : Argument) → Value a → Form
+Spelled Spells data_type x = Spells x
+Spelled Spells throughput x = Number x
+Spelled Spells dimensionality x = Whole x
+Spelled Spells synchronicity x = Word (sync_word x)
+Spelled Spells complexity x = Level x
+Spelled Spells direction x = Word (direction_word x)
+Spelled Spells user_type x = Spells x
+Spelled Spells keep x = Word (truth_word x)
+
+-- the tokens that spell an argument with its value
+abbrev pub Named : (AstType → Form) → (a : Argument) → Value a → Form
+Named Spells a x = Word (word a) ⋯ Of kinds.Colon ⋯ Spelled Spells a x
+
+-- ---- the name of an argument that is not given yet
+
+abbrev is_awaited : List ℕ → Bool → Lexeme → Bool
+is_awaited name free lexeme = is_word name lexeme && free
+
+-- the argument that a token names, where it is not given yet
+awaited : Arguments → Lexeme → Option Argument
+awaited given t =
+    cond (is_awaited (codes "data") (is_none given.element) t) (Some data_type)
+    (cond (is_awaited (codes "throughput") (is_none given.throughput) t) (Some throughput)
+    (cond (is_awaited (codes "user") (is_none given.user) t) (Some user_type)
+    (cond (is_awaited (codes "dimensionality") (is_none given.dims) t) (Some dimensionality)
+    (cond (is_awaited (codes "synchronicity") (is_none given.sync) t) (Some synchronicity)
+    (cond (is_awaited (codes "complexity") (is_none given.level) t) (Some complexity)
+    (cond (is_awaited (codes "direction") (is_none given.reverse) t) (Some direction)
+    (cond (is_awaited (codes "keep") (is_none given.keep) t) (Some keep) None)))))))
+
+-- a name that is not given yet
+abbrev pub Awaited : Arguments → Argument → Form
+Awaited given a ts = (field a given ≡ None) × Word (word a) ts
+
+is_none-of : {A : Type 0} (o : Option A) → is_none o ≡ true → o ≡ None
+is_none-of None e = refl
+is_none-of (Some x) e = absurd cc
+
+-- one choice more
+or_else : (b : Bool) (x a : Argument) (o : Option Argument) (Goal : Type 0) → cond b (Some x) o ≡ Some a → (b ≡ true → x ≡ a → Goal) → (o ≡ Some a → Goal) → Goal
+or_else true x a o Goal is first more = first refl (same_Some x a is)
+or_else false x a o Goal is first more = more is
+
+named : {A : Type 0} (x a : Argument) (o : Option A) (given : Arguments) (t : Lexeme) → (is_none o ≡ true → field x given ≡ None)
+    → is_awaited (word x) (is_none o) t ≡ true → x ≡ a → Awaited given a (t ∷ [])
+named x a o given t none test is =
+    let parts = both (is_word (word x) t) (is_none o) test in
+    subst (λ b. Awaited given b (t ∷ [])) is (none parts.1, one (IsWord (word x)) t (word_is (word x) t parts.0))
+
+awaited-there : (given : Arguments) (a : Argument) (t : Lexeme) → awaited given t ≡ Some a → Awaited given a (t ∷ [])
+unfolding awaited
+awaited-there given a t is =
+    or_else _ _ a _ _ is (named data_type a given.element given t (is_none-of given.element)) (λ is.
+    or_else _ _ a _ _ is (named throughput a given.throughput given t (is_none-of given.throughput)) (λ is.
+    or_else _ _ a _ _ is (named user_type a given.user given t (is_none-of given.user)) (λ is.
+    or_else _ _ a _ _ is (named dimensionality a given.dims given t (is_none-of given.dims)) (λ is.
+    or_else _ _ a _ _ is (named synchronicity a given.sync given t (is_none-of given.sync)) (λ is.
+    or_else _ _ a _ _ is (named complexity a given.level given t (is_none-of given.level)) (λ is.
+    or_else _ _ a _ _ is (named direction a given.reverse given t (is_none-of given.reverse)) (λ is.
+    or_else _ _ a _ _ is (named keep a given.keep given t (is_none-of given.keep)) (λ is. absurd (none-some a is)))))))))
+
+abbrev named_lexeme : Argument → Lexeme → Lexeme
+named_lexeme a t = record { kind = kinds.Word; spelling = word a; place = t.place }
+
+free : {A : Type 0} (x : Argument) (o : Option A) (more : Option Argument) → o ≡ None → cond (is_none o) (Some x) more ≡ Some x
+free x o more e = ap (λ (b : Bool). cond b (Some x) more) (ap is_none e)
+
+awaited-name : (given : Arguments) (a : Argument) (t : Lexeme) → field a given ≡ None → awaited given (named_lexeme a t) ≡ Some a
+unfolding awaited same_kind
+awaited-name given data_type t e = free data_type given.element _ e
+awaited-name given throughput t e = free throughput given.throughput _ e
+awaited-name given user_type t e = free user_type given.user _ e
+awaited-name given dimensionality t e = free dimensionality given.dims _ e
+awaited-name given synchronicity t e = free synchronicity given.sync _ e
+awaited-name given complexity t e = free complexity given.level _ e
+awaited-name given direction t e = free direction given.reverse _ e
+awaited-name given keep t e = free keep given.keep _ e
+
+awaited-is : (given : Arguments) (a : Argument) (t : Lexeme) → IsWord (word a) t → field a given ≡ None → awaited given t ≡ Some a
+awaited-is given a t is e = ap (awaited given) (λ i. record { kind = is.kind i; spelling = is.text i; place = t.place }) ∙ awaited-name given a t e
+
+awaited-leaf : (given : Arguments) → IsLeaf IsFormed (awaited given) (Awaited given)
+awaited-leaf given = record {
+  there = awaited-there given;
+  back = λ a ts each s. (s.1.lexeme, s.1.all, awaited-is given a s.1.lexeme s.1.is s.0);
+}
+
+has_form : (a : Argument) → IsFormed (made kinds.Word (word a))
+has_form data_type = refl
+has_form throughput = refl
+has_form dimensionality = refl
+has_form synchronicity = refl
+has_form complexity = refl
+has_form direction = refl
+has_form user_type = refl
+has_form keep = refl
+
+name-rule : (given : Arguments) (a : Argument) → field a given ≡ None → IsRule IsFormed (leaf (awaited given)) (Awaited given) (λ _. Anything) (λ _. Unit {0}) Never
+name-rule given a e = leaf-rule IsFormed (awaited given) (Awaited given) (made kinds.Word (word a)) a (has_form a)
+    (awaited-is given a (made kinds.Word (word a)) (record { kind = refl; text = refl }) e) (awaited-leaf given)
+
+-- ---- an argument
+
+-- what follows the name of an argument
+abbrev rest_reader : Reader Lexeme AstType → Arguments → Argument → Reader Lexeme Arguments
+rest_reader inner given a = (λ x. put a x given) <$> (expect kinds.Colon >> value_reader inner a)
+
+shape : Reader Lexeme AstType → Arguments → Reader Lexeme Arguments
+shape inner given = leaf (awaited given) >>= rest_reader inner given
+
+-- the first of some arguments whose test holds
+abbrev chain : Option Argument → List (Bool × Argument) → Option Argument
+chain o [] = o
+chain o (p ∷ more) = cond p.0 (Some p.1) (chain o more)
+
+-- what is read of the first of some arguments whose test holds
+abbrev chain_reader : (Argument → Reader Lexeme Arguments) → Reader Lexeme Arguments → List (Bool × Argument) → Reader Lexeme Arguments
+chain_reader R other [] = other
+chain_reader R other (p ∷ more) = cond p.0 (R p.1) (chain_reader R other more)
+
+module _ (R : Argument → Reader Lexeme Arguments) (k : Argument → Reader Lexeme Arguments) (t : Lexeme) (ts : List Lexeme)
+    (same : (a : Argument) → k a ts ≡ R a (t ∷ ts)) (o : Option Argument) (other : Reader Lexeme Arguments)
+    (last : and_then (meant o ts (t ∷ ts)) k ≡ other (t ∷ ts)) where
+  pick : (b : Bool) (x : Argument) (m : Option Argument) (more : Reader Lexeme Arguments) → and_then (meant m ts (t ∷ ts)) k ≡ more (t ∷ ts)
+      → and_then (meant (cond b (Some x) m) ts (t ∷ ts)) k ≡ (cond b (R x) more) (t ∷ ts)
+  pick true x m more is = same x
+  pick false x m more is = is
+
+  chain-same : (all : List (Bool × Argument)) → and_then (meant (chain o all) ts (t ∷ ts)) k ≡ (chain_reader R other all) (t ∷ ts)
+  chain-same [] = last
+  chain-same (p ∷ more) = pick p.0 p.1 (chain o more) (chain_reader R other more) (chain-same more)
+
+abbrev argument_of : Reader Lexeme AstType → Arguments → Argument → Reader Lexeme Arguments
+argument_of inner given a = (λ x. put a x given) <$> labelled (value_reader inner a)
+
+abbrev settings : Arguments → Lexeme → List (Bool × Argument)
+settings given t =
+    (is_awaited (codes "dimensionality") (is_none given.dims) t, dimensionality)
+    ∷ (is_awaited (codes "synchronicity") (is_none given.sync) t, synchronicity)
+    ∷ (is_awaited (codes "complexity") (is_none given.level) t, complexity)
+    ∷ (is_awaited (codes "direction") (is_none given.reverse) t, direction)
+    ∷ (is_awaited (codes "keep") (is_none given.keep) t, keep) ∷ []
+
+abbrev typed : Arguments → Lexeme → List (Bool × Argument)
+typed given t =
+    (is_awaited (codes "data") (is_none given.element) t, data_type)
+    ∷ (is_awaited (codes "throughput") (is_none given.throughput) t, throughput)
+    ∷ (is_awaited (codes "user") (is_none given.user) t, user_type) ∷ []
+
+rest-same : (inner : Reader Lexeme AstType) (given : Arguments) (t : Lexeme) (ts : List Lexeme) (a : Argument)
+    → rest_reader inner given a ts ≡ argument_of inner given a (t ∷ ts)
+unfolding labelled
+rest-same inner given t ts a = refl
+
+setting-same : (inner : Reader Lexeme AstType) (given : Arguments) (t : Lexeme) (ts : List Lexeme)
+    → and_then (meant (chain None (settings given t)) ts (t ∷ ts)) (rest_reader inner given) ≡ setting given (t ∷ ts)
+unfolding setting
+setting-same inner given t ts = chain-same (argument_of inner given) (rest_reader inner given) t ts (rest-same inner given t ts) None refuse refl (settings given t)
+
+shape-same : (inner : Reader Lexeme AstType) (given : Arguments) (ts : List Lexeme) → shape inner given ts ≡ argument inner given ts
+unfolding shape argument setting awaited
+shape-same inner given [] = refl
+shape-same inner given (t ∷ ts) = chain-same (argument_of inner given) (rest_reader inner given) t ts (rest-same inner given t ts) (chain None (settings given t))
+    (setting given) (setting-same inner given t ts) (typed given t)
+
+module _ (inner : Reader Lexeme AstType) (W : AstType → Type 0) (D : Form) (rule : IsRule IsFormed inner (λ x. Rattle.til_parser.specs.Grammar.SpellsType (plain x)) (λ _. PathNext) W D) where
+  abbrev S : AstType → Form
+  S x = Rattle.til_parser.specs.Grammar.SpellsType (plain x)
+
+  -- the types in a value are within their bounds
+  abbrev pub ValueWithin : (a : Argument) → Value a → Type 0
+  ValueWithin data_type x = W x
+  ValueWithin throughput x = Unit {0}
+  ValueWithin dimensionality x = Unit {0}
+  ValueWithin synchronicity x = Unit {0}
+  ValueWithin complexity x = Unit {0}
+  ValueWithin direction x = Unit {0}
+  ValueWithin user_type x = W x
+  ValueWithin keep x = Unit {0}
+
+  abbrev pub ValueDeep : Argument → Form
+  ValueDeep data_type = D
+  ValueDeep throughput = Never
+  ValueDeep dimensionality = Never
+  ValueDeep synchronicity = Never
+  ValueDeep complexity = Never
+  ValueDeep direction = Never
+  ValueDeep user_type = D
+  ValueDeep keep = Never
+
+  no_type : {A : Type 0} (p : Reader Lexeme A) (P : A → Form) → IsRule IsFormed p P (λ _. Anything) (λ _. Unit {0}) Never → IsRule IsFormed p P (λ _. PathNext) (λ _. Unit {0}) Never
+  no_type p P one = same-rule IsFormed p P (λ _. Anything) (λ _. Unit {0}) Never P (λ _. PathNext) (λ _. Unit {0}) Never
+      (record { there = λ x ts s. s; back = λ x ts s. s; follow = λ x rest next. tt; within = λ x w. w; apart = λ x w. w; first = λ ts d. d; deep = λ ts d. d }) one
+
+  direction_formed : (b : Bool) → Rattle.til_lexer.specs.Words.has_name_form (direction_word b) ≡ true
+  direction_formed true = refl
+  direction_formed false = refl
+
+  truth_formed : (b : Bool) → Rattle.til_lexer.specs.Words.has_name_form (truth_word b) ≡ true
+  truth_formed true = refl
+  truth_formed false = refl
+
+  value-rule : (a : Argument) → IsRule IsFormed (value_reader inner a) (Spelled S a) (λ _. PathNext) (ValueWithin a) (ValueDeep a)
+  value-rule data_type = rule
+  value-rule throughput = no_type number Number number-rule
+  value-rule dimensionality = no_type whole Whole whole-rule
+  value-rule synchronicity = no_type sync (λ x. Word (sync_word x)) sync-rule
+  value-rule complexity = no_type level Level level-rule
+  value-rule direction = no_type (either_word (codes "Reverse") (codes "Forward")) (λ b. Word (direction_word b)) (either-rule direction_word direction_formed refl)
+  value-rule user_type = rule
+  value-rule keep = no_type (either_word (codes "true") (codes "false")) (λ b. Word (truth_word b)) (either-rule truth_word truth_formed refl)
+
+  -- a value that is given is within its bounds
+  abbrev pub In : (a : Argument) → Option (Value a) → Type 0
+  In a None = Unit {0}
+  In a (Some x) = ValueWithin a x
+
+  -- one argument more
+  pub record Step (given next : Arguments) (ts : List Lexeme) : Type 0 where
+    pub name : Argument
+    pub is : Value name
+    pub absent : field name given ≡ None
+    pub added : next ≡ put name is given
+    pub spelled : Named S name is ts
+
+  -- what is added is within its bounds
+  abbrev pub StepWithin : Arguments → Arguments → Type 0
+  StepWithin given next = (b : Argument) → field b given ≡ None → In b (field b next)
+
+  -- what leads to something too deep in one argument more
+  pub record StepDeep (given : Arguments) (ts : List Lexeme) : Type 0 where
+    pub name : Argument
+    pub absent : field name given ≡ None
+    pub leads : (Word (word name) ⋯ Of kinds.Colon ⋯ ValueDeep name) ts
+
+  Rest : Arguments → Argument → Arguments → Form
+  Rest given a next ts = (x : Value a) × (next ≡ put a x given) × ((Of kinds.Colon ⋯ Spelled S a x) ts)
+
+  rest-rule : (given : Arguments) (a : Argument)
+      → IsRule IsFormed (rest_reader inner given a) (Rest given a) (λ _. PathNext) (λ next. In a (field a next)) (Of kinds.Colon ⋯ ValueDeep a)
+  unfolding Rest
+  rest-rule given a =
+      map-rule IsFormed (λ x. put a x given) (expect kinds.Colon >> value_reader inner a) (λ x. Of kinds.Colon ⋯ Spelled S a x) (λ _. PathNext) (ValueWithin a) (Of kinds.Colon ⋯ ValueDeep a)
+      (Rest given a) (λ _. PathNext) (λ next. In a (field a next)) (Of kinds.Colon ⋯ ValueDeep a)
+      (record {
+        there = λ x ts s. (x, refl, s);
+        back = λ next ts s. s;
+        follow = λ x rest next. next;
+        within = λ x w. subst (In a) (sym (field-put a x given)) w;
+        apart = λ x w. subst (In a) (field-put a x given) w;
+        first = λ ts d. d;
+        deep = λ ts d. d;
+      })
+      (skip-rule IsFormed (expect kinds.Colon) (value_reader inner a) (Of kinds.Colon) (Spelled S a) (λ _. PathNext) (ValueWithin a) (ValueDeep a)
+      (kind-rule kinds.Colon (codes ":") refl) (value-rule a))
+
+  added-within : (given next : Arguments) (a : Argument) (x : Value a) → next ≡ put a x given → In a (field a next) → StepWithin given next
+  added-within given next a x added inside b none = elim (one_or_two a b) [
+    | inl e ↦ subst (λ c. In c (field c next)) e inside
+    | inr apart ↦ subst (In b) (sym (ap (field b) added ∙ field-put_other b a x given apart ∙ none)) tt
+  ]
+
+  argument-rule : (given : Arguments) (a : Argument) → field a given ≡ None
+      → IsRule IsFormed (argument inner given) (Step given) (λ _. PathNext) (StepWithin given) (StepDeep given)
+  unfolding shape Rest
+  argument-rule given free_one none =
+      read-rule IsFormed (shape inner given) (argument inner given) (Step given) (λ _. PathNext) (StepWithin given) (StepDeep given) (shape-same inner given)
+      (then-rule IsFormed (leaf (awaited given)) (rest_reader inner given) (Awaited given) (λ _. Anything) (λ _. Unit {0}) Never
+      (Rest given) (λ _ _. PathNext) (λ a next. In a (field a next)) (λ a. Of kinds.Colon ⋯ ValueDeep a)
+      (Step given) (λ _. PathNext) (StepWithin given) (StepDeep given)
+      (record {
+        join = λ a next front back s r. record {
+          name = a;
+          is = r.0;
+          absent = s.0;
+          added = r.1;
+          spelled = record { front = front; back = back; all = refl; begins = s.1; ends = r.2 };
+        };
+        part = λ next ts s. (
+          s.name,
+          record {
+            front = s.spelled.front;
+            back = s.spelled.back;
+            all = s.spelled.all;
+            begins = (s.absent, s.spelled.begins);
+            ends = (s.is, s.added, s.spelled.ends);
+          },
+        );
+        follow = λ a next back rest r after. tt;
+        follows = λ a next back rest r after. after;
+        within = λ a next back r w inside. added-within given next a r.0 r.1 inside;
+        apart = λ a next front back s r w. (tt, w a s.0);
+        first = λ ts d. absurd d;
+        last = λ a front back s d. record {
+          name = a;
+          absent = s.0;
+          leads = record { front = front; back = back; all = refl; begins = s.1; ends = d };
+        };
+        deep = λ ts d. inr (
+          d.name,
+          record {
+            front = d.leads.front;
+            back = d.leads.back;
+            all = d.leads.all;
+            begins = (d.absent, d.leads.begins);
+            ends = d.leads.ends;
+          },
+        );
+        follow_deep = λ a back rest d. tt;
+      })
+      (name-rule given free_one none) (rest-rule given))
+
+  -- ---- where all are given
+
+  none_or : {A : Type 0} (o : Option A) → (o ≡ None) ⊎ (o ≡ None → ⊥)
+  none_or None = inl refl
+  none_or (Some x) = inr (λ e. none-some x (sym e))
+
+  -- one that is not given, or all are
+  abbrev Free : Arguments → Type 0
+  Free given = ((a : Argument) × (field a given ≡ None)) ⊎ ((a : Argument) → field a given ≡ None → ⊥)
+
+  or_free : (given : Arguments) (a : Argument) → Free given → Free given
+  or_free given a more = more
+
+  all_given : (given : Arguments) → (given.element ≡ None → ⊥) → (given.throughput ≡ None → ⊥) → (given.dims ≡ None → ⊥) → (given.sync ≡ None → ⊥)
+      → (given.level ≡ None → ⊥) → (given.reverse ≡ None → ⊥) → (given.user ≡ None → ⊥) → (given.keep ≡ None → ⊥) → (a : Argument) → field a given ≡ None → ⊥
+  all_given given e1 e2 e3 e4 e5 e6 e7 e8 data_type = e1
+  all_given given e1 e2 e3 e4 e5 e6 e7 e8 throughput = e2
+  all_given given e1 e2 e3 e4 e5 e6 e7 e8 dimensionality = e3
+  all_given given e1 e2 e3 e4 e5 e6 e7 e8 synchronicity = e4
+  all_given given e1 e2 e3 e4 e5 e6 e7 e8 complexity = e5
+  all_given given e1 e2 e3 e4 e5 e6 e7 e8 direction = e6
+  all_given given e1 e2 e3 e4 e5 e6 e7 e8 user_type = e7
+  all_given given e1 e2 e3 e4 e5 e6 e7 e8 keep = e8
+
+  is_free : (given : Arguments) → Free given
+  is_free given =
+      ⊎_elim (λ e. inl (data_type, e)) (λ e1.
+      ⊎_elim (λ e. inl (throughput, e)) (λ e2.
+      ⊎_elim (λ e. inl (dimensionality, e)) (λ e3.
+      ⊎_elim (λ e. inl (synchronicity, e)) (λ e4.
+      ⊎_elim (λ e. inl (complexity, e)) (λ e5.
+      ⊎_elim (λ e. inl (direction, e)) (λ e6.
+      ⊎_elim (λ e. inl (user_type, e)) (λ e7.
+      ⊎_elim (λ e. inl (keep, e)) (λ e8. inr (all_given given e1 e2 e3 e4 e5 e6 e7 e8))
+      (none_or given.keep)) (none_or given.user)) (none_or given.reverse)) (none_or given.level)) (none_or given.sync)) (none_or given.dims)) (none_or given.throughput)) (none_or given.element)
+
+  refused : (given : Arguments) → ((a : Argument) → field a given ≡ None → ⊥) → (t : Lexeme) (ts : List Lexeme) (o : Option Argument) → awaited given t ≡ o
+      → and_then (meant o ts (t ∷ ts)) (rest_reader inner given) ≡ stopped faults.Refused (t ∷ ts)
+  refused given full t ts None is = refl
+  refused given full t ts (Some a) is = absurd (full a (awaited-there given a t is).0)
+
+  refuses : (given : Arguments) → ((a : Argument) → field a given ≡ None → ⊥) → (ts : List Lexeme) → shape inner given ts ≡ stopped faults.Refused ts
+  unfolding shape
+  refuses given full [] = refl
+  refuses given full (t ∷ ts) = refused given full t ts (awaited given t) refl
+
+  pub step-rule : (given : Arguments)
+      → IsRule IsFormed (argument inner given) (Step given) (λ _. PathNext) (StepWithin given) (StepDeep given) ⊎ IsStuck (argument inner given) (Step given) (StepDeep given)
+  step-rule given = ⊎_elim
+      (λ f. inl (argument-rule given f.0 f.1))
+      (λ full. inr (record {
+        refuses = λ ts. sym (shape-same inner given ts) ∙ refuses given full ts;
+        none = λ next ts s. full s.name s.absent;
+        none_deep = λ ts d. full d.name d.absent;
+      }))
+      (is_free given)

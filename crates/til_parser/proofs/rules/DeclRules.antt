@@ -1,0 +1,445 @@
+-- The rules of ports and declarations.
+use Rattle.std.proofs.Common.{◌≡◌, ℕ, ◌⊎◌, inl, inr, ⊎_elim, Bool, true, false, List, [], ◌∷◌, ◌++◌, Option, Some, None, refl, sym, subst, codes, append_assoc}
+use Rattle.til_lexer.specs.Words.{has_name_form}
+use Rattle.tydi_reading.specs.Forms.{Never, Anything, ◌⋯◌}
+use Rattle.tydi_reading.specs.Lists.{EachIs}
+use Rattle.tydi_reading.specs.Reading.{tells, ◌>>◌, ◌<$>◌, ◌<&>◌}
+use Rattle.tydi_reading.specs.Rules.{IsRule}
+use Rattle.tydi_reading.proofs.ChoiceRules.{choose-rule, both-rule}
+use Rattle.tydi_reading.proofs.FilledLemmas.{filled-first, filled-second}
+use Rattle.tydi_reading.proofs.MarkRules.{skip-rule}
+use Rattle.tydi_reading.proofs.StepRules.{map-rule, same-rule}
+use Rattle.til_lexer.specs.declared.token.TokenKind.{TokenKind}
+use Rattle.til_lexer.specs.declared.token.TokenKind.TheVariants as kinds
+use Rattle.til_parser.specs.declared.keyword.Keyword.{Keyword}
+use Rattle.til_parser.specs.declared.keyword.Keyword.TheVariants as keywords
+use Rattle.til_parser.specs.declared.ltype.AstType.{AstType}
+use Rattle.til_parser.specs.declared.tree.AstBody.{AstBody}
+use Rattle.til_parser.specs.declared.tree.AstKind.{AstKind}
+use Rattle.til_parser.specs.declared.tree.AstKind.TheVariants as decls
+use Rattle.til_parser.specs.declared.tree.AstName.{AstName}
+use Rattle.til_parser.specs.declared.tree.AstPath.{AstPath}
+use Rattle.til_parser.specs.declared.tree.AstPort.{AstPort}
+use Rattle.til_parser.specs.declared.tree.AstPorts.{AstPorts}
+use Rattle.til_parser.specs.declared.tree.AstPorts.TheVariants as ports
+use Rattle.til_parser.specs.Grammar.{Form, Of, Word, Name, Path, Doc, Quoted, SpellsType, SpellsPort, SpellsPorts, SpellsBody, SpellsStreamletPorts, StreamletWithin, PortsWithin, way_word, SpellsKind, KindWithin}
+use Rattle.til_parser.specs.Lexemes.{Lexeme, IsFormed}
+use Rattle.til_parser.specs.Reading.{same_kind, is_kind, expect, expect_word}
+use Rattle.til_parser.specs.ReadTypes.{name, path, doc, quoted, either_word, bracketed, ltype}
+use Rattle.til_parser.specs.ReadDecls.{body, port, streamlet_ports, keyword, impl_kind, test_kind, kind_of}
+use Rattle.til_parser.specs.Tree.{plain}
+use Rattle.til_parser.proofs.rules.BodyRules.{Name-not, Name-filled, front-tells, Of-tells, body-rule, no_deep-rule}
+use Rattle.til_parser.proofs.rules.LeafRules.{PathNext, NoDoc, Fixed, plain-same, word_or-rule, fixed-rule, name-rule, path-rule, doc-rule, quoted-rule, either-rule}
+use Rattle.til_parser.proofs.rules.ListRules.{Lists, BracketedDeep, bracketed-rule, Of-path}
+use Rattle.til_parser.proofs.rules.TokenRules.{kind-rule, word-rule, Word-not_word}
+use Rattle.til_parser.proofs.rules.TypeRules.{S, Fits, ltype-rule}
+
+-- ---- ports
+
+way_formed : (b : Bool) → has_name_form (way_word b) ≡ true
+way_formed true = refl
+way_formed false = refl
+
+module _ (n : ℕ) where
+  abbrev D : Form
+  D = (ltype-rule n).Deep
+
+  abbrev PartsOf : Bool × AstType → Form
+  PartsOf z = Word (way_word z.0) ⋯ S z.1
+
+  ways-rule : IsRule IsFormed (either_word (codes "in") (codes "out") <&> ltype n) PartsOf (λ _. PathNext) (λ z. Unit {0} × Fits n z.1)
+      (λ ts. Never ts ⊎ ((b : Bool) × ((Word (way_word b) ⋯ D) ts)))
+  ways-rule =
+      both-rule IsFormed (either_word (codes "in") (codes "out")) (ltype n) (λ b. Word (way_word b)) (λ _. Anything) (λ _. Unit {0}) Never S (λ _. PathNext) (Fits n) D
+      (λ x y back rest s next. tt) (λ x back rest d. tt) (either-rule way_word way_formed refl) (ltype-rule n).rule
+
+  named_ways-rule : IsRule IsFormed (name <&> (expect kinds.Colon >> (either_word (codes "in") (codes "out") <&> ltype n)))
+      (λ (z : AstName × (Bool × AstType)). Name z.0 ⋯ (Of kinds.Colon ⋯ PartsOf z.1)) (λ _. PathNext) (λ z. Unit {0} × (Unit {0} × Fits n z.1.1))
+      (λ ts. Never ts ⊎ ((x : AstName) × ((Name x ⋯ (Of kinds.Colon ⋯ (λ ts. Never ts ⊎ ((b : Bool) × ((Word (way_word b) ⋯ D) ts))))) ts)))
+  named_ways-rule =
+      both-rule IsFormed name (expect kinds.Colon >> (either_word (codes "in") (codes "out") <&> ltype n)) Name (λ _. Anything) (λ _. Unit {0}) Never
+      (λ z. Of kinds.Colon ⋯ PartsOf z) (λ _. PathNext) (λ z. Unit {0} × Fits n z.1) _ (λ x y back rest s next. tt) (λ x back rest d. tt) name-rule
+      (skip-rule IsFormed (expect kinds.Colon) (either_word (codes "in") (codes "out") <&> ltype n) (Of kinds.Colon) PartsOf (λ _. PathNext) (λ z. Unit {0} × Fits n z.1) _
+      (kind-rule kinds.Colon (codes ":") refl) ways-rule)
+
+  name_no_doc : (x : AstName) (Second : Form) (back rest : List Lexeme) → (Name x ⋯ Second) back → NoDoc (back ++ rest)
+  unfolding same_kind
+  name_no_doc x Second back rest s = front-tells (is_kind kinds.Doc) false (Name x) Second back rest (Name-not x kinds.Doc refl) s
+
+  -- what leads to something too deep in the type of a port
+  abbrev pub PortTo : Form
+  PortTo ts = (d : Option (List ℕ)) × (x : AstName) × (b : Bool) × ((Doc d ⋯ (Name x ⋯ (Of kinds.Colon ⋯ (Word (way_word b) ⋯ D)))) ts)
+
+  port_first : (ts : List Lexeme)
+      → (Never ts ⊎ ((d : Option (List ℕ)) × ((Doc d ⋯ (λ ts. Never ts ⊎ ((x : AstName) × ((Name x ⋯ (Of kinds.Colon ⋯ (λ ts. Never ts ⊎ ((b : Bool) × ((Word (way_word b) ⋯ D) ts))))) ts)))) ts)))
+      → PortTo ts
+  port_first ts = ⊎_elim (λ d. absurd d) (λ d.
+      ⊎_elim (λ e. absurd e) (λ e.
+      ⊎_elim (λ f. absurd f) (λ f. (
+        d.0,
+        e.0,
+        f.0,
+        record {
+          front = d.1.front;
+          back = d.1.back;
+          all = d.1.all;
+          begins = d.1.begins;
+          ends = record {
+            front = e.1.front;
+            back = e.1.back;
+            all = e.1.all;
+            begins = e.1.begins;
+            ends = record { front = e.1.ends.front; back = e.1.ends.back; all = e.1.ends.all; begins = e.1.ends.begins; ends = f.1 };
+          };
+        },
+      )) e.1.ends.ends) d.1.ends)
+
+  port_deep : (ts : List Lexeme) → PortTo ts
+      → (Never ts ⊎ ((d : Option (List ℕ)) × ((Doc d ⋯ (λ ts. Never ts ⊎ ((x : AstName) × ((Name x ⋯ (Of kinds.Colon ⋯ (λ ts. Never ts ⊎ ((b : Bool) × ((Word (way_word b) ⋯ D) ts))))) ts)))) ts)))
+  port_deep ts p =
+      let s = p.3 in
+      let m = s.ends in
+      inr (
+        p.0,
+        record {
+          front = s.front;
+          back = s.back;
+          all = s.all;
+          begins = s.begins;
+          ends = inr (
+            p.1,
+            record {
+              front = m.front;
+              back = m.back;
+              all = m.all;
+              begins = m.begins;
+              ends = record { front = m.ends.front; back = m.ends.back; all = m.ends.all; begins = m.ends.begins; ends = inr (p.2, m.ends.ends) };
+            },
+          );
+        },
+      )
+
+  pub port-rule : IsRule IsFormed (port n) SpellsPort (λ _. PathNext) (λ p. Fits n p.ltype) PortTo
+  unfolding port
+  port-rule =
+      map-rule IsFormed (λ (p : Option (List ℕ) × (AstName × (Bool × AstType))). record { doc = p.0; name = p.1.0; inward = p.1.1.0; ltype = p.1.1.1 })
+      (doc <&> (name <&> (expect kinds.Colon >> (either_word (codes "in") (codes "out") <&> ltype n))))
+      (λ (p : Option (List ℕ) × (AstName × (Bool × AstType))). Doc p.0 ⋯ (Name p.1.0 ⋯ (Of kinds.Colon ⋯ PartsOf p.1.1))) (λ _. PathNext)
+      (λ p. Unit {0} × (Unit {0} × (Unit {0} × Fits n p.1.1.1))) _ SpellsPort (λ _. PathNext) (λ p. Fits n p.ltype) PortTo
+      (record {
+        there = λ x ts s. s;
+        back = λ y ts s. ((y.doc, (y.name, (y.inward, y.ltype))), refl, s);
+        follow = λ x rest next. next;
+        within = λ x w. w.1.1.1;
+        apart = λ x w. (tt, (tt, (tt, w)));
+        first = port_first;
+        deep = port_deep;
+      })
+      (both-rule IsFormed doc (name <&> (expect kinds.Colon >> (either_word (codes "in") (codes "out") <&> ltype n))) Doc (λ _. NoDoc) (λ _. Unit {0}) Never
+      (λ (z : AstName × (Bool × AstType)). Name z.0 ⋯ (Of kinds.Colon ⋯ PartsOf z.1)) (λ _. PathNext) (λ z. Unit {0} × (Unit {0} × Fits n z.1.1)) _
+      (λ x y back rest s next. name_no_doc y.0 _ back rest s) (λ x back rest. ⊎_elim (λ d. absurd d) (λ d. name_no_doc d.0 _ back rest d.1)) doc-rule named_ways-rule)
+
+  pub doc_tells : (d : Option (List ℕ)) (kind : TokenKind) (Second : Form) (front rest : List Lexeme) → same_kind kinds.Doc kind ≡ false
+      → ((front rest : List Lexeme) → Second front → tells (is_kind kind) false (front ++ rest) ≡ false) → (Doc d ⋯ Second) front → tells (is_kind kind) false (front ++ rest) ≡ false
+  doc_tells None kind Second front rest apart second s = rw (s.all, s.begins) (second s.back rest s.ends)
+  doc_tells (Some text) kind Second front rest apart second s =
+      front-tells (is_kind kind) false (Doc (Some text)) Second front rest (λ f r o. rw (o.all, o.is.kind_is) apart) s
+
+  pub port-lists : Lists SpellsPort PortTo
+  unfolding same_kind
+  port-lists = record {
+    filled = λ p front s. filled-second (Doc p.doc) _ front (λ back m. filled-first (Name p.name) _ back (Name-filled p.name) m) s;
+    starts = λ p front rest s. doc_tells p.doc kinds.CloseParen _ front rest refl (λ f r m. front-tells (is_kind kinds.CloseParen) false (Name p.name) _ f r (Name-not p.name kinds.CloseParen refl) m) s;
+    starts_deep = λ front rest d. doc_tells d.0 kinds.CloseParen _ front rest refl (λ f r m. front-tells (is_kind kinds.CloseParen) false (Name d.1) _ f r (Name-not d.1 kinds.CloseParen refl) m) d.3;
+  }
+
+  abbrev pub PortsTo : Form
+  PortsTo = BracketedDeep (port n) SpellsPort (λ p. Fits n p.ltype) PortTo port-lists port-rule
+
+  ports_within : (all : List AstPort) → EachIs (λ p. Fits n p.ltype) all → PortsWithin n all
+  ports_within [] each = tt
+  ports_within (p ∷ all) each = (each.0, ports_within all each.1)
+
+  within_ports : (all : List AstPort) → PortsWithin n all → EachIs (λ p. Fits n p.ltype) all
+  within_ports [] each = tt
+  within_ports (p ∷ all) each = (each.0, within_ports all each.1)
+
+  ports-rule : IsRule IsFormed (bracketed (port n)) SpellsPorts (λ _. Anything) (PortsWithin n) PortsTo
+  ports-rule =
+      same-rule IsFormed (bracketed (port n)) SpellsPorts (λ _. Anything) (EachIs (λ p. Fits n p.ltype)) PortsTo SpellsPorts (λ _. Anything) (PortsWithin n) PortsTo
+      (record { there = λ x ts s. s; back = λ x ts s. s; follow = λ x rest next. tt; within = ports_within; apart = within_ports; first = λ ts d. d; deep = λ ts d. d })
+      (bracketed-rule (port n) SpellsPort (λ p. Fits n p.ltype) PortTo port-lists port-rule)
+
+  -- ---- a streamlet's ports
+
+  OwnPorts : AstPorts → Form
+  OwnPorts x ts = (all : List AstPort) × (x ≡ ports.Own all) × SpellsPorts all ts
+
+  NamedPorts : AstPorts → Form
+  NamedPorts x ts = (p : AstPath) × (x ≡ ports.Named p) × Path p.names ts
+
+  which_ports : (x : AstPorts) (ts : List Lexeme) → SpellsStreamletPorts x ts → OwnPorts x ts ⊎ NamedPorts x ts
+  unfolding OwnPorts NamedPorts
+  which_ports (ports.Own all) ts s = inl (all, refl, s)
+  which_ports (ports.Named p) ts s = inr (p, refl, s)
+
+  of_own : (x : AstPorts) (ts : List Lexeme) → OwnPorts x ts → SpellsStreamletPorts x ts
+  unfolding OwnPorts
+  of_own x ts s = subst (λ y. SpellsStreamletPorts y ts) (sym s.1) s.2
+
+  of_named : (x : AstPorts) (ts : List Lexeme) → NamedPorts x ts → SpellsStreamletPorts x ts
+  unfolding NamedPorts
+  of_named x ts s = subst (λ y. SpellsStreamletPorts y ts) (sym s.1) s.2
+
+  path_not : (names : List AstName) (front rest : List Lexeme) → Path names front → tells (is_kind kinds.OpenParen) false (front ++ rest) ≡ false
+  unfolding same_kind
+  path_not [] front rest s = absurd s
+  path_not (x ∷ []) front rest s = Name-not x kinds.OpenParen refl front rest s
+  path_not (x ∷ next ∷ names) front rest s = front-tells (is_kind kinds.OpenParen) false (Name x) _ front rest (Name-not x kinds.OpenParen refl) s
+
+  streamlet-rule : IsRule IsFormed (streamlet_ports n) SpellsStreamletPorts (λ _. PathNext) (StreamletWithin n) PortsTo
+  unfolding streamlet_ports OwnPorts NamedPorts
+  streamlet-rule =
+      choose-rule IsFormed (is_kind kinds.OpenParen) false (ports.Own <$> bracketed (port n)) (ports.Named <$> path) OwnPorts (λ _. PathNext) PortsTo
+      NamedPorts (λ _. PathNext) Never SpellsStreamletPorts (λ _. PathNext) (StreamletWithin n) PortsTo
+      (record {
+        one = of_own;
+        other = of_named;
+        which = which_ports;
+        one_next = λ x front rest s next. next;
+        other_next = λ x front rest s next. next;
+        one_begins = λ x front rest s next. front-tells (is_kind kinds.OpenParen) true (Of kinds.OpenParen) _ front rest (Of-tells kinds.OpenParen) s.2;
+        other_begins = λ x front rest s next. path_not s.0.names front rest s.2;
+        one_deep = λ ts d. d;
+        other_deep = λ ts d. absurd d;
+        which_deep = λ ts d. inl d;
+        one_deep_begins = λ front rest d. front-tells (is_kind kinds.OpenParen) true (Of kinds.OpenParen) _ front rest (Of-tells kinds.OpenParen) d;
+        other_deep_begins = λ front rest d. absurd d;
+      })
+      (map-rule IsFormed ports.Own (bracketed (port n)) SpellsPorts (λ _. Anything) (PortsWithin n) PortsTo OwnPorts (λ _. PathNext) (StreamletWithin n) PortsTo
+      (record { there = λ x ts s. (x, refl, s); back = λ y ts s. s; follow = λ x rest next. tt; within = λ x w. w; apart = λ x w. w; first = λ ts d. d; deep = λ ts d. d })
+      ports-rule)
+      (map-rule IsFormed ports.Named path (λ p. Path p.names) (λ _. PathNext) (λ _. Unit {0}) Never NamedPorts (λ _. PathNext) (StreamletWithin n) Never
+      (record { there = λ x ts s. (x, refl, s); back = λ y ts s. s; follow = λ x rest next. next; within = λ x w. tt; apart = λ x w. tt; first = λ ts d. d; deep = λ ts d. d })
+      path-rule)
+
+-- ---- keywords
+
+abbrev pub keyword_word : Keyword → List ℕ
+keyword_word keywords.Type = codes "type"
+keyword_word keywords.Interface = codes "interface"
+keyword_word keywords.Streamlet = codes "streamlet"
+keyword_word keywords.Impl = codes "impl"
+keyword_word keywords.Test = codes "test"
+
+abbrev K4 : Keyword → Form
+K4 = Fixed keywords.Test (codes "test")
+
+abbrev K3 : Keyword → Form
+K3 x ts = Fixed keywords.Impl (codes "impl") x ts ⊎ K4 x ts
+
+abbrev K2 : Keyword → Form
+K2 x ts = Fixed keywords.Streamlet (codes "streamlet") x ts ⊎ K3 x ts
+
+abbrev K1 : Keyword → Form
+K1 x ts = Fixed keywords.Interface (codes "interface") x ts ⊎ K2 x ts
+
+keyword_parts : (x : Keyword) (ts : List Lexeme) → Word (keyword_word x) ts → Fixed keywords.Type (codes "type") x ts ⊎ K1 x ts
+keyword_parts keywords.Type ts s = inl (refl, s)
+keyword_parts keywords.Interface ts s = inr (inl (refl, s))
+keyword_parts keywords.Streamlet ts s = inr (inr (inl (refl, s)))
+keyword_parts keywords.Impl ts s = inr (inr (inr (inl (refl, s))))
+keyword_parts keywords.Test ts s = inr (inr (inr (inr (refl, s))))
+
+of_keyword : (x y : Keyword) (word : List ℕ) (ts : List Lexeme) → keyword_word x ≡ word → Fixed x word y ts → Word (keyword_word y) ts
+of_keyword x y word ts is s = subst (λ z. Word (keyword_word z) ts) (sym s.0) (subst (λ w. Word w ts) (sym is) s.1)
+
+pub keyword-rule : IsRule IsFormed keyword (λ x. Word (keyword_word x)) (λ _. Anything) (λ _. Unit {0}) Never
+unfolding keyword
+keyword-rule =
+    plain-same keyword (λ x ts. Fixed keywords.Type (codes "type") x ts ⊎ K1 x ts) (λ x. Word (keyword_word x))
+    (λ x ts. ⊎_elim (of_keyword keywords.Type x (codes "type") ts refl) (⊎_elim (of_keyword keywords.Interface x (codes "interface") ts refl)
+    (⊎_elim (of_keyword keywords.Streamlet x (codes "streamlet") ts refl) (⊎_elim (of_keyword keywords.Impl x (codes "impl") ts refl) (of_keyword keywords.Test x (codes "test") ts refl)))))
+    keyword_parts
+    (word_or-rule keywords.Type (codes "type") _ K1 refl
+    (λ y front rest. ⊎_elim (λ s. Word-not_word (codes "interface") (codes "type") refl front rest s.1)
+    (⊎_elim (λ s. Word-not_word (codes "streamlet") (codes "type") refl front rest s.1)
+    (⊎_elim (λ s. Word-not_word (codes "impl") (codes "type") refl front rest s.1) (λ s. Word-not_word (codes "test") (codes "type") refl front rest s.1))))
+    (word_or-rule keywords.Interface (codes "interface") _ K2 refl
+    (λ y front rest. ⊎_elim (λ s. Word-not_word (codes "streamlet") (codes "interface") refl front rest s.1)
+    (⊎_elim (λ s. Word-not_word (codes "impl") (codes "interface") refl front rest s.1) (λ s. Word-not_word (codes "test") (codes "interface") refl front rest s.1)))
+    (word_or-rule keywords.Streamlet (codes "streamlet") _ K3 refl
+    (λ y front rest. ⊎_elim (λ s. Word-not_word (codes "impl") (codes "streamlet") refl front rest s.1) (λ s. Word-not_word (codes "test") (codes "streamlet") refl front rest s.1))
+    (word_or-rule keywords.Impl (codes "impl") _ K4 refl
+    (λ y front rest s. Word-not_word (codes "test") (codes "impl") refl front rest s.1)
+    (fixed-rule keywords.Test (codes "test") refl)))))
+
+-- ---- what follows the keyword and the name
+
+abbrev pub keyword_of : AstKind → Keyword
+keyword_of (decls.Alias ltype) = keywords.Type
+keyword_of (decls.Interface all) = keywords.Interface
+keyword_of (decls.Streamlet all) = keywords.Streamlet
+keyword_of (decls.Impl target inside) = keywords.Impl
+keyword_of (decls.Test target port value plan) = keywords.Test
+
+abbrev pub SpellsRest : AstKind → Form
+SpellsRest (decls.Alias ltype) = Of kinds.Equals ⋯ SpellsType (plain ltype)
+SpellsRest (decls.Interface all) = Of kinds.Equals ⋯ SpellsPorts all
+SpellsRest (decls.Streamlet all) = Of kinds.Equals ⋯ SpellsStreamletPorts all
+SpellsRest (decls.Impl target inside) = Word (codes "of") ⋯ Path target.names ⋯ Of kinds.Equals ⋯ SpellsBody inside
+SpellsRest (decls.Test target port value plan) =
+    Word (codes "of") ⋯ Path target.names ⋯ Word (codes "drive") ⋯ Name port ⋯ Of kinds.Equals ⋯ Quoted value ⋯ Word (codes "plan") ⋯ Quoted plan
+
+pub kind_parts : (called : AstName) (kind : AstKind) (ts : List Lexeme) → SpellsKind called kind ts → (Word (keyword_word (keyword_of kind)) ⋯ Name called ⋯ SpellsRest kind) ts
+kind_parts called (decls.Alias ltype) ts s = s
+kind_parts called (decls.Interface all) ts s = s
+kind_parts called (decls.Streamlet all) ts s = s
+kind_parts called (decls.Impl target inside) ts s = s
+kind_parts called (decls.Test target port value plan) ts s = s
+
+pub kind_of_parts : (called : AstName) (kind : AstKind) (ts : List Lexeme) → (Word (keyword_word (keyword_of kind)) ⋯ Name called ⋯ SpellsRest kind) ts → SpellsKind called kind ts
+kind_of_parts called (decls.Alias ltype) ts s = s
+kind_of_parts called (decls.Interface all) ts s = s
+kind_of_parts called (decls.Streamlet all) ts s = s
+kind_of_parts called (decls.Impl target inside) ts s = s
+kind_of_parts called (decls.Test target port value plan) ts s = s
+
+-- a declaration of this keyword
+abbrev pub KindForm : Keyword → AstKind → Form
+KindForm begun kind ts = (keyword_of kind ≡ begun) × SpellsRest kind ts
+
+module _ (n : ℕ) where
+  abbrev EqualsTo : Form → Form
+  EqualsTo Deep = Of kinds.Equals ⋯ Deep
+
+  alias_back : (kind : AstKind) (ts : List Lexeme) → KindForm keywords.Type kind ts → (x : AstType) × (kind ≡ decls.Alias x) × ((Of kinds.Equals ⋯ S x) ts)
+  alias_back (decls.Alias x) ts s = (x, refl, s.1)
+  alias_back (decls.Interface all) ts s = absurd (let e : keywords.Interface ≡ keywords.Type = s.0 in cc)
+  alias_back (decls.Streamlet all) ts s = absurd (let e : keywords.Streamlet ≡ keywords.Type = s.0 in cc)
+  alias_back (decls.Impl target inside) ts s = absurd (let e : keywords.Impl ≡ keywords.Type = s.0 in cc)
+  alias_back (decls.Test target port value plan) ts s = absurd (let e : keywords.Test ≡ keywords.Type = s.0 in cc)
+
+  interface_back : (kind : AstKind) (ts : List Lexeme) → KindForm keywords.Interface kind ts → (x : List AstPort) × (kind ≡ decls.Interface x) × ((Of kinds.Equals ⋯ SpellsPorts x) ts)
+  interface_back (decls.Alias x) ts s = absurd (let e : keywords.Type ≡ keywords.Interface = s.0 in cc)
+  interface_back (decls.Interface all) ts s = (all, refl, s.1)
+  interface_back (decls.Streamlet all) ts s = absurd (let e : keywords.Streamlet ≡ keywords.Interface = s.0 in cc)
+  interface_back (decls.Impl target inside) ts s = absurd (let e : keywords.Impl ≡ keywords.Interface = s.0 in cc)
+  interface_back (decls.Test target port value plan) ts s = absurd (let e : keywords.Test ≡ keywords.Interface = s.0 in cc)
+
+  streamlet_back : (kind : AstKind) (ts : List Lexeme) → KindForm keywords.Streamlet kind ts → (x : AstPorts) × (kind ≡ decls.Streamlet x) × ((Of kinds.Equals ⋯ SpellsStreamletPorts x) ts)
+  streamlet_back (decls.Alias x) ts s = absurd (let e : keywords.Type ≡ keywords.Streamlet = s.0 in cc)
+  streamlet_back (decls.Interface all) ts s = absurd (let e : keywords.Interface ≡ keywords.Streamlet = s.0 in cc)
+  streamlet_back (decls.Streamlet all) ts s = (all, refl, s.1)
+  streamlet_back (decls.Impl target inside) ts s = absurd (let e : keywords.Impl ≡ keywords.Streamlet = s.0 in cc)
+  streamlet_back (decls.Test target port value plan) ts s = absurd (let e : keywords.Test ≡ keywords.Streamlet = s.0 in cc)
+
+  abbrev ImplForm : AstPath × AstBody → Form
+  ImplForm i = Word (codes "of") ⋯ (Path i.0.names ⋯ (Of kinds.Equals ⋯ SpellsBody i.1))
+
+  impl_back : (kind : AstKind) (ts : List Lexeme) → KindForm keywords.Impl kind ts → (i : AstPath × AstBody) × (kind ≡ decls.Impl i.0 i.1) × ImplForm i ts
+  impl_back (decls.Alias x) ts s = absurd (let e : keywords.Type ≡ keywords.Impl = s.0 in cc)
+  impl_back (decls.Interface all) ts s = absurd (let e : keywords.Interface ≡ keywords.Impl = s.0 in cc)
+  impl_back (decls.Streamlet all) ts s = absurd (let e : keywords.Streamlet ≡ keywords.Impl = s.0 in cc)
+  impl_back (decls.Impl target inside) ts s = ((target, inside), refl, s.1)
+  impl_back (decls.Test target port value plan) ts s = absurd (let e : keywords.Test ≡ keywords.Impl = s.0 in cc)
+
+  abbrev TestForm : AstPath × (AstName × (List ℕ × List ℕ)) → Form
+  TestForm t = Word (codes "of") ⋯ (Path t.0.names ⋯ (Word (codes "drive") ⋯ (Name t.1.0 ⋯ (Of kinds.Equals ⋯ (Quoted t.1.1.0 ⋯ (Word (codes "plan") ⋯ Quoted t.1.1.1))))))
+
+  test_back : (kind : AstKind) (ts : List Lexeme) → KindForm keywords.Test kind ts
+      → (t : AstPath × (AstName × (List ℕ × List ℕ))) × (kind ≡ decls.Test t.0 t.1.0 t.1.1.0 t.1.1.1) × TestForm t ts
+  test_back (decls.Alias x) ts s = absurd (let e : keywords.Type ≡ keywords.Test = s.0 in cc)
+  test_back (decls.Interface all) ts s = absurd (let e : keywords.Interface ≡ keywords.Test = s.0 in cc)
+  test_back (decls.Streamlet all) ts s = absurd (let e : keywords.Streamlet ≡ keywords.Test = s.0 in cc)
+  test_back (decls.Impl target inside) ts s = absurd (let e : keywords.Impl ≡ keywords.Test = s.0 in cc)
+  test_back (decls.Test target port value plan) ts s = ((target, (port, (value, plan))), refl, s.1)
+
+  -- what leads to something too deep in a declaration of this keyword
+  abbrev pub KindTo : Keyword → Form
+  KindTo keywords.Type = Of kinds.Equals ⋯ (ltype-rule n).Deep
+  KindTo keywords.Interface = Of kinds.Equals ⋯ PortsTo n
+  KindTo keywords.Streamlet = Of kinds.Equals ⋯ PortsTo n
+  KindTo keywords.Impl = Never
+  KindTo keywords.Test = Never
+
+  equals-rule : IsRule IsFormed (expect kinds.Equals) (λ _. Of kinds.Equals) (λ _. Anything) (λ _. Unit {0}) Never
+  equals-rule = kind-rule kinds.Equals (codes "=") refl
+
+  impl_parts-rule : IsRule IsFormed (expect_word (codes "of") >> (path <&> (expect kinds.Equals >> body))) ImplForm (λ _. Anything) (λ _. Unit {0}) Never
+  unfolding same_kind
+  impl_parts-rule =
+      no_deep-rule _ ImplForm (λ _. Anything) (λ _. Unit {0} × Unit {0}) _ (λ ts d. ⊎_elim (λ e. e) (λ e. e.1.ends.ends) d.ends) (λ x. (tt, tt))
+      (skip-rule IsFormed (expect_word (codes "of")) (path <&> (expect kinds.Equals >> body)) (Word (codes "of")) (λ (i : AstPath × AstBody). Path i.0.names ⋯ (Of kinds.Equals ⋯ SpellsBody i.1))
+      (λ _. Anything) (λ _. Unit {0} × Unit {0}) _ (word-rule (codes "of") refl)
+      (both-rule IsFormed path (expect kinds.Equals >> body) (λ (p : AstPath). Path p.names) (λ _. PathNext) (λ _. Unit {0}) Never
+      (λ b. Of kinds.Equals ⋯ SpellsBody b) (λ _. Anything) (λ _. Unit {0}) (Of kinds.Equals ⋯ Never)
+      (λ x y back rest s next. equals_path (SpellsBody y) back rest s) (λ x back rest d. absurd d.ends) path-rule
+      (skip-rule IsFormed (expect kinds.Equals) body (Of kinds.Equals) SpellsBody (λ _. Anything) (λ _. Unit {0}) Never equals-rule body-rule)))
+    where
+      equals_path : (Second : Form) (back rest : List Lexeme) → (Of kinds.Equals ⋯ Second) back → PathNext (back ++ rest)
+      equals_path Second back rest s = rw (s.all, append_assoc s.front s.back rest) (Of-path kinds.Equals refl s.front (s.back ++ rest) s.begins)
+
+  word_path : (word : List ℕ) (Second : Form) (back rest : List Lexeme) → (Word word ⋯ Second) back → PathNext (back ++ rest)
+  unfolding same_kind
+  word_path word Second back rest s = rw (s.all, append_assoc s.front s.back rest, s.begins.all, s.begins.is.kind) refl
+
+  quotes-rule : IsRule IsFormed (quoted <&> (expect_word (codes "plan") >> quoted)) (λ (q : List ℕ × List ℕ). Quoted q.0 ⋯ (Word (codes "plan") ⋯ Quoted q.1)) (λ _. Anything) (λ _. Unit {0}) Never
+  quotes-rule =
+      no_deep-rule _ (λ (q : List ℕ × List ℕ). Quoted q.0 ⋯ (Word (codes "plan") ⋯ Quoted q.1)) (λ _. Anything) (λ _. Unit {0} × Unit {0}) _ (λ ts. ⊎_elim (λ e. e) (λ e. e.1.ends.ends)) (λ x. (tt, tt))
+      (both-rule IsFormed quoted (expect_word (codes "plan") >> quoted) Quoted (λ _. Anything) (λ _. Unit {0}) Never (λ q. Word (codes "plan") ⋯ Quoted q) (λ _. Anything) (λ _. Unit {0}) (Word (codes "plan") ⋯ Never)
+      (λ x y back rest s next. tt) (λ x back rest d. tt) quoted-rule
+      (skip-rule IsFormed (expect_word (codes "plan")) quoted (Word (codes "plan")) Quoted (λ _. Anything) (λ _. Unit {0}) Never (word-rule (codes "plan") refl) quoted-rule))
+
+  driven-rule : IsRule IsFormed (name <&> (expect kinds.Equals >> (quoted <&> (expect_word (codes "plan") >> quoted))))
+      (λ (t : AstName × (List ℕ × List ℕ)). Name t.0 ⋯ (Of kinds.Equals ⋯ (Quoted t.1.0 ⋯ (Word (codes "plan") ⋯ Quoted t.1.1)))) (λ _. Anything) (λ _. Unit {0}) Never
+  driven-rule =
+      no_deep-rule _ (λ (t : AstName × (List ℕ × List ℕ)). Name t.0 ⋯ (Of kinds.Equals ⋯ (Quoted t.1.0 ⋯ (Word (codes "plan") ⋯ Quoted t.1.1)))) (λ _. Anything) (λ _. Unit {0} × Unit {0}) _
+      (λ ts. ⊎_elim (λ e. e) (λ e. e.1.ends.ends)) (λ x. (tt, tt))
+      (both-rule IsFormed name (expect kinds.Equals >> (quoted <&> (expect_word (codes "plan") >> quoted))) Name (λ _. Anything) (λ _. Unit {0}) Never
+      (λ (q : List ℕ × List ℕ). Of kinds.Equals ⋯ (Quoted q.0 ⋯ (Word (codes "plan") ⋯ Quoted q.1))) (λ _. Anything) (λ _. Unit {0}) (Of kinds.Equals ⋯ Never)
+      (λ x y back rest s next. tt) (λ x back rest d. tt) name-rule
+      (skip-rule IsFormed (expect kinds.Equals) (quoted <&> (expect_word (codes "plan") >> quoted)) (Of kinds.Equals) (λ (q : List ℕ × List ℕ). Quoted q.0 ⋯ (Word (codes "plan") ⋯ Quoted q.1))
+      (λ _. Anything) (λ _. Unit {0}) Never equals-rule quotes-rule))
+
+  test_parts-rule : IsRule IsFormed (expect_word (codes "of") >> (path <&> (expect_word (codes "drive") >> (name <&> (expect kinds.Equals >> (quoted <&> (expect_word (codes "plan") >> quoted)))))))
+      TestForm (λ _. Anything) (λ _. Unit {0}) Never
+  test_parts-rule =
+      no_deep-rule _ TestForm (λ _. Anything) (λ _. Unit {0} × Unit {0}) _ (λ ts d. ⊎_elim (λ e. e) (λ e. e.1.ends.ends) d.ends) (λ x. (tt, tt))
+      (skip-rule IsFormed (expect_word (codes "of")) _ (Word (codes "of"))
+      (λ (t : AstPath × (AstName × (List ℕ × List ℕ))). Path t.0.names ⋯ (Word (codes "drive") ⋯ (Name t.1.0 ⋯ (Of kinds.Equals ⋯ (Quoted t.1.1.0 ⋯ (Word (codes "plan") ⋯ Quoted t.1.1.1))))))
+      (λ _. Anything) (λ _. Unit {0} × Unit {0}) _ (word-rule (codes "of") refl)
+      (both-rule IsFormed path _ (λ (p : AstPath). Path p.names) (λ _. PathNext) (λ _. Unit {0}) Never
+      (λ (t : AstName × (List ℕ × List ℕ)). Word (codes "drive") ⋯ (Name t.0 ⋯ (Of kinds.Equals ⋯ (Quoted t.1.0 ⋯ (Word (codes "plan") ⋯ Quoted t.1.1))))) (λ _. Anything) (λ _. Unit {0}) (Word (codes "drive") ⋯ Never)
+      (λ x y back rest s next. word_path (codes "drive") _ back rest s) (λ x back rest d. absurd d.ends) path-rule
+      (skip-rule IsFormed (expect_word (codes "drive")) _ (Word (codes "drive"))
+      (λ (t : AstName × (List ℕ × List ℕ)). Name t.0 ⋯ (Of kinds.Equals ⋯ (Quoted t.1.0 ⋯ (Word (codes "plan") ⋯ Quoted t.1.1)))) (λ _. Anything) (λ _. Unit {0}) Never
+      (word-rule (codes "drive") refl) driven-rule)))
+
+  pub kind-rule_of : (begun : Keyword) → IsRule IsFormed (kind_of n begun) (KindForm begun) (λ _. PathNext) (KindWithin n) (KindTo begun)
+  unfolding impl_kind test_kind
+  kind-rule_of keywords.Type =
+      map-rule IsFormed decls.Alias (expect kinds.Equals >> ltype n) (λ x. Of kinds.Equals ⋯ S x) (λ _. PathNext) (Fits n) (Of kinds.Equals ⋯ (ltype-rule n).Deep)
+      (KindForm keywords.Type) (λ _. PathNext) (KindWithin n) (KindTo keywords.Type)
+      (record { there = λ x ts s. (refl, s); back = alias_back; follow = λ x rest next. next; within = λ x w. w; apart = λ x w. w; first = λ ts d. d; deep = λ ts d. d })
+      (skip-rule IsFormed (expect kinds.Equals) (ltype n) (Of kinds.Equals) S (λ _. PathNext) (Fits n) (ltype-rule n).Deep equals-rule (ltype-rule n).rule)
+  kind-rule_of keywords.Interface =
+      map-rule IsFormed decls.Interface (expect kinds.Equals >> bracketed (port n)) (λ x. Of kinds.Equals ⋯ SpellsPorts x) (λ _. Anything) (PortsWithin n) (Of kinds.Equals ⋯ PortsTo n)
+      (KindForm keywords.Interface) (λ _. PathNext) (KindWithin n) (KindTo keywords.Interface)
+      (record { there = λ x ts s. (refl, s); back = interface_back; follow = λ x rest next. tt; within = λ x w. w; apart = λ x w. w; first = λ ts d. d; deep = λ ts d. d })
+      (skip-rule IsFormed (expect kinds.Equals) (bracketed (port n)) (Of kinds.Equals) SpellsPorts (λ _. Anything) (PortsWithin n) (PortsTo n) equals-rule (ports-rule n))
+  kind-rule_of keywords.Streamlet =
+      map-rule IsFormed decls.Streamlet (expect kinds.Equals >> streamlet_ports n) (λ x. Of kinds.Equals ⋯ SpellsStreamletPorts x) (λ _. PathNext) (StreamletWithin n) (Of kinds.Equals ⋯ PortsTo n)
+      (KindForm keywords.Streamlet) (λ _. PathNext) (KindWithin n) (KindTo keywords.Streamlet)
+      (record { there = λ x ts s. (refl, s); back = streamlet_back; follow = λ x rest next. next; within = λ x w. w; apart = λ x w. w; first = λ ts d. d; deep = λ ts d. d })
+      (skip-rule IsFormed (expect kinds.Equals) (streamlet_ports n) (Of kinds.Equals) SpellsStreamletPorts (λ _. PathNext) (StreamletWithin n) (PortsTo n) equals-rule (streamlet-rule n))
+  kind-rule_of keywords.Impl =
+      map-rule IsFormed (λ (i : AstPath × AstBody). decls.Impl i.0 i.1) _ ImplForm (λ _. Anything) (λ _. Unit {0}) Never
+      (KindForm keywords.Impl) (λ _. PathNext) (KindWithin n) Never
+      (record { there = λ x ts s. (refl, s); back = impl_back; follow = λ x rest next. tt; within = λ x w. tt; apart = λ x w. tt; first = λ ts d. d; deep = λ ts d. d })
+      impl_parts-rule
+  kind-rule_of keywords.Test =
+      map-rule IsFormed (λ (t : AstPath × (AstName × (List ℕ × List ℕ))). decls.Test t.0 t.1.0 t.1.1.0 t.1.1.1) _ TestForm (λ _. Anything) (λ _. Unit {0}) Never
+      (KindForm keywords.Test) (λ _. PathNext) (KindWithin n) Never
+      (record { there = λ x ts s. (refl, s); back = test_back; follow = λ x rest next. tt; within = λ x w. tt; apart = λ x w. tt; first = λ ts d. d; deep = λ ts d. d })
+      test_parts-rule

@@ -1,0 +1,3 @@
+pub mod NumberTextLemmas
+pub mod TypeTexts
+pub mod WrittenLemmas
