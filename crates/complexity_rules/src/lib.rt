@@ -7,19 +7,19 @@ mod breaking;
 mod checker;
 mod checking;
 mod levels;
-#[cfg(test)]
-mod moments;
 mod pauses;
+#[cfg(test)]
+mod reference_rules;
 #[cfg(test)]
 mod sweep_tests;
 mod table;
 #[cfg(test)]
 mod table_tests;
 #[cfg(test)]
+mod test_cycles;
+#[cfg(test)]
 mod tests;
 mod walk;
-#[cfg(test)]
-mod whole_lists;
 
 pub use checker::Checker;
 pub use levels::levels_are_kept;

@@ -1,7 +1,7 @@
 //! What a checker says of all small transfers, against the rules over whole lists.
 
-use crate::moments::{Moment, Payload, checker_after, params_of, step_by, told_by};
-use crate::whole_lists::{broken_by, told_of};
+use crate::reference_rules::{broken_by, told_of};
+use crate::test_cycles::{Cycle, Payload, checker_after, params_of, step_by, told_by};
 use physical_stream::Params;
 use std::alloc::Global;
 use std::test::Fail;
@@ -11,7 +11,7 @@ use tydi_base::{List, Memory};
 /// up to this many of them.
 struct Sweep {
     dims: u8,
-    moments: u16,
+    choices: u16,
     cycles: u8,
 }
 
@@ -20,27 +20,27 @@ struct Sweep {
 const SWEEPS: [Sweep; 5] = [
     Sweep {
         dims: 0,
-        moments: 66,
+        choices: 66,
         cycles: 3,
     },
     Sweep {
         dims: 1,
-        moments: 258,
+        choices: 258,
         cycles: 2,
     },
     Sweep {
         dims: 1,
-        moments: 130,
+        choices: 130,
         cycles: 3,
     },
     Sweep {
         dims: 2,
-        moments: 514,
+        choices: 514,
         cycles: 2,
     },
     Sweep {
         dims: 2,
-        moments: 66,
+        choices: 66,
         cycles: 3,
     },
 ];
@@ -65,13 +65,13 @@ fn payload_at(dims: u8, number: u16) -> Payload {
 }
 
 /// The cycle of this number: without ready where it is even; the first two are without valid.
-fn moment_at(dims: u8, number: u16) -> Moment {
+fn cycle_at(dims: u8, number: u16) -> Cycle {
     let ready = number % 2 == 1;
     let shown = match (number / 2).checked_sub(1) {
         None => None,
         Some(payload) => Some(payload_at(dims, payload)),
     };
-    Moment { ready, shown }
+    Cycle { ready, shown }
 }
 
 /// How often a checker and the rules over whole lists were compared, and how often they told apart.
@@ -82,12 +82,7 @@ struct Tally {
 }
 
 /// Whether the last cycle breaks no rule after the others.
-fn compare(
-    alloc: Global,
-    p: &Params,
-    cycles: &[Moment],
-    tally: &mut Tally,
-) -> Result<bool, Memory> {
+fn compare(alloc: Global, p: &Params, cycles: &[Cycle], tally: &mut Tally) -> Result<bool, Memory> {
     let Some((now, before)) = cycles.split_last() else {
         return Err(Memory);
     };
@@ -108,15 +103,15 @@ fn compare_after(
     alloc: Global,
     p: &Params,
     sweep: &Sweep,
-    cycles: &mut List<Moment>,
+    cycles: &mut List<Cycle>,
     more: u8,
     tally: &mut Tally,
 ) -> Result<(), Memory> {
     if more == 0 {
         return Ok(());
     }
-    for number in 0..sweep.moments {
-        cycles.push(moment_at(sweep.dims, number))?;
+    for number in 0..sweep.choices {
+        cycles.push(cycle_at(sweep.dims, number))?;
         if compare(alloc, p, cycles.as_slice(), tally)? {
             compare_after(alloc, p, sweep, cycles, more - 1, tally)?;
         }

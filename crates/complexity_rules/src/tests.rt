@@ -1,7 +1,7 @@
 //! What a checker says, by cases worked out by hand.
 
 use super::*;
-use crate::moments::{Moment, Payload, checker_after, params_of, step_by, told_by};
+use crate::test_cycles::{Cycle, Payload, checker_after, params_of, step_by, told_by};
 use physical_stream::{End, Rule};
 use std::alloc::Global;
 use std::test::Fail;
@@ -10,7 +10,7 @@ use tydi_base::Memory;
 /// A cycle that shows this.
 macro_rules! shown {
     ($ready:expr, $content:expr, $last:expr, $stai:expr, $endi:expr, $strb:expr) => {
-        Moment {
+        Cycle {
             ready: $ready,
             shown: Some(Payload {
                 content: $content,
@@ -37,7 +37,7 @@ macro_rules! offered {
     };
 }
 
-const PAUSE: Moment = Moment {
+const PAUSE: Cycle = Cycle {
     ready: true,
     shown: None,
 };
@@ -48,10 +48,10 @@ struct Case {
     lanes: u16,
     dims: u8,
     level: u8,
-    before: &'static [Moment],
-    now: Moment,
+    before: &'static [Cycle],
+    now: Cycle,
     broken: Rule,
-    instead: Moment,
+    instead: Cycle,
     transfers: u64,
 }
 

@@ -9,7 +9,7 @@ use Rattle.physical_stream.specs.Params.{Parameters}
 use Rattle.physical_stream.specs.Cycles.{Cycle}
 use Rattle.cycle_trace.specs.declared.fault.TraceFault.{TraceFault}
 use Rattle.cycle_trace.specs.declared.fault.TraceFault.TheVariants as faults
-use Rattle.cycle_trace.specs.HeaderText.{in_header, head_after, is_head_line, heads_from, count_of_cycles, Opening, title_of, opening_after, opening_of}
+use Rattle.cycle_trace.specs.HeaderText.{in_header, head_after, is_head_line, heads_from, count_of_cycles, HeaderStart, title_of, header_start_after, header_start_of}
 use Rattle.cycle_trace.specs.RowText.{row_of, row_at}
 use Rattle.cycle_trace.specs.Trace.{TraceText}
 use Rattle.cycle_trace.specs.TraceText.{rows_from, rows_after, trace_from, trace_of}
@@ -54,18 +54,18 @@ heads_free number paths (line ∷ next ∷ lines) e = if_free (is_head_line line
     (λ head. bind_free (heads_from (suc number) (path_text head.path ∷ paths) (next ∷ lines)) _ (heads_free (suc number) (path_text head.path ∷ paths) (next ∷ lines)) (λ rest. ok_free _)))
     (ok_free _) e
 
-opening_after_free : (lines : List (List ℕ)) → opening_after lines ≡ Err faults.Memory → ⊥
-unfolding opening_after
-opening_after_free [] e = header_free Opening 2 e
-opening_after_free (last ∷ []) e = header_free Opening 2 e
-opening_after_free (second ∷ next ∷ lines) e =
+header_start_after_free : (lines : List (List ℕ)) → header_start_after lines ≡ Err faults.Memory → ⊥
+unfolding header_start_after
+header_start_after_free [] e = header_free HeaderStart 2 e
+header_start_after_free (last ∷ []) e = header_free HeaderStart 2 e
+header_start_after_free (second ∷ next ∷ lines) e =
     bind_free (in_header 2 (count_of_cycles second)) _ (in_header_free 2 (count_of_cycles second)) (λ cycles. bind_free (heads_from 3 [] (next ∷ lines)) _ (heads_free 3 [] (next ∷ lines)) (λ found. ok_free _)) e
 
-opening_free : (lines : List (List ℕ)) → opening_of lines ≡ Err faults.Memory → ⊥
-unfolding opening_of
-opening_free [] e = header_free Opening 1 e
-opening_free (last ∷ []) e = header_free Opening 1 e
-opening_free (first ∷ next ∷ lines) e = bind_free (in_header 1 (title_of first)) _ (in_header_free 1 (title_of first)) (λ fine. opening_after_free (next ∷ lines)) e
+header_start_free : (lines : List (List ℕ)) → header_start_of lines ≡ Err faults.Memory → ⊥
+unfolding header_start_of
+header_start_free [] e = header_free HeaderStart 1 e
+header_start_free (last ∷ []) e = header_free HeaderStart 1 e
+header_start_free (first ∷ next ∷ lines) e = bind_free (in_header 1 (title_of first)) _ (in_header_free 1 (title_of first)) (λ fine. header_start_after_free (next ∷ lines)) e
 
 row_fault_free : (number : ℕ) (form : Bool) → ◌≡◌ {A = Result Cycle TraceFault} (Err (cond form (faults.WrongSignals number) (faults.BadRow number))) (Err faults.Memory) → ⊥
 row_fault_free number true e = cc
@@ -103,14 +103,14 @@ rows_free want got number (p ∷ streams) ((byte ∷ rest) ∷ next ∷ lines) e
 too_many_free : ◌≡◌ {A = Result TraceText TraceFault} (Err faults.TooManyCycles) (Err faults.Memory) → ⊥
 too_many_free e = cc
 
-trace_from_free : (opening : Opening) → trace_from opening ≡ Err faults.Memory → ⊥
+trace_from_free : (header : HeaderStart) → trace_from header ≡ Err faults.Memory → ⊥
 unfolding trace_from
-trace_from_free opening e = if_free _ _ (Err faults.TooManyCycles) (bind_free (rows_after opening.cycles opening.heads opening.lines) _ (rows_free _ _ _ _ _) (λ rows. ok_free _)) too_many_free e
+trace_from_free header e = if_free _ _ (Err faults.TooManyCycles) (bind_free (rows_after header.cycles header.heads header.lines) _ (rows_free _ _ _ _ _) (λ rows. ok_free _)) too_many_free e
 
 -- a trace text is never at fault for want of memory
 pub trace_free : (text : List ℕ) → trace_of text ≡ Err faults.Memory → ⊥
 unfolding trace_of
-trace_free text e = bind_free (opening_of (lines_of text)) trace_from (opening_free (lines_of text)) trace_from_free e
+trace_free text e = bind_free (header_start_of (lines_of text)) trace_from (header_start_free (lines_of text)) trace_from_free e
 
 -- ---- tokens
 

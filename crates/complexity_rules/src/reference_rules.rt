@@ -1,7 +1,7 @@
 //! The rules over whole lists of cycles, slowly, in the words in which they are told: what a checker is tried against. It is
 //! for streams of two lanes and at most two dimensions.
 
-use crate::moments::{Moment, Payload, Told, transfer_of};
+use crate::test_cycles::{Cycle, Payload, Told, transfer_of};
 use physical_stream::{End, Item, Params, Rule, Tail, items_of};
 use std::alloc::Global;
 use tydi_base::{List, Memory};
@@ -31,11 +31,11 @@ fn push_items(
 }
 
 /// The kinds of the items of all transfers done.
-fn items_done(alloc: Global, p: &Params, before: &[Moment]) -> Result<List<Tail>, Memory> {
+fn items_done(alloc: Global, p: &Params, before: &[Cycle]) -> Result<List<Tail>, Memory> {
     let mut items = List::new(alloc);
-    for moment in before {
-        if let Some(payload) = &moment.shown {
-            if moment.ready {
+    for cycle in before {
+        if let Some(payload) = &cycle.shown {
+            if cycle.ready {
                 push_items(alloc, &mut items, p, payload)?;
             }
         }
@@ -53,7 +53,7 @@ fn item_before(items: &[Tail], place: usize) -> Option<Tail> {
 }
 
 /// What the last cycle showed with valid and without ready.
-fn waiting(before: &[Moment]) -> Option<Payload> {
+fn waiting(before: &[Cycle]) -> Option<Payload> {
     match before.last() {
         None => None,
         Some(last) => { if last.ready { None } else { last.shown } }
@@ -61,7 +61,7 @@ fn waiting(before: &[Moment]) -> Option<Payload> {
 }
 
 /// After a cycle with valid and without ready, a cycle without valid or with another payload.
-fn breaks_hold(before: &[Moment], now: &Moment) -> bool {
+fn breaks_hold(before: &[Cycle], now: &Cycle) -> bool {
     match waiting(before) {
         None => false,
         Some(offered) => now.shown != Some(offered),
@@ -179,8 +179,8 @@ fn first_broken(p: &Params, rows: &[(Rule, u8, bool)]) -> Option<Rule> {
 fn broken_by_shown(
     alloc: Global,
     p: &Params,
-    before: &[Moment],
-    now: &Moment,
+    before: &[Cycle],
+    now: &Cycle,
     payload: &Payload,
 ) -> Result<Option<Rule>, Memory> {
     let mut items = items_done(alloc, p, before)?;
@@ -203,8 +203,8 @@ fn broken_by_shown(
 fn broken_by_pause(
     alloc: Global,
     p: &Params,
-    before: &[Moment],
-    now: &Moment,
+    before: &[Cycle],
+    now: &Cycle,
 ) -> Result<Option<Rule>, Memory> {
     let items = items_done(alloc, p, before)?;
     let rows = [
@@ -219,8 +219,8 @@ fn broken_by_pause(
 pub(crate) fn broken_by(
     alloc: Global,
     p: &Params,
-    before: &[Moment],
-    now: &Moment,
+    before: &[Cycle],
+    now: &Cycle,
 ) -> Result<Option<Rule>, Memory> {
     match &now.shown {
         None => broken_by_pause(alloc, p, before, now),
@@ -229,7 +229,7 @@ pub(crate) fn broken_by(
 }
 
 /// How cycles end.
-fn end_of(p: &Params, before: &[Moment], items: &[Tail]) -> End {
+fn end_of(p: &Params, before: &[Cycle], items: &[Tail]) -> End {
     if waiting(before).is_some() {
         return End::Pending;
     }
@@ -242,8 +242,8 @@ fn end_of(p: &Params, before: &[Moment], items: &[Tail]) -> End {
     }
 }
 
-fn count_done(before: &[Moment]) -> usize {
-    before.iter().filter(|moment| moment.is_done()).count()
+fn count_done(before: &[Cycle]) -> usize {
+    before.iter().filter(|cycle| cycle.is_done()).count()
 }
 
 fn count_packets(p: &Params, items: &[Tail]) -> usize {
@@ -251,7 +251,7 @@ fn count_packets(p: &Params, items: &[Tail]) -> usize {
 }
 
 /// What is told of cycles as a whole.
-pub(crate) fn told_of(alloc: Global, p: &Params, before: &[Moment]) -> Result<Told, Memory> {
+pub(crate) fn told_of(alloc: Global, p: &Params, before: &[Cycle]) -> Result<Told, Memory> {
     let items = items_done(alloc, p, before)?;
     Ok(Told {
         end: end_of(p, before, items.as_slice()),

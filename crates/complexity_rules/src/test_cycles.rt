@@ -17,12 +17,12 @@ pub(crate) struct Payload {
 
 /// A cycle, by numbers.
 #[derive(Clone, Copy, Debug, PartialEq, Eq)]
-pub(crate) struct Moment {
+pub(crate) struct Cycle {
     pub ready: bool,
     pub shown: Option<Payload>,
 }
 
-impl Moment {
+impl Cycle {
     /// Whether a transfer is done.
     pub(crate) fn is_done(&self) -> bool {
         self.ready && self.shown.is_some()
@@ -95,13 +95,13 @@ fn step_none(checker: &mut Checker, ready: bool) -> Result<Option<Rule>, Memory>
 pub(crate) fn step_by(
     alloc: Global,
     checker: &mut Checker,
-    moment: &Moment,
+    cycle: &Cycle,
 ) -> Result<Option<Rule>, Memory> {
-    match &moment.shown {
-        None => step_none(checker, moment.ready),
+    match &cycle.shown {
+        None => step_none(checker, cycle.ready),
         Some(payload) => {
             let transfer = transfer_of(alloc, checker.params(), payload)?;
-            step_transfer(checker, moment.ready, &transfer)
+            step_transfer(checker, cycle.ready, &transfer)
         }
     }
 }
@@ -110,11 +110,11 @@ pub(crate) fn step_by(
 pub(crate) fn checker_after(
     alloc: Global,
     p: &Params,
-    before: &[Moment],
+    before: &[Cycle],
 ) -> Result<Checker, Memory> {
     let mut checker = Checker::new(alloc, *p)?;
-    for moment in before {
-        step_by(alloc, &mut checker, moment)?;
+    for cycle in before {
+        step_by(alloc, &mut checker, cycle)?;
     }
     Ok(checker)
 }
