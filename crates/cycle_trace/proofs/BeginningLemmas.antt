@@ -19,17 +19,17 @@ use Rattle.cycle_trace.specs.declared.fault.TraceFault.{TraceFault}
 use Rattle.cycle_trace.specs.declared.fault.TraceFault.TheVariants.{BadHeader, TooManyCycles, RowsLeft}
 use Rattle.cycle_trace.specs.Beginnings.{Fails, GoesOn, GoesOnLine, IsFault, Opens, OpensWith, begun, heads_on, rows_on}
 use Rattle.cycle_trace.specs.Faults.{fault_in}
-use Rattle.cycle_trace.specs.HeaderText.{Opening, count_of_cycles, head_after, heads_from, in_header, is_head_line, opening_after, opening_of, title_of}
+use Rattle.cycle_trace.specs.HeaderText.{HeaderStart, count_of_cycles, head_after, heads_from, in_header, is_head_line, header_start_after, header_start_of, title_of}
 use Rattle.cycle_trace.specs.RowSink.{with_row}
 use Rattle.cycle_trace.specs.RowText.{row_at}
 use Rattle.cycle_trace.specs.RowsText.{cut_row}
 use Rattle.cycle_trace.specs.TextSet.{AddsText, HasTexts}
 use Rattle.cycle_trace.specs.Trace.{TraceText, are_heads, most_cycles, owed, params_of_heads}
 use Rattle.cycle_trace.specs.TraceText.{rows_from, trace_from, trace_of}
-use Rattle.cycle_trace.proofs.HeaderLemmas.{after_cycles, heads_from-head, heads_from-other, of_title, opening_after-one, opening_of-one, some_lines}
+use Rattle.cycle_trace.proofs.HeaderLemmas.{after_cycles, heads_from-head, heads_from-other, of_title, header_start_after-one, header_start_of-one, some_lines}
 use Rattle.cycle_trace.proofs.KeepLemmas.{length-owed_heads}
 use Rattle.cycle_trace.proofs.RowsLemmas.{rows_from-cons, rows_from-cut, rows_from-left, some_line}
-use Rattle.cycle_trace.proofs.StreamsLemmas.{opening_of-are_heads}
+use Rattle.cycle_trace.proofs.StreamsLemmas.{header_start_of-are_heads}
 use Rattle.cycle_trace.proofs.TextSetLemmas.{HasTexts-more}
 
 -- ---- bytes and lines
@@ -63,9 +63,9 @@ fault_by read next e so is = by_cases (fault_in e) is
     by_cases (Some f) h = so f h
 
 -- the bytes of the line that is begun
-pub Opens-more : (bytes line more : List ℕ) (gives : List (List ℕ) → Result Opening TraceFault) → Opens bytes line gives → Opens (bytes ++ more) (line ++ more) gives
+pub Opens-more : (bytes line more : List ℕ) (gives : List (List ℕ) → Result HeaderStart TraceFault) → Opens bytes line gives → Opens (bytes ++ more) (line ++ more) gives
 Opens-more bytes line more gives opens rest =
-    ap (λ (text : List ℕ). opening_of (lines_of text)) (append_assoc bytes more rest) ∙ opens (more ++ rest) ∙ ap (λ (text : List ℕ). gives (lines_of text)) (sym (append_assoc line more rest))
+    ap (λ (text : List ℕ). header_start_of (lines_of text)) (append_assoc bytes more rest) ∙ opens (more ++ rest) ∙ ap (λ (text : List ℕ). gives (lines_of text)) (sym (append_assoc line more rest))
 
 pub OpensWith-more : {Y : Type 0} (bytes line more : List ℕ) (cycles : ℕ) (heads : List Head) (set : BTreeSet (Vec ℕ Y)) → OpensWith bytes line cycles heads set → OpensWith (bytes ++ more) (line ++ more) cycles heads set
 OpensWith-more bytes line more cycles heads set h = record { paths = h.paths; many = h.many; few = h.few; told = h.told; opens = Opens-more bytes line more (heads_on cycles heads h.paths) h.opens }
@@ -77,56 +77,56 @@ GoesOn-more bytes line more t goes rest =
 -- ---- the header
 
 module _ (bytes line : List ℕ) (plain : Lacks 10 line) where
-  opens_line : (gives : List (List ℕ) → Result Opening TraceFault) → Opens bytes line gives → (more : List ℕ) → opening_of (lines_of ((bytes ++ 10 ∷ []) ++ more)) ≡ gives (line ∷ lines_of more)
-  opens_line gives opens more = ap (λ (text : List ℕ). opening_of (lines_of text)) (joined bytes more) ∙ opens (10 ∷ more) ∙ ap gives (line_of line more plain)
+  opens_line : (gives : List (List ℕ) → Result HeaderStart TraceFault) → Opens bytes line gives → (more : List ℕ) → header_start_of (lines_of ((bytes ++ 10 ∷ []) ++ more)) ≡ gives (line ∷ lines_of more)
+  opens_line gives opens more = ap (λ (text : List ℕ). header_start_of (lines_of text)) (joined bytes more) ∙ opens (10 ∷ more) ∙ ap gives (line_of line more plain)
 
-  opens_last : (gives : List (List ℕ) → Result Opening TraceFault) → Opens bytes line gives → opening_of (lines_of bytes) ≡ gives (line ∷ [])
-  opens_last gives opens = ap (λ (text : List ℕ). opening_of (lines_of text)) (sym (whole_text bytes)) ∙ opens [] ∙ ap gives (last_of line plain)
+  opens_last : (gives : List (List ℕ) → Result HeaderStart TraceFault) → Opens bytes line gives → header_start_of (lines_of bytes) ≡ gives (line ∷ [])
+  opens_last gives opens = ap (λ (text : List ℕ). header_start_of (lines_of text)) (sym (whole_text bytes)) ∙ opens [] ∙ ap gives (last_of line plain)
 
   -- a line that is wrong
-  fails_line : (gives : List (List ℕ) → Result Opening TraceFault) (e : TraceFault) → Opens bytes line gives → ((more : List ℕ) → IsFault (gives (line ∷ lines_of more)) e) → Fails (bytes ++ 10 ∷ []) e
+  fails_line : (gives : List (List ℕ) → Result HeaderStart TraceFault) (e : TraceFault) → Opens bytes line gives → ((more : List ℕ) → IsFault (gives (line ∷ lines_of more)) e) → Fails (bytes ++ 10 ∷ []) e
   unfolding trace_of
   fails_line gives e opens wrong more =
       fault_by (gives (line ∷ lines_of more)) (trace_of ((bytes ++ 10 ∷ []) ++ more)) e
-      (λ f is. ap (λ (o : Result Opening TraceFault). o >>= trace_from) (opens_line gives opens more ∙ is)) (wrong more)
+      (λ f is. ap (λ (o : Result HeaderStart TraceFault). o >>= trace_from) (opens_line gives opens more ∙ is)) (wrong more)
 
   -- the first line
-  pub title-ok : Opens bytes line opening_of → in_header 1 (title_of line) ≡ Ok tt → Opens (bytes ++ 10 ∷ []) [] opening_after
+  pub title-ok : Opens bytes line header_start_of → in_header 1 (title_of line) ≡ Ok tt → Opens (bytes ++ 10 ∷ []) [] header_start_after
   title-ok opens right more =
-      opens_line opening_of opens more ∙ of_title line (lines_of more) (some_lines more) ∙ ap (λ (o : Result (Unit {0}) TraceFault). o >>= λ fine. opening_after (lines_of more)) right
+      opens_line header_start_of opens more ∙ of_title line (lines_of more) (some_lines more) ∙ ap (λ (o : Result (Unit {0}) TraceFault). o >>= λ fine. header_start_after (lines_of more)) right
 
-  pub title-fails : (e : TraceFault) → Opens bytes line opening_of → IsFault (in_header 1 (title_of line)) e → Fails (bytes ++ 10 ∷ []) e
-  title-fails e opens wrong = fails_line opening_of e opens (λ more. fault_by (in_header 1 (title_of line)) (opening_of (line ∷ lines_of more)) e
-      (λ f is. of_title line (lines_of more) (some_lines more) ∙ ap (λ (o : Result (Unit {0}) TraceFault). o >>= λ fine. opening_after (lines_of more)) is) wrong)
+  pub title-fails : (e : TraceFault) → Opens bytes line header_start_of → IsFault (in_header 1 (title_of line)) e → Fails (bytes ++ 10 ∷ []) e
+  title-fails e opens wrong = fails_line header_start_of e opens (λ more. fault_by (in_header 1 (title_of line)) (header_start_of (line ∷ lines_of more)) e
+      (λ f is. of_title line (lines_of more) (some_lines more) ∙ ap (λ (o : Result (Unit {0}) TraceFault). o >>= λ fine. header_start_after (lines_of more)) is) wrong)
 
   -- the second line
-  pub cycles-ok : {Y : Type 0} (cycles : ℕ) (set : BTreeSet (Vec ℕ Y)) → Opens bytes line opening_after → in_header 2 (count_of_cycles line) ≡ Ok cycles → HasTexts set [] → OpensWith (bytes ++ 10 ∷ []) [] cycles [] set
+  pub cycles-ok : {Y : Type 0} (cycles : ℕ) (set : BTreeSet (Vec ℕ Y)) → Opens bytes line header_start_after → in_header 2 (count_of_cycles line) ≡ Ok cycles → HasTexts set [] → OpensWith (bytes ++ 10 ∷ []) [] cycles [] set
   cycles-ok cycles set opens right none = record {
     paths = [];
     many = refl;
     few = omega arith;
     told = none;
     opens = λ more.
-        opens_line opening_after opens more ∙ after_cycles line (lines_of more) (some_lines more)
+        opens_line header_start_after opens more ∙ after_cycles line (lines_of more) (some_lines more)
         ∙ ap (λ (o : Result ℕ TraceFault). o >>= λ n. heads_from 3 [] (lines_of more) >>= λ found. Ok (record { cycles = n; heads = found.0; lines = found.1 })) right;
   }
 
-  pub cycles-fails : (e : TraceFault) → Opens bytes line opening_after → IsFault (in_header 2 (count_of_cycles line)) e → Fails (bytes ++ 10 ∷ []) e
-  cycles-fails e opens wrong = fails_line opening_after e opens (λ more. fault_by (in_header 2 (count_of_cycles line)) (opening_after (line ∷ lines_of more)) e
+  pub cycles-fails : (e : TraceFault) → Opens bytes line header_start_after → IsFault (in_header 2 (count_of_cycles line)) e → Fails (bytes ++ 10 ∷ []) e
+  cycles-fails e opens wrong = fails_line header_start_after e opens (λ more. fault_by (in_header 2 (count_of_cycles line)) (header_start_after (line ∷ lines_of more)) e
       (λ f is. after_cycles line (lines_of more) (some_lines more)
       ∙ ap (λ (o : Result ℕ TraceFault). o >>= λ n. heads_from 3 [] (lines_of more) >>= λ found. Ok (record { cycles = n; heads = found.0; lines = found.1 })) is) wrong)
 
-  pub title-end : Opens bytes line opening_of → trace_of bytes ≡ Err (BadHeader 1)
+  pub title-end : Opens bytes line header_start_of → trace_of bytes ≡ Err (BadHeader 1)
   unfolding trace_of
-  title-end opens = ap (λ (o : Result Opening TraceFault). o >>= trace_from) (opens_last opening_of opens ∙ opening_of-one line)
+  title-end opens = ap (λ (o : Result HeaderStart TraceFault). o >>= trace_from) (opens_last header_start_of opens ∙ header_start_of-one line)
 
-  pub cycles-end : Opens bytes line opening_after → trace_of bytes ≡ Err (BadHeader 2)
+  pub cycles-end : Opens bytes line header_start_after → trace_of bytes ≡ Err (BadHeader 2)
   unfolding trace_of
-  cycles-end opens = ap (λ (o : Result Opening TraceFault). o >>= trace_from) (opens_last opening_after opens ∙ opening_after-one line)
+  cycles-end opens = ap (λ (o : Result HeaderStart TraceFault). o >>= trace_from) (opens_last header_start_after opens ∙ header_start_after-one line)
 
 -- one head more in front
 front-more : (cycles : ℕ) (heads : List Head) (head : Head) (read : Result (List Head × List (List ℕ)) TraceFault)
-    → ◌≡◌ {A = Result Opening TraceFault} (◌>>=◌ {A = List Head × List (List ℕ)} (◌>>=◌ {A = List Head × List (List ℕ)} {B = List Head × List (List ℕ)} read (λ rest. Ok (head ∷ rest.0, rest.1))) (λ found. Ok (record { cycles = cycles; heads = heads ++ found.0; lines = found.1 })))
+    → ◌≡◌ {A = Result HeaderStart TraceFault} (◌>>=◌ {A = List Head × List (List ℕ)} (◌>>=◌ {A = List Head × List (List ℕ)} {B = List Head × List (List ℕ)} read (λ rest. Ok (head ∷ rest.0, rest.1))) (λ found. Ok (record { cycles = cycles; heads = heads ++ found.0; lines = found.1 })))
     (◌>>=◌ {A = List Head × List (List ℕ)} read (λ found. Ok (record { cycles = cycles; heads = (heads ++ head ∷ []) ++ found.0; lines = found.1 })))
 front-more cycles heads head (Ok found) = rw (append_assoc heads (head ∷ []) found.0) refl
 front-more cycles heads head (Err d) = refl
@@ -189,39 +189,39 @@ module _ {Y : Type 0} (bytes line : List ℕ) (plain : Lacks 10 line) (cycles : 
       fault_by (in_header (3 + length heads) (head_after h.paths line)) (heads_on cycles heads h.paths (line ∷ lines_of more)) e (λ f read. heads_on-fails cycles heads h.paths line (lines_of more) f (some_lines more) is read) wrong)
 
   module _ (other : is_head_line line ≡ false) where
-    opened : (more : List ℕ) → opening_of (lines_of ((bytes ++ 10 ∷ []) ++ more)) ≡ Ok (record { cycles = cycles; heads = heads; lines = line ∷ lines_of more })
+    opened : (more : List ℕ) → header_start_of (lines_of ((bytes ++ 10 ∷ []) ++ more)) ≡ Ok (record { cycles = cycles; heads = heads; lines = line ∷ lines_of more })
     opened more = opens_line bytes line plain (heads_on cycles heads h.paths) h.opens more ∙ heads_on-other cycles heads h.paths line (lines_of more) (some_lines more) other
 
     -- the heads of the header may stand together
     pub heads-stand : are_heads heads ≡ true
-    heads-stand = opening_of-are_heads (lines_of ((bytes ++ 10 ∷ []) ++ [])) (record { cycles = cycles; heads = heads; lines = line ∷ lines_of [] }) (opened [])
+    heads-stand = header_start_of-are_heads (lines_of ((bytes ++ 10 ∷ []) ++ [])) (record { cycles = cycles; heads = heads; lines = line ∷ lines_of [] }) (opened [])
 
     -- the first line after the header
     pub header-ok : cycles ≤ most_cycles → GoesOnLine bytes line (begun cycles heads)
     unfolding trace_of
-    header-ok few more = ap (λ (o : Result Opening TraceFault). o >>= trace_from) (opened more) ∙ trace_from-begun cycles heads (line ∷ lines_of more) few
+    header-ok few more = ap (λ (o : Result HeaderStart TraceFault). o >>= trace_from) (opened more) ∙ trace_from-begun cycles heads (line ∷ lines_of more) few
 
     pub header-many : most_cycles < cycles → Fails (bytes ++ 10 ∷ []) TooManyCycles
     unfolding trace_of
-    header-many many more = ap (λ (o : Result Opening TraceFault). o >>= trace_from) (opened more) ∙ trace_from-many cycles heads (line ∷ lines_of more) many
+    header-many many more = ap (λ (o : Result HeaderStart TraceFault). o >>= trace_from) (opened more) ∙ trace_from-many cycles heads (line ∷ lines_of more) many
 
-    opened_last : opening_of (lines_of bytes) ≡ Ok (record { cycles = cycles; heads = heads; lines = line ∷ [] })
+    opened_last : header_start_of (lines_of bytes) ≡ Ok (record { cycles = cycles; heads = heads; lines = line ∷ [] })
     opened_last = opens_last bytes line plain (heads_on cycles heads h.paths) h.opens ∙ heads_on-last cycles heads h.paths line other
 
     pub heads-stand_last : are_heads heads ≡ true
-    heads-stand_last = opening_of-are_heads (lines_of bytes) (record { cycles = cycles; heads = heads; lines = line ∷ [] }) opened_last
+    heads-stand_last = header_start_of-are_heads (lines_of bytes) (record { cycles = cycles; heads = heads; lines = line ∷ [] }) opened_last
 
     pub header-end : cycles ≤ most_cycles → trace_of bytes ≡ rows_on (begun cycles heads) (line ∷ [])
     unfolding trace_of
-    header-end few = ap (λ (o : Result Opening TraceFault). o >>= trace_from) opened_last ∙ trace_from-begun cycles heads (line ∷ []) few
+    header-end few = ap (λ (o : Result HeaderStart TraceFault). o >>= trace_from) opened_last ∙ trace_from-begun cycles heads (line ∷ []) few
 
     pub header-end_many : most_cycles < cycles → trace_of bytes ≡ Err TooManyCycles
     unfolding trace_of
-    header-end_many many = ap (λ (o : Result Opening TraceFault). o >>= trace_from) opened_last ∙ trace_from-many cycles heads (line ∷ []) many
+    header-end_many many = ap (λ (o : Result HeaderStart TraceFault). o >>= trace_from) opened_last ∙ trace_from-many cycles heads (line ∷ []) many
 
   pub header-cut : is_head_line line ≡ true → trace_of bytes ≡ Err (BadHeader (3 + length heads))
   unfolding trace_of
-  header-cut is = ap (λ (o : Result Opening TraceFault). o >>= trace_from) (opens_last bytes line plain (heads_on cycles heads h.paths) h.opens ∙ heads_on-cut cycles heads h.paths line is)
+  header-cut is = ap (λ (o : Result HeaderStart TraceFault). o >>= trace_from) (opens_last bytes line plain (heads_on cycles heads h.paths) h.opens ∙ heads_on-cut cycles heads h.paths line is)
 
 -- ---- the rows
 

@@ -21,7 +21,7 @@ use Rattle.cycle_trace.specs.declared.fault.TraceFault.TheVariants.{BadHeader}
 use Rattle.cycle_trace.specs.declared.fault.Misspelling.{Misspelling}
 use Rattle.cycle_trace.specs.declared.fault.Misspelling.TheVariants as misspellings
 use Rattle.cycle_trace.specs.Faults.{misspelling_in}
-use Rattle.cycle_trace.specs.HeaderText.{header_number, head_of, head_after, is_head_line, in_header, heads_from, title_of, count_of_cycles, opening_after, opening_of}
+use Rattle.cycle_trace.specs.HeaderText.{header_number, head_of, head_after, is_head_line, in_header, heads_from, title_of, count_of_cycles, header_start_after, header_start_of}
 use Rattle.cycle_trace.specs.TextSet.{has_text, HasTexts}
 
 -- a number of at most ten digits
@@ -124,21 +124,21 @@ head_after-fits texts line number head e =
 
 -- ---- the first two lines
 
-pub of_title : (first : List ℕ) (lines : List (List ℕ)) → 0 < length lines → opening_of (first ∷ lines) ≡ (in_header 1 (title_of first) >>= λ fine. opening_after lines)
-unfolding opening_of
+pub of_title : (first : List ℕ) (lines : List (List ℕ)) → 0 < length lines → header_start_of (first ∷ lines) ≡ (in_header 1 (title_of first) >>= λ fine. header_start_after lines)
+unfolding header_start_of
 of_title first [] some = absurd (omega arith)
 of_title first (next ∷ lines) some = refl
 
 pub after_cycles : (second : List ℕ) (lines : List (List ℕ)) → 0 < length lines
-    → opening_after (second ∷ lines) ≡ (in_header 2 (count_of_cycles second) >>= λ cycles. heads_from 3 [] lines >>= λ found. Ok (record { cycles = cycles; heads = found.0; lines = found.1 }))
-unfolding opening_after
+    → header_start_after (second ∷ lines) ≡ (in_header 2 (count_of_cycles second) >>= λ cycles. heads_from 3 [] lines >>= λ found. Ok (record { cycles = cycles; heads = found.0; lines = found.1 }))
+unfolding header_start_after
 after_cycles second [] some = absurd (omega arith)
 after_cycles second (next ∷ lines) some = refl
 
-pub opening_of-one : (line : List ℕ) → opening_of (line ∷ []) ≡ Err (BadHeader 1)
-unfolding opening_of
-opening_of-one line = refl
+pub header_start_of-one : (line : List ℕ) → header_start_of (line ∷ []) ≡ Err (BadHeader 1)
+unfolding header_start_of
+header_start_of-one line = refl
 
-pub opening_after-one : (line : List ℕ) → opening_after (line ∷ []) ≡ Err (BadHeader 2)
-unfolding opening_after
-opening_after-one line = refl
+pub header_start_after-one : (line : List ℕ) → header_start_after (line ∷ []) ≡ Err (BadHeader 2)
+unfolding header_start_after
+header_start_after-one line = refl

@@ -6,7 +6,7 @@ use Rattle.std.proofs.lemmas.List.Elements.{All-append, All-head, All-nil}
 use Rattle.std.specs.List.{All}
 use Rattle.tydi_base.proofs.PieceLaws.{pieces_of-each_lacks}
 use Rattle.tydi_base.specs.Pieces.{Lacks, lines_of}
-use Rattle.cycle_trace.specs.HeaderText.{opening_of, opening_after}
+use Rattle.cycle_trace.specs.HeaderText.{header_start_of, header_start_after}
 use Rattle.cycle_trace.specs.ReaderView.{AfterLine, AfterRow, StandsAt, StaysFailed}
 use Rattle.cycle_trace.specs.Trace.{TraceText}
 use Rattle.cycle_trace.specs.declared.fault.TraceFault.{TraceFault}
@@ -22,8 +22,8 @@ plain-none = All-nil (λ byte. byte ≢ 10)
 module _ {K : Type 0} (stands : K → Option TraceText → Type 0) (sink : K) (text : TextRead) where
   -- the line that is begun goes on
   pub StandsAt-more : (stage : Stage) (line bytes more : List ℕ) → Lacks 10 more → StandsAt stands sink text stage line bytes → StandsAt stands sink text stage (line ++ more) (bytes ++ more)
-  StandsAt-more stages.Title line bytes more plain h = (h.0, All-append (λ byte. byte ≢ 10) line more h.1 plain, h.2, Opens-more bytes line more opening_of h.3)
-  StandsAt-more stages.Cycles line bytes more plain h = (h.0, All-append (λ byte. byte ≢ 10) line more h.1 plain, h.2, Opens-more bytes line more opening_after h.3)
+  StandsAt-more stages.Title line bytes more plain h = (h.0, All-append (λ byte. byte ≢ 10) line more h.1 plain, h.2, Opens-more bytes line more header_start_of h.3)
+  StandsAt-more stages.Cycles line bytes more plain h = (h.0, All-append (λ byte. byte ≢ 10) line more h.1 plain, h.2, Opens-more bytes line more header_start_after h.3)
   StandsAt-more stages.Heads line bytes more plain h = (h.0, All-append (λ byte. byte ≢ 10) line more h.1 plain, OpensWith-more bytes line more text.cycles text.heads text.paths h.2)
   StandsAt-more stages.Rows line bytes more plain h = (h.0, (h.1.0, All-append (λ byte. byte ≢ 10) line more h.1.1 plain, h.1.2, GoesOn-more bytes line more h.0 h.1.3))
   StandsAt-more (stages.Failed fault) line bytes more plain h = Fails-more bytes more fault h

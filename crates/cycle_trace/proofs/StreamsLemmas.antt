@@ -9,7 +9,7 @@ use Rattle.tydi_base.specs.Path.{path_text}
 use Rattle.tydi_base.proofs.ReadingLaws.{bind_ok, chosen, ok_is}
 use Rattle.physical_stream.specs.declared.head.Head.{Head}
 use Rattle.cycle_trace.specs.declared.fault.TraceFault.TheVariants.{BadHeader}
-use Rattle.cycle_trace.specs.HeaderText.{Opening, head_of, head_after, is_head_line, in_header, heads_from, title_of, count_of_cycles, opening_after, opening_of}
+use Rattle.cycle_trace.specs.HeaderText.{HeaderStart, head_of, head_after, is_head_line, in_header, heads_from, title_of, count_of_cycles, header_start_after, header_start_of}
 use Rattle.cycle_trace.specs.Trace.{all_distinct, are_heads}
 use Rattle.cycle_trace.proofs.HeaderLemmas.{in_header-ok}
 
@@ -91,21 +91,21 @@ heads_from-are_heads number lines found e =
     rw (few, h.distinct) refl
 
 -- so may the streams of a header that is read
-after-are_heads : (lines : List (List ℕ)) (opening : Opening) → opening_after lines ≡ Ok opening → are_heads opening.heads ≡ true
-unfolding opening_after
-after-are_heads [] opening e = absurd cc
-after-are_heads (last ∷ []) opening e = absurd cc
-after-are_heads (second ∷ next ∷ lines) opening e =
-    let cycles = bind_ok (in_header 2 (count_of_cycles second)) _ opening e in
-    let found = bind_ok (heads_from 3 [] (next ∷ lines)) _ opening cycles.2 in
-    let made : Opening = record { cycles = cycles.0; heads = found.0.0; lines = found.0.1 } in
-    let same = ok_is made opening found.2 in
+after-are_heads : (lines : List (List ℕ)) (start : HeaderStart) → header_start_after lines ≡ Ok start → are_heads start.heads ≡ true
+unfolding header_start_after
+after-are_heads [] start e = absurd cc
+after-are_heads (last ∷ []) start e = absurd cc
+after-are_heads (second ∷ next ∷ lines) start e =
+    let cycles = bind_ok (in_header 2 (count_of_cycles second)) _ start e in
+    let found = bind_ok (heads_from 3 [] (next ∷ lines)) _ start cycles.2 in
+    let made : HeaderStart = record { cycles = cycles.0; heads = found.0.0; lines = found.0.1 } in
+    let same = ok_is made start found.2 in
     rw (← same) (heads_from-are_heads 3 (next ∷ lines) found.0 found.1)
 
-pub opening_of-are_heads : (lines : List (List ℕ)) (opening : Opening) → opening_of lines ≡ Ok opening → are_heads opening.heads ≡ true
-unfolding opening_of
-opening_of-are_heads [] opening e = absurd cc
-opening_of-are_heads (last ∷ []) opening e = absurd cc
-opening_of-are_heads (first ∷ next ∷ lines) opening e =
-    let fine = bind_ok (in_header 1 (title_of first)) _ opening e in
-    after-are_heads (next ∷ lines) opening fine.2
+pub header_start_of-are_heads : (lines : List (List ℕ)) (start : HeaderStart) → header_start_of lines ≡ Ok start → are_heads start.heads ≡ true
+unfolding header_start_of
+header_start_of-are_heads [] start e = absurd cc
+header_start_of-are_heads (last ∷ []) start e = absurd cc
+header_start_of-are_heads (first ∷ next ∷ lines) start e =
+    let fine = bind_ok (in_header 1 (title_of first)) _ start e in
+    after-are_heads (next ∷ lines) start fine.2

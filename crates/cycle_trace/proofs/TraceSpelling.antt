@@ -17,7 +17,7 @@ use Rattle.physical_stream.specs.Cycles.{Cycle}
 use Rattle.physical_stream.specs.declared.head.Head.{Head}
 use Rattle.cycle_trace.specs.declared.fault.TraceFault.{TraceFault}
 use Rattle.cycle_trace.specs.declared.fault.TraceFault.TheVariants.{TooManyCycles}
-use Rattle.cycle_trace.specs.HeaderText.{header_number, is_head_line, in_header, heads_from, count_of_cycles, Opening, title_of, opening_after, opening_of}
+use Rattle.cycle_trace.specs.HeaderText.{header_number, is_head_line, in_header, heads_from, count_of_cycles, HeaderStart, title_of, header_start_after, header_start_of}
 use Rattle.cycle_trace.specs.Spelling.{IsHead, head_text, header_text, bit_text, row_line, rows_text, TracesAreReadAsSpelled, TracesAreSpelledAsRead}
 use Rattle.cycle_trace.specs.Trace.{TraceText, AreShown, all_distinct, are_heads, most_cycles, params_of_heads, owed}
 use Rattle.cycle_trace.specs.TraceText.{rows_after, trace_from, trace_of}
@@ -41,7 +41,7 @@ rows_text-ends_heads (p ∷ streams) (cycle ∷ cycles) lanes shown number paths
     let split = rows_text-lines p streams cycle cycles few (AreShown-first p streams cycle cycles shown) in
     rw split (heads_from-end number paths (row_line p cycle) lines (some_line (rows_text streams cycles)) (row_line-is_no_head (is_some cycle.shown) _))
 
--- ---- the opening
+-- ---- the header that lines start with
 
 count_of_cycles-spelled : (cycles : ℕ) → cycles < 10 ^ 10 → count_of_cycles (codes "cycles " ++ decimal cycles) ≡ Ok cycles
 unfolding count_of_cycles
@@ -61,35 +61,35 @@ title_of-some line fine e = elim (chosen (bytes_eq line (codes "tydi-trace 1")) 
   | inr h ↦ absurd (cc (h.1))
 ]
 
-opening_of-cons : (lines : List (List ℕ)) (cycles : ℕ) (found : List Head × List (List ℕ)) → cycles < 10 ^ 10 → 0 < length lines → heads_from 3 [] lines ≡ Ok found
-    → opening_of (codes "tydi-trace 1" ∷ (codes "cycles " ++ decimal cycles) ∷ lines) ≡ Ok (record { cycles = cycles; heads = found.0; lines = found.1 })
-unfolding opening_of opening_after title_of
-opening_of-cons [] cycles found below some e = absurd (omega arith)
-opening_of-cons (next ∷ lines) cycles found below some e = rw (count_of_cycles-spelled cycles below, e) refl
+header_start_of-cons : (lines : List (List ℕ)) (cycles : ℕ) (found : List Head × List (List ℕ)) → cycles < 10 ^ 10 → 0 < length lines → heads_from 3 [] lines ≡ Ok found
+    → header_start_of (codes "tydi-trace 1" ∷ (codes "cycles " ++ decimal cycles) ∷ lines) ≡ Ok (record { cycles = cycles; heads = found.0; lines = found.1 })
+unfolding header_start_of header_start_after title_of
+header_start_of-cons [] cycles found below some e = absurd (omega arith)
+header_start_of-cons (next ∷ lines) cycles found below some e = rw (count_of_cycles-spelled cycles below, e) refl
 
--- what was read of the lines of an opening
-record OpeningRead (lines : List (List ℕ)) (opening : Opening) : Type 0 where
-  spelled : join_with_byte 10 lines ≡ header_text opening.cycles opening.heads ++ join_with_byte 10 opening.lines
-  some : 0 < length opening.lines
-  may : MayFollow [] opening.heads
+-- what was read of the header that lines start with
+record HeaderStartRead (lines : List (List ℕ)) (start : HeaderStart) : Type 0 where
+  spelled : join_with_byte 10 lines ≡ header_text start.cycles start.heads ++ join_with_byte 10 start.lines
+  some : 0 < length start.lines
+  may : MayFollow [] start.heads
 
 joined : (title line : List ℕ) (lines rest : List (List ℕ)) (cycles : ℕ) (heads : List Head) → title ≡ codes "tydi-trace 1" → line ≡ codes "cycles " ++ decimal cycles
     → join_with_byte 10 lines ≡ flat_map head_text heads ++ join_with_byte 10 rest
     → title ++ 10 ∷ (line ++ 10 ∷ join_with_byte 10 lines) ≡ header_text cycles heads ++ join_with_byte 10 rest
 joined title line lines rest cycles heads p q r = rw (p, q, r, append_assoc (decimal cycles) (10 ∷ flat_map head_text heads) (join_with_byte 10 rest)) refl
 
-opening_of-some : (lines : List (List ℕ)) (opening : Opening) → opening_of lines ≡ Ok opening → OpeningRead lines opening
-unfolding opening_of opening_after
-opening_of-some [] opening e = absurd cc
-opening_of-some (title ∷ []) opening e = absurd cc
-opening_of-some (title ∷ line ∷ []) opening e =
-    let fine = bind_ok (in_header 1 (title_of title)) _ opening e in
+header_start_of-some : (lines : List (List ℕ)) (start : HeaderStart) → header_start_of lines ≡ Ok start → HeaderStartRead lines start
+unfolding header_start_of header_start_after
+header_start_of-some [] start e = absurd cc
+header_start_of-some (title ∷ []) start e = absurd cc
+header_start_of-some (title ∷ line ∷ []) start e =
+    let fine = bind_ok (in_header 1 (title_of title)) _ start e in
     absurd (cc (fine.2))
-opening_of-some (title ∷ line ∷ next ∷ lines) opening e =
-    let fine = bind_ok (in_header 1 (title_of title)) _ opening e in
-    let cycles = bind_ok (in_header 2 (count_of_cycles line)) _ opening fine.2 in
-    let found = bind_ok (heads_from 3 [] (next ∷ lines)) _ opening cycles.2 in
-    let same = ok_is (record { cycles = cycles.0; heads = found.0.0; lines = found.0.1 }) opening found.2 in
+header_start_of-some (title ∷ line ∷ next ∷ lines) start e =
+    let fine = bind_ok (in_header 1 (title_of title)) _ start e in
+    let cycles = bind_ok (in_header 2 (count_of_cycles line)) _ start fine.2 in
+    let found = bind_ok (heads_from 3 [] (next ∷ lines)) _ start cycles.2 in
+    let same = ok_is (record { cycles = cycles.0; heads = found.0.0; lines = found.0.1 }) start found.2 in
     let heads = heads_from-some 3 [] (next ∷ lines) found.0 (omega arith) (omega arith) found.1 in
     rw (← same) (record {
       spelled = joined title line (next ∷ lines) found.0.1 cycles.0 found.0.0 (title_of-some title fine.0 (in_header-some 1 (title_of title) fine.0 fine.1))
@@ -155,27 +155,27 @@ trace_of-spelled t h each =
     let lanes = have_lanes-owed (params_of_heads t.heads) t.cycles (heads-lanes t.heads each) in
     let heads = heads_from-spelled 3 [] t.heads rows (are_heads-to t.heads each h.streams) (rows_text-ends_heads streams t.rows lanes h.shown) in
     let after = flat_map head_text t.heads ++ rows in
-    let opening = opening_of-cons (lines_of after) t.cycles (t.heads, lines_of rows) (omega arith) (some_line after) heads in
+    let start = header_start_of-cons (lines_of after) t.cycles (t.heads, lines_of rows) (omega arith) (some_line after) heads in
     let read = rows_from-spelled (t.cycles * length t.heads) 0 (3 + length t.heads) streams t.rows lanes h.shown in
-    ap (λ (lines : List (List ℕ)). opening_of lines >>= trace_from) (header_lines t.cycles t.heads rows (omega arith))
-    ∙ ap (λ (read : Result Opening TraceFault). read >>= trace_from) opening
+    ap (λ (lines : List (List ℕ)). header_start_of lines >>= trace_from) (header_lines t.cycles t.heads rows (omega arith))
+    ∙ ap (λ (read : Result HeaderStart TraceFault). read >>= trace_from) start
     ∙ trace_from-spelled t (lines_of rows) few read
 
--- what was read after an opening
-record FromRead (opening : Opening) (t : TraceText) : Type 0 where
-  few : opening.cycles ≤ most_cycles
-  rows : rows_after opening.cycles opening.heads opening.lines ≡ Ok t.rows
-  cycles_are : opening.cycles ≡ t.cycles
-  heads_are : opening.heads ≡ t.heads
+-- what was read after that header
+record FromRead (start : HeaderStart) (t : TraceText) : Type 0 where
+  few : start.cycles ≤ most_cycles
+  rows : rows_after start.cycles start.heads start.lines ≡ Ok t.rows
+  cycles_are : start.cycles ≡ t.cycles
+  heads_are : start.heads ≡ t.heads
 
-trace_from-some : (opening : Opening) (t : TraceText) → trace_from opening ≡ Ok t → FromRead opening t
+trace_from-some : (start : HeaderStart) (t : TraceText) → trace_from start ≡ Ok t → FromRead start t
 unfolding trace_from
-trace_from-some opening t e = elim (chosen (nat_le opening.cycles most_cycles)
-    (rows_after opening.cycles opening.heads opening.lines >>= λ rows. Ok (record { cycles = opening.cycles; heads = opening.heads; rows = rows })) (Err TooManyCycles) (Ok t) e) [
+trace_from-some start t e = elim (chosen (nat_le start.cycles most_cycles)
+    (rows_after start.cycles start.heads start.lines >>= λ rows. Ok (record { cycles = start.cycles; heads = start.heads; rows = rows })) (Err TooManyCycles) (Ok t) e) [
       | inl h ↦ (
           let test = h.0 in
-          let rows = bind_ok (rows_after opening.cycles opening.heads opening.lines) _ t h.1 in
-          let same = ok_is (record { cycles = opening.cycles; heads = opening.heads; rows = rows.0 }) t rows.2 in
+          let rows = bind_ok (rows_after start.cycles start.heads start.lines) _ t h.1 in
+          let same = ok_is (record { cycles = start.cycles; heads = start.heads; rows = rows.0 }) t rows.2 in
           rw (← same) (record { few = grind (arith, nat_tests); rows = rows.1; cycles_are = refl; heads_are = refl }))
       | inr h ↦ absurd (cc (h.1))
     ]
@@ -185,24 +185,24 @@ record TraceRead (text : List ℕ) (cycles : ℕ) (heads : List Head) (rows : Li
   spelled : text ≡ header_text cycles heads ++ rows_text (owed (params_of_heads heads) cycles) rows
   shown : AreShown (owed (params_of_heads heads) cycles) rows
 
-rows_after-some : (opening : Opening) (text : List ℕ) (rows : List Cycle) → OpeningRead (lines_of text) opening → rows_after opening.cycles opening.heads opening.lines ≡ Ok rows
-    → TraceRead text opening.cycles opening.heads rows
-rows_after-some opening text rows h e =
-    let streams = owed (params_of_heads opening.heads) opening.cycles in
-    let lanes = have_lanes-owed (params_of_heads opening.heads) opening.cycles (heads-lanes opening.heads h.may.each) in
-    let read = rows_from-some (opening.cycles * length opening.heads) 0 (3 + length opening.heads) streams opening.lines rows lanes h.some e in
+rows_after-some : (start : HeaderStart) (text : List ℕ) (rows : List Cycle) → HeaderStartRead (lines_of text) start → rows_after start.cycles start.heads start.lines ≡ Ok rows
+    → TraceRead text start.cycles start.heads rows
+rows_after-some start text rows h e =
+    let streams = owed (params_of_heads start.heads) start.cycles in
+    let lanes = have_lanes-owed (params_of_heads start.heads) start.cycles (heads-lanes start.heads h.may.each) in
+    let read = rows_from-some (start.cycles * length start.heads) 0 (3 + length start.heads) streams start.lines rows lanes h.some e in
     record {
-      spelled = sym (join-pieces_of 10 text) ∙ h.spelled ∙ ap (λ (rest : List ℕ). header_text opening.cycles opening.heads ++ rest) read.spelled;
+      spelled = sym (join-pieces_of 10 text) ∙ h.spelled ∙ ap (λ (rest : List ℕ). header_text start.cycles start.heads ++ rest) read.spelled;
       shown = read.shown;
     }
 
 pub trace_of-some : TracesAreSpelledAsRead
 unfolding trace_of
 trace_of-some text t e =
-    let opening = bind_ok (opening_of (lines_of text)) trace_from t e in
-    let header = opening_of-some (lines_of text) opening.0 opening.1 in
-    let from = trace_from-some opening.0 t opening.2 in
-    let read = rows_after-some opening.0 text t.rows header from.rows in
+    let start = bind_ok (header_start_of (lines_of text)) trace_from t e in
+    let header = header_start_of-some (lines_of text) start.0 start.1 in
+    let from = trace_from-some start.0 t start.2 in
+    let read = rows_after-some start.0 text t.rows header from.rows in
     let few = from.few in
     let cycles_are = from.cycles_are in
     let whole : TraceRead text t.cycles t.heads t.rows = rw (from.cycles_are, from.heads_are) at read in

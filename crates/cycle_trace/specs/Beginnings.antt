@@ -7,7 +7,7 @@ use Rattle.tydi_base.specs.Pieces.{lines_of}
 use Rattle.tydi_base.specs.Reading.{◌>>=◌}
 use Rattle.physical_stream.specs.declared.head.Head.{Head}
 use Rattle.cycle_trace.specs.Faults.{fault_in}
-use Rattle.cycle_trace.specs.HeaderText.{Opening, heads_from, opening_of}
+use Rattle.cycle_trace.specs.HeaderText.{HeaderStart, heads_from, header_start_of}
 use Rattle.cycle_trace.specs.Trace.{TraceText, owed, params_of_heads}
 use Rattle.cycle_trace.specs.TraceText.{rows_from, trace_of}
 use Rattle.cycle_trace.specs.TextSet.{HasTexts}
@@ -22,11 +22,11 @@ abbrev pub Fails : List ℕ → TraceFault → Type 0
 Fails bytes e = (more : List ℕ) → IsFault (trace_of (bytes ++ more)) e
 
 -- the header of every text that begins so is what the lines from the one that is begun on give
-abbrev pub Opens : (bytes begun : List ℕ) → (List (List ℕ) → Result Opening TraceFault) → Type 0
-Opens bytes begun gives = (more : List ℕ) → opening_of (lines_of (bytes ++ more)) ≡ gives (lines_of (begun ++ more))
+abbrev pub Opens : (bytes begun : List ℕ) → (List (List ℕ) → Result HeaderStart TraceFault) → Type 0
+Opens bytes begun gives = (more : List ℕ) → header_start_of (lines_of (bytes ++ more)) ≡ gives (lines_of (begun ++ more))
 
 -- the heads so far, and those that the lines give, in a header of so many cycles
-abbrev pub heads_on : ℕ → List Head → List (List ℕ) → List (List ℕ) → Result Opening TraceFault
+abbrev pub heads_on : ℕ → List Head → List (List ℕ) → List (List ℕ) → Result HeaderStart TraceFault
 heads_on cycles heads paths lines = heads_from (3 + length heads) paths lines >>= λ found. Ok (record { cycles = cycles; heads = heads ++ found.0; lines = found.1 })
 
 -- the header of every text that begins so has so many cycles, and these heads first, the texts of whose paths are these

@@ -86,8 +86,8 @@ heads_from number paths (line ∷ next ∷ lines) =
 unfoldable pub count_of_cycles : List ℕ → Result ℕ (Unit {0})
 count_of_cycles line = if starts_with nat_eq line (codes "cycles ") then header_number (drop 7 line) else Err tt
 
--- what a header says, and the lines after it
-pub record Opening : Type 0 where
+-- the header that lines start with, and the lines after it
+pub record HeaderStart : Type 0 where
   pub cycles : ℕ
   pub heads : List Head
   pub lines : List (List ℕ)
@@ -97,14 +97,14 @@ unfoldable pub title_of : List ℕ → Result (Unit {0}) (Unit {0})
 title_of line = if bytes_eq line (codes "tydi-trace 1") then Ok tt else Err tt
 
 -- the header that goes on after its first line. The last of the lines has no LF.
-unfoldable pub opening_after : List (List ℕ) → Result Opening TraceFault
-opening_after [] = Err (BadHeader 2)
-opening_after (last ∷ []) = Err (BadHeader 2)
-opening_after (second ∷ next ∷ lines) =
+unfoldable pub header_start_after : List (List ℕ) → Result HeaderStart TraceFault
+header_start_after [] = Err (BadHeader 2)
+header_start_after (last ∷ []) = Err (BadHeader 2)
+header_start_after (second ∷ next ∷ lines) =
     in_header 2 (count_of_cycles second) >>= λ cycles. heads_from 3 [] (next ∷ lines) >>= λ found. Ok (record { cycles = cycles; heads = found.0; lines = found.1 })
 
 -- the header that the lines of a text begin with, or the first line that is not as it should be
-unfoldable pub opening_of : List (List ℕ) → Result Opening TraceFault
-opening_of [] = Err (BadHeader 1)
-opening_of (last ∷ []) = Err (BadHeader 1)
-opening_of (first ∷ next ∷ lines) = in_header 1 (title_of first) >>= λ fine. opening_after (next ∷ lines)
+unfoldable pub header_start_of : List (List ℕ) → Result HeaderStart TraceFault
+header_start_of [] = Err (BadHeader 1)
+header_start_of (last ∷ []) = Err (BadHeader 1)
+header_start_of (first ∷ next ∷ lines) = in_header 1 (title_of first) >>= λ fine. header_start_after (next ∷ lines)

@@ -5,7 +5,7 @@ use Rattle.tydi_base.specs.Pieces.{Lacks}
 use Rattle.physical_stream.specs.Cycles.{Cycle}
 use Rattle.physical_stream.specs.declared.transfer.Transfer.{Transfer}
 use Rattle.cycle_trace.specs.Beginnings.{Fails, GoesOn, IsFault, Opens, OpensWith}
-use Rattle.cycle_trace.specs.HeaderText.{opening_of, opening_after}
+use Rattle.cycle_trace.specs.HeaderText.{header_start_of, header_start_after}
 use Rattle.cycle_trace.specs.Surveying.{IsNextRow}
 use Rattle.cycle_trace.specs.TextSet.{HasTexts}
 use Rattle.cycle_trace.specs.Trace.{TraceText, most_cycles, params_of_heads}
@@ -45,8 +45,8 @@ pub record HasNoHeads (text : TextRead) : Type 0 where
 
 -- what is known where the line that is begun is this
 abbrev pub StandsAt : {K : Type 0} → (K → Option TraceText → Type 0) → K → TextRead → Stage → (line bytes : List ℕ) → Type 0
-StandsAt stands sink text stages.Title line bytes = stands sink None × Lacks 10 line × HasNoHeads text × Opens bytes line opening_of
-StandsAt stands sink text stages.Cycles line bytes = stands sink None × Lacks 10 line × HasNoHeads text × Opens bytes line opening_after
+StandsAt stands sink text stages.Title line bytes = stands sink None × Lacks 10 line × HasNoHeads text × Opens bytes line header_start_of
+StandsAt stands sink text stages.Cycles line bytes = stands sink None × Lacks 10 line × HasNoHeads text × Opens bytes line header_start_after
 StandsAt stands sink text stages.Heads line bytes = stands sink None × Lacks 10 line × OpensWith bytes line text.cycles text.heads text.paths
 StandsAt stands sink text stages.Rows line bytes = (t : TraceText) × (stands sink (Some t) × Lacks 10 line × ReadsRows text.rows t × GoesOn bytes line t)
 StandsAt stands sink text (stages.Failed fault) line bytes = Fails bytes fault

@@ -8,7 +8,7 @@ use Rattle.physical_stream.specs.declared.head.Head.{Head}
 use Rattle.cycle_trace.specs.declared.fault.TraceFault.{TraceFault}
 use Rattle.cycle_trace.specs.declared.fault.TraceFault.TheVariants.{TooManyCycles, BadRow, RowsMissing, RowsLeft}
 use Rattle.cycle_trace.specs.Trace.{TraceText, most_cycles, params_of_heads, owed}
-use Rattle.cycle_trace.specs.HeaderText.{Opening, opening_of}
+use Rattle.cycle_trace.specs.HeaderText.{HeaderStart, header_start_of}
 use Rattle.cycle_trace.specs.RowText.{row_at}
 
 -- the rows that are owed, each with its LF, and nothing after them. So many rows are wanted in all and so many were got before
@@ -28,12 +28,12 @@ abbrev pub rows_after : ℕ → List Head → List (List ℕ) → Result (List C
 rows_after cycles heads lines = rows_from (cycles * length heads) 0 (3 + length heads) (owed (params_of_heads heads) cycles) lines
 
 -- the trace that goes on after its header. The number of cycles is looked at before any row.
-unfoldable pub trace_from : Opening → Result TraceText TraceFault
-trace_from opening =
-    if nat_le opening.cycles most_cycles then
-    (rows_after opening.cycles opening.heads opening.lines >>= λ rows. Ok (record { cycles = opening.cycles; heads = opening.heads; rows = rows }))
+unfoldable pub trace_from : HeaderStart → Result TraceText TraceFault
+trace_from start =
+    if nat_le start.cycles most_cycles then
+    (rows_after start.cycles start.heads start.lines >>= λ rows. Ok (record { cycles = start.cycles; heads = start.heads; rows = rows }))
     else Err TooManyCycles
 
 -- the trace that a text spells, or the first fault
 unfoldable pub trace_of : List ℕ → Result TraceText TraceFault
-trace_of text = opening_of (lines_of text) >>= trace_from
+trace_of text = header_start_of (lines_of text) >>= trace_from
