@@ -4,6 +4,6 @@ mod printed
 mod rules
 mod LevelLemmas
 mod LexemeLemmas
-mod PlainLemmas
+pub mod PlainLemmas
 mod WordLemmas
 pub mod LawLemmas
