@@ -32,7 +32,7 @@ waiting_of-one_more (c ∷ d ∷ more) now = waiting_of-one_more (d ∷ more) no
 done_of-one_more : (cycles : List Cycle) (now : Cycle) → done_of (cycles ++ now ∷ []) ≡ done_of cycles ++ done_in now
 done_of-one_more cycles now = flat_map-append done_in cycles (now ∷ []) ∙ ap (λ (ts : List Transfer). done_of cycles ++ ts) (append-nil (done_in now))
 
-items_done-one_more : (p : Parameters) (cycles : List Cycle) (now : Cycle) → items_done p (cycles ++ now ∷ []) ≡ items_done p cycles ++ items_of_all p (done_in now)
+pub items_done-one_more : (p : Parameters) (cycles : List Cycle) (now : Cycle) → items_done p (cycles ++ now ∷ []) ≡ items_done p cycles ++ items_of_all p (done_in now)
 items_done-one_more p cycles now = ap (items_of_all p) (done_of-one_more cycles now) ∙ flat_map-append (items_of p) (done_of cycles) (done_in now)
 
 -- ---- a cycle in which nothing is done

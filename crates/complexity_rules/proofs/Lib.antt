@@ -3,6 +3,7 @@ pub mod CheckerLemmas
 pub mod LaneLemmas
 pub mod LevelLemmas
 pub mod LowestLemmas
+pub mod NestingLemmas
 pub mod PauseLemmas
 pub mod StrobeLemmas
 pub mod TableLemmas

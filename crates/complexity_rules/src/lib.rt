@@ -7,6 +7,7 @@ mod breaking;
 mod checker;
 mod checking;
 mod levels;
+mod nesting;
 mod pauses;
 #[cfg(test)]
 mod reference_rules;
@@ -15,6 +16,7 @@ mod sweep_tests;
 mod table;
 #[cfg(test)]
 mod table_tests;
+mod tails;
 #[cfg(test)]
 mod test_cycles;
 #[cfg(test)]
@@ -23,5 +25,7 @@ mod walk;
 
 pub use checker::Checker;
 pub use levels::levels_are_kept;
+pub use nesting::items_are_nested;
 pub use pauses::may_pause;
 pub use table::{BINDS, RuleTable, binds, table_is_monotone};
+pub use tails::tail_after;
