@@ -5,4 +5,6 @@ pub mod Nesting
 pub mod Pauses
 pub mod Table
 pub mod Tails
+pub mod Unmarked
+pub mod Waiting
 pub mod Walk

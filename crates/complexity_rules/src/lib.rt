@@ -21,6 +21,7 @@ mod tails;
 mod test_cycles;
 #[cfg(test)]
 mod tests;
+mod unmarked;
 mod walk;
 
 pub use checker::Checker;
