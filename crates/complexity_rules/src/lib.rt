@@ -9,16 +9,8 @@ mod checking;
 mod levels;
 mod nesting;
 mod pauses;
-#[cfg(test)]
-mod reference_rules;
-#[cfg(test)]
-mod sweep_tests;
 mod table;
-#[cfg(test)]
-mod table_tests;
 mod tails;
-#[cfg(test)]
-mod test_cycles;
 #[cfg(test)]
 mod tests;
 mod unmarked;
