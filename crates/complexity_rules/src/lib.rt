@@ -6,8 +6,10 @@
 mod breaking;
 mod checker;
 mod checking;
+mod effect;
 mod levels;
 mod nesting;
+mod one_lane;
 mod pauses;
 mod table;
 mod tails;
