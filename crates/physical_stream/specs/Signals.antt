@@ -1,6 +1,7 @@
 -- Which payload signals a physical stream has, how wide they are, and what an absent one stands at (Tydi specification,
 -- signals; presence and defaults are this project's own).
 use Rattle.std.specs.Prelude.{◌≡◌, ◌-◌, ◌*◌, ◌^◌, ◌<◌, Bool, false, ◌&&◌, ◌||◌, nat_lt, nat_le, length}
+use Rattle.tydi_base.specs.Bits.{zero_bits}
 use Rattle.tydi_base.specs.Level.{number_of}
 use Rattle.tydi_base.specs.Width.{index_width}
 use Rattle.physical_stream.specs.Params.{Parameters}
@@ -25,6 +26,17 @@ has_strb p = nat_le 7 (number_of p.level) || nat_lt 0 p.dims
 
 abbrev pub has_user : Parameters → Bool
 has_user p = nat_lt 0 p.user
+
+-- the transfer that is zero in every signal but endi, which is the last lane
+abbrev pub zero_transfer : Parameters → Transfer
+zero_transfer p = record {
+  content = zero_bits (p.lanes * p.element);
+  last = zero_bits (p.lanes * p.dims);
+  stai = 0;
+  endi = p.lanes - 1;
+  strb = 0;
+  user = zero_bits p.user;
+}
 
 -- every signal has the width that the stream gives it, whether it is present or not
 pub record Fits (p : Parameters) (t : Transfer) : Type 0 where
