@@ -2,8 +2,10 @@ mod numbers
 mod texts
 mod printed
 mod rules
+mod spelled
 mod LevelLemmas
 mod LexemeLemmas
 mod PlainLemmas
+mod PlacesLemmas
 mod WordLemmas
 pub mod LawLemmas

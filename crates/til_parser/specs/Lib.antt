@@ -3,7 +3,9 @@ pub mod Numbers
 pub mod Tree
 pub mod Reading
 pub mod Grammar
+pub mod Nesting
 pub mod Faults
+pub mod Trees
 pub mod Canonical
 pub mod Same
 pub mod Laws

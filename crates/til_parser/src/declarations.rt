@@ -5,7 +5,7 @@ ghost use Rattle.til_parser.specs.ReadDecls as spec;
 ghost use Rattle.til_parser.specs.ReadTypes.{bracketed};
 ghost use Rattle.til_parser.specs.Reading as reading;
 ghost use Rattle.tydi_reading.specs.Lists.{repeated, separated};
-ghost use Rattle.tydi_reading.specs.Reading.{Reads};
+ghost use Rattle.tydi_reading.specs.Reading.{Reads, ReadsAlways};
 ghost use Rattle.til_lexer.specs.declared.token.TokenKind.TheVariants as kinds;
 
 use crate::keyword::Keyword;
@@ -90,7 +90,7 @@ impl<'a> Parser<'a> {
 
     #[tactic(auto, unfolding(crate::specs::ReadDecls::keyword, tydi_reading::specs::Lists::mark))]
     fn keyword(&mut self) -> Result<Keyword, Fault>
-        ensures { Reads (spec.keyword self.old) result self.new }
+        ensures { ReadsAlways (spec.keyword self.old) result self.new }
     {
         if self.eat_word("type") {
             return Ok(Keyword::Type);

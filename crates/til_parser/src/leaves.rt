@@ -9,7 +9,7 @@ ghost use Rattle.til_lexer.specs.declared.token.TokenKind.TheVariants as kinds;
 ghost use Rattle.til_parser.specs.Lexemes.{between_marks};
 ghost use Rattle.til_parser.specs.Numbers.{whole_of, numerator_of, denominator_of, lowest};
 ghost use Rattle.til_parser.specs.ReadTypes as spec;
-ghost use Rattle.tydi_reading.specs.Reading.{Reads};
+ghost use Rattle.tydi_reading.specs.Reading.{Reads, ReadsAlways};
 ghost use Rattle.tydi_base.specs.Decimal.{read_on};
 
 use crate::parser::Parser;
@@ -37,7 +37,7 @@ impl<'a> Parser<'a> {
     /// `whole`: a number without a point.
     #[tactic(auto, unfolding(crate::specs::Reading::token))]
     pub(crate) fn whole(&mut self) -> Result<u64, Fault>
-        ensures { Reads (spec.whole self.old) result self.new }
+        ensures { ReadsAlways (spec.whole self.old) result self.new }
     {
         let Some((_, spelling)) = self.next_of(TokenKind::Number) else {
             return Err(Fault::Refused);
@@ -52,7 +52,7 @@ impl<'a> Parser<'a> {
     /// A whole number from 1 to 8.
     #[tactic(auto, unfolding(crate::specs::Reading::token))]
     pub(crate) fn level(&mut self) -> Result<Level, Fault>
-        ensures { Reads (spec.level self.old) result self.new }
+        ensures { ReadsAlways (spec.level self.old) result self.new }
     {
         let Some((_, spelling)) = self.next_of(TokenKind::Number) else {
             return Err(Fault::Refused);
@@ -67,7 +67,7 @@ impl<'a> Parser<'a> {
     /// `number`, as a fraction in lowest terms.
     #[tactic(auto, unfolding(crate::specs::Reading::token))]
     pub(crate) fn number(&mut self) -> Result<Frac, Fault>
-        ensures { Reads (spec.number self.old) result self.new }
+        ensures { ReadsAlways (spec.number self.old) result self.new }
     {
         let Some((_, spelling)) = self.next_of(TokenKind::Number) else {
             return Err(Fault::Refused);

@@ -6,7 +6,7 @@ ghost use Rattle.til_lexer.specs.Spelling.{HasForm, own_text};
 ghost use Rattle.til_parser.specs.Lexemes.{Lexeme, HasFormIn, lexemes_of};
 ghost use Rattle.til_parser.specs.Reading as spec;
 ghost use Rattle.til_parser.specs.declared.ltype.AstType.{AstType};
-ghost use Rattle.tydi_reading.specs.Reading.{Outcome, Reads, rest_of, stopped, tells, too_deep};
+ghost use Rattle.tydi_reading.specs.Reading.{Outcome, ReadsAlways, rest_of, stopped, tells, too_deep};
 
 use std::alloc::Global;
 use std::marker::Model;
@@ -138,7 +138,7 @@ impl<'a> Parser<'a> {
     /// Takes the next token, which is to be of this kind.
     #[tactic(auto, unfolding(tydi_reading::specs::Lists::mark))]
     pub(crate) fn expect(&mut self, kind: TokenKind) -> Result<(), Fault>
-        ensures { Reads (spec.expect kind self.old) result self.new }
+        ensures { ReadsAlways (spec.expect kind self.old) result self.new }
     {
         if !self.sees(kind) {
             return Err(Fault::Refused);
@@ -150,7 +150,7 @@ impl<'a> Parser<'a> {
     /// Takes the next token, which is to be this word.
     #[tactic(auto, unfolding(tydi_reading::specs::Lists::mark))]
     pub(crate) fn expect_word(&mut self, word: &str) -> Result<(), Fault>
-        ensures { Reads (spec.expect_word word.now self.old) result self.new }
+        ensures { ReadsAlways (spec.expect_word word.now self.old) result self.new }
     {
         if !self.sees_word(word) {
             return Err(Fault::Refused);

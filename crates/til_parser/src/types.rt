@@ -4,7 +4,7 @@ ghost use Rattle.std.specs.Prelude.{◌≡◌, false};
 ghost use Rattle.til_parser.specs.ReadTypes as spec;
 ghost use Rattle.til_parser.specs.Reading as reading;
 ghost use Rattle.tydi_reading.specs.Lists.{separated};
-ghost use Rattle.tydi_reading.specs.Reading.{Reads, rest_of};
+ghost use Rattle.tydi_reading.specs.Reading.{Reads, ReadsAlways, rest_of};
 ghost use Rattle.til_lexer.specs.declared.token.TokenKind.TheVariants as kinds;
 
 use crate::arguments::Arguments;
@@ -142,7 +142,7 @@ impl<'a> Parser<'a> {
     /// An argument whose value holds no type.
     #[tactic(auto, unfolding(crate::specs::ReadTypes::setting, crate::specs::ReadTypes::labelled))]
     fn setting(&mut self, given: Arguments) -> Result<Arguments, Fault>
-        ensures { Reads (spec.setting given self.old) result self.new }
+        ensures { ReadsAlways (spec.setting given self.old) result self.new }
     {
         if self.awaits("dimensionality", &given.dims) {
             self.label()?;
@@ -181,7 +181,7 @@ impl<'a> Parser<'a> {
 
     /// The name of an argument, and the colon after it.
     fn label(&mut self) -> Result<(), Fault>
-        ensures { Reads (reading.expect kinds.Colon (rest_of self.old)) result self.new }
+        ensures { ReadsAlways (reading.expect kinds.Colon (rest_of self.old)) result self.new }
     {
         self.skip();
         self.expect(TokenKind::Colon)
@@ -189,7 +189,7 @@ impl<'a> Parser<'a> {
 
     #[tactic(auto, unfolding(crate::specs::ReadTypes::sync, tydi_reading::specs::Lists::mark))]
     fn sync(&mut self) -> Result<AstSync, Fault>
-        ensures { Reads (spec.sync self.old) result self.new }
+        ensures { ReadsAlways (spec.sync self.old) result self.new }
     {
         if self.eat_word("Sync") {
             return Ok(AstSync::Sync);
@@ -207,7 +207,7 @@ impl<'a> Parser<'a> {
     /// Which of two words stands next: true for the first.
     #[tactic(auto, unfolding(crate::specs::ReadTypes::either_word, tydi_reading::specs::Lists::mark))]
     pub(crate) fn either_word(&mut self, first: &str, second: &str) -> Result<bool, Fault>
-        ensures { Reads (spec.either_word first.now second.now self.old) result self.new }
+        ensures { ReadsAlways (spec.either_word first.now second.now self.old) result self.new }
     {
         if self.eat_word(first) {
             return Ok(true);
@@ -219,7 +219,7 @@ impl<'a> Parser<'a> {
     /// `"(" whole ")"`
     #[tactic(auto, unfolding(crate::specs::ReadTypes::bits))]
     fn bits(&mut self) -> Result<u64, Fault>
-        ensures { Reads (spec.bits self.old) result self.new }
+        ensures { ReadsAlways (spec.bits self.old) result self.new }
     {
         self.expect(TokenKind::OpenParen)?;
         let width = self.whole()?;

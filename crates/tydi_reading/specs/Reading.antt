@@ -17,6 +17,11 @@ abbrev pub Reads : {T A : Type 0} → Outcome T A → Result A Fault → List T 
 Reads outcome (Ok x) new = outcome ≡ took x new
 Reads outcome (Err e) new = e ≢ faults.Memory → outcome ≡ stopped e new
 
+-- a function that wants no memory did what the reader does
+abbrev pub ReadsAlways : {T A : Type 0} → Outcome T A → Result A Fault → List T → Type 0
+ReadsAlways outcome (Ok x) new = outcome ≡ took x new
+ReadsAlways outcome (Err e) new = (e ≢ faults.Memory) × (outcome ≡ stopped e new)
+
 -- what is read takes a thing at least
 pub record Shrinks {T A : Type 0} (read : Reader T A) : Type 0 where
   pub less : (ts rest : List T) (x : A) → read ts ≡ took x rest → length rest < length ts

@@ -22,14 +22,15 @@ use Rattle.til_parser.specs.declared.tree.AstPath.{AstPath}
 use Rattle.til_parser.specs.Grammar.{Form, Of, IsWord, Word, Name, Whole, Path, Commas, Bracketed, SpellsType, SpellsParts, Given, AreApart, Argument}
 use Rattle.til_parser.specs.Grammar as grammar
 use Rattle.til_parser.specs.Lexemes.{Lexeme, IsFormed}
+use Rattle.til_parser.specs.Nesting.{SpellsPart, BracketedTo, PartTo, ArgumentsTo, InsideTo, TypeTo}
 use Rattle.til_parser.specs.Reading.{same_kind, is_kind, is_word, begins_type, expect, expect_word}
 use Rattle.til_parser.specs.ReadTypes.{name, whole, path, bits, part, bracketed, stream, type_with, ltype}
-use Rattle.til_parser.specs.Tree.{Ltype, null, Parts, no_parts, Settings, plain, depth, depth_of_parts}
+use Rattle.til_parser.specs.Tree.{Ltype, null, Parts, no_parts, Settings, plain, depth, depth_of_parts, settings_of}
 use Rattle.til_parser.specs.Tree as tree
 use Rattle.til_parser.proofs.rules.LeafRules.{Fixed, PathNext, name-rule, whole-rule, path-rule}
-use Rattle.til_parser.proofs.rules.ListRules.{Lists, BracketedDeep, bracketed-rule}
-use Rattle.til_parser.proofs.PlainLemmas.{plain_parts, settings_of, plain-Null, plain-Bits, plain-Group, plain-Union, plain-Stream, plain-Path, of_plain, of_parts, of_plain-plain, plain-of_plain, plain_parts-of_parts}
-use Rattle.til_parser.proofs.rules.StreamRules.{ArgumentsOf, StreamTo, StreamWithin, stream-rule, data_null, good_null, null_spelled, null_stream, null_arguments}
+use Rattle.til_parser.proofs.rules.ListRules.{Lists, bracketed-rule}
+use Rattle.til_parser.proofs.PlainLemmas.{plain_parts, plain-Null, plain-Bits, plain-Group, plain-Union, plain-Stream, plain-Path, of_plain, of_parts, of_plain-plain, plain-of_plain, plain_parts-of_parts}
+use Rattle.til_parser.proofs.rules.StreamRules.{ArgumentsOf, StreamWithin, stream-rule, data_null, good_null, null_spelled, null_stream, null_arguments}
 use Rattle.til_parser.proofs.rules.TokenRules.{both, made, one, word_is, kind_is, kind-rule, word-rule, Word-not_word}
 
 abbrev pub S : AstType → Form
@@ -37,20 +38,13 @@ S x = SpellsType (plain x)
 
 -- ---- parts
 
-abbrev pub Item : AstPart → Form
-Item p = Name p.name ⋯ Of kinds.Colon ⋯ S p.ltype
-
 module _ (inner : Reader Lexeme AstType) (W : AstType → Type 0) (D : Form) (rule : IsRule IsFormed inner S (λ _. PathNext) W D) where
-  -- a name and a colon, and what leads to something too deep in a type
-  abbrev pub PartTo : Form
-  PartTo ts = (x : AstName) × ((Name x ⋯ Of kinds.Colon ⋯ D) ts)
-
-  pub part-rule : IsRule IsFormed (part inner) Item (λ _. PathNext) (λ p. W p.ltype) PartTo
+  pub part-rule : IsRule IsFormed (part inner) SpellsPart (λ _. PathNext) (λ p. W p.ltype) (PartTo D)
   unfolding part
   part-rule =
       map-rule IsFormed (λ (p : AstName × AstType). roll-AstPart (record { name = p.0; ltype = p.1 })) (name <&> (expect kinds.Colon >> inner))
       (λ (z : AstName × AstType). Name z.0 ⋯ (Of kinds.Colon ⋯ S z.1)) (λ _. PathNext) (λ z. Unit {0} × W z.1) _
-      Item (λ _. PathNext) (λ p. W p.ltype) PartTo
+      SpellsPart (λ _. PathNext) (λ p. W p.ltype) (PartTo D)
       (record {
         there = λ x ts s. s;
         back = λ y ts s. ((y.name, y.ltype), refl, s);
@@ -69,16 +63,16 @@ module _ (inner : Reader Lexeme AstType) (W : AstType → Type 0) (D : Form) (ru
   unfolding same_kind
   Name-starts x Second front rest b = rw (b.all, append_assoc b.front b.back rest, b.begins.all, b.begins.is.kind) refl
 
-  pub part-lists : Lists Item PartTo
+  pub part-lists : Lists SpellsPart (PartTo D)
   part-lists = record {
     filled = λ p front s. filled-first (Name p.name) (Of kinds.Colon ⋯ S p.ltype) front (λ ts n. let size = ap length n.all in omega arith) s;
     starts = λ p front rest s. Name-starts p.name (Of kinds.Colon ⋯ S p.ltype) front rest s;
     starts_deep = λ front rest d. Name-starts d.0 (Of kinds.Colon ⋯ D) front rest d.1;
   }
 
-  pub parts-rule : IsRule IsFormed (bracketed (part inner)) (λ items. Bracketed (Commas Item items)) (λ _. Anything) (EachIs (λ p. W p.ltype))
-      (BracketedDeep (part inner) Item (λ p. W p.ltype) PartTo part-lists part-rule)
-  parts-rule = bracketed-rule (part inner) Item (λ p. W p.ltype) PartTo part-lists part-rule
+  pub parts-rule : IsRule IsFormed (bracketed (part inner)) (λ items. Bracketed (Commas SpellsPart items)) (λ _. Anything) (EachIs (λ p. W p.ltype))
+      (BracketedTo SpellsPart (PartTo D))
+  parts-rule = bracketed-rule (part inner) SpellsPart (λ p. W p.ltype) (PartTo D) part-lists part-rule
 
 -- ---- alternatives that begin with a word
 
@@ -190,7 +184,7 @@ depth-parts n (p ∷ parts) most = (omega (arith, most), depth-parts n parts (om
 
 -- ---- parts as the grammar has them
 
-parts-there : (parts : List AstPart) (ts : List Lexeme) → Commas Item parts ts → SpellsParts (plain_parts parts) ts
+parts-there : (parts : List AstPart) (ts : List Lexeme) → Commas SpellsPart parts ts → SpellsParts (plain_parts parts) ts
 parts-there [] ts s = s
 parts-there (p ∷ []) ts s = s
 parts-there (p ∷ next ∷ parts) ts s = record {
@@ -201,7 +195,7 @@ parts-there (p ∷ next ∷ parts) ts s = record {
   ends = record { front = s.ends.front; back = s.ends.back; all = s.ends.all; begins = s.ends.begins; ends = parts-there (next ∷ parts) s.ends.back s.ends.ends };
 }
 
-parts-back : (parts : List AstPart) (ts : List Lexeme) → SpellsParts (plain_parts parts) ts → Commas Item parts ts
+parts-back : (parts : List AstPart) (ts : List Lexeme) → SpellsParts (plain_parts parts) ts → Commas SpellsPart parts ts
 parts-back [] ts s = s
 parts-back (p ∷ []) ts s = s
 parts-back (p ∷ next ∷ parts) ts s = record {
@@ -236,10 +230,10 @@ abbrev ByStream : AstType → Form
 ByStream y ts = Made types.Stream (codes "Stream") (λ s. Bracketed (ArgumentsOf s)) y ts ⊎ ByPath y ts
 
 abbrev ByUnion : AstType → Form
-ByUnion y ts = Made types.Union (codes "Union") (λ parts. Bracketed (Commas Item parts)) y ts ⊎ ByStream y ts
+ByUnion y ts = Made types.Union (codes "Union") (λ parts. Bracketed (Commas SpellsPart parts)) y ts ⊎ ByStream y ts
 
 abbrev ByGroup : AstType → Form
-ByGroup y ts = Made types.Group (codes "Group") (λ parts. Bracketed (Commas Item parts)) y ts ⊎ ByUnion y ts
+ByGroup y ts = Made types.Group (codes "Group") (λ parts. Bracketed (Commas SpellsPart parts)) y ts ⊎ ByUnion y ts
 
 abbrev ByBits : AstType → Form
 ByBits y ts = Made types.Bits (codes "Bits") (λ width. Bracketed (Whole width)) y ts ⊎ ByGroup y ts
@@ -326,7 +320,7 @@ module _ (n : ℕ) (inner : Reader Lexeme AstType) (D : Form) (rule : IsRule IsF
   read_bits = choose (is_word (codes "Bits")) false (types.Bits <$> (expect_word (codes "Bits") >> bits)) read_group
 
   abbrev PartsTo : Form
-  PartsTo = BracketedDeep (part inner) Item (λ p. Fits n p.ltype) (PartTo inner (Fits n) D rule) (part-lists inner (Fits n) D rule) (part-rule inner (Fits n) D rule)
+  PartsTo = BracketedTo SpellsPart (PartTo D)
 
   by_path : IsRule IsFormed (types.Path <$> path) ByPath (λ _. PathNext) V Never
   by_path =
@@ -346,12 +340,12 @@ module _ (n : ℕ) (inner : Reader Lexeme AstType) (D : Form) (rule : IsRule IsF
   ByPath-lacks word none y front rest s = path_lacks s.0.names word none front rest s.2
 
   abbrev DStream : Form
-  DStream ts = (Word (codes "Stream") ⋯ StreamTo inner (Fits n) D rule (null_within n)) ts ⊎ Never ts
+  DStream ts = (Word (codes "Stream") ⋯ Of kinds.OpenParen ⋯ ArgumentsTo D) ts ⊎ Never ts
 
   by_stream : IsRule IsFormed (choose (is_word (codes "Stream")) false (types.Stream <$> (expect_word (codes "Stream") >> stream inner)) (types.Path <$> path)) ByStream (λ _. PathNext) V DStream
   by_stream =
       word-choice V types.Stream (codes "Stream") refl (stream inner) (λ s. Bracketed (ArgumentsOf s)) (StreamWithin inner (Fits n) D rule (null_within n))
-      (StreamTo inner (Fits n) D rule (null_within n))
+      (Of kinds.OpenParen ⋯ ArgumentsTo D)
       (λ s w. rw (plain-Stream s) (omega (arith, w.0, w.1)))
       (λ s w. let d = subst (λ t. depth t ≤ suc n) (plain-Stream s) w in (omega (arith, d), omega (arith, d)))
       (stream-rule inner (Fits n) D rule (null_within n))
@@ -380,12 +374,12 @@ module _ (n : ℕ) (inner : Reader Lexeme AstType) (D : Form) (rule : IsRule IsF
 
   by_union : IsRule IsFormed read_union ByUnion (λ _. PathNext) V DUnion
   by_union =
-      word-choice V types.Union (codes "Union") refl (bracketed (part inner)) (λ parts. Bracketed (Commas Item parts)) (EachIs (λ p. Fits n p.ltype)) PartsTo
+      word-choice V types.Union (codes "Union") refl (bracketed (part inner)) (λ parts. Bracketed (Commas SpellsPart parts)) (EachIs (λ p. Fits n p.ltype)) PartsTo
       union_fit fit_union (parts-rule inner (Fits n) D rule) read_stream ByStream DStream
       (ByStream-lacks (codes "Union") refl refl) (DStream-lacks (codes "Union") refl) by_stream
 
   ByUnion-lacks : (word : List ℕ) → is_name word ≡ false → bytes_eq (codes "Stream") word ≡ false → bytes_eq (codes "Union") word ≡ false → Lacks word ByUnion
-  ByUnion-lacks word none s u = either_lacks word _ ByStream (Made-lacks types.Union (codes "Union") word (λ parts. Bracketed (Commas Item parts)) u) (ByStream-lacks word none s)
+  ByUnion-lacks word none s u = either_lacks word _ ByStream (Made-lacks types.Union (codes "Union") word (λ parts. Bracketed (Commas SpellsPart parts)) u) (ByStream-lacks word none s)
 
   DUnion-lacks : (word : List ℕ) → bytes_eq (codes "Stream") word ≡ false → bytes_eq (codes "Union") word ≡ false → LacksDeep word DUnion
   DUnion-lacks word s u = either_lacks_deep word _ DStream (first_lacks (codes "Union") word PartsTo u) (DStream-lacks word s)
@@ -395,13 +389,13 @@ module _ (n : ℕ) (inner : Reader Lexeme AstType) (D : Form) (rule : IsRule IsF
 
   by_group : IsRule IsFormed read_group ByGroup (λ _. PathNext) V DGroup
   by_group =
-      word-choice V types.Group (codes "Group") refl (bracketed (part inner)) (λ parts. Bracketed (Commas Item parts)) (EachIs (λ p. Fits n p.ltype)) PartsTo
+      word-choice V types.Group (codes "Group") refl (bracketed (part inner)) (λ parts. Bracketed (Commas SpellsPart parts)) (EachIs (λ p. Fits n p.ltype)) PartsTo
       parts_fit fit_parts (parts-rule inner (Fits n) D rule) read_union ByUnion DUnion
       (ByUnion-lacks (codes "Group") refl refl refl) (DUnion-lacks (codes "Group") refl refl) by_union
 
   ByGroup-lacks : (word : List ℕ) → is_name word ≡ false → bytes_eq (codes "Stream") word ≡ false → bytes_eq (codes "Union") word ≡ false
       → bytes_eq (codes "Group") word ≡ false → Lacks word ByGroup
-  ByGroup-lacks word none s u g = either_lacks word _ ByUnion (Made-lacks types.Group (codes "Group") word (λ parts. Bracketed (Commas Item parts)) g) (ByUnion-lacks word none s u)
+  ByGroup-lacks word none s u g = either_lacks word _ ByUnion (Made-lacks types.Group (codes "Group") word (λ parts. Bracketed (Commas SpellsPart parts)) g) (ByUnion-lacks word none s u)
 
   DGroup-lacks : (word : List ℕ) → bytes_eq (codes "Stream") word ≡ false → bytes_eq (codes "Union") word ≡ false → bytes_eq (codes "Group") word ≡ false → LacksDeep word DGroup
   DGroup-lacks word s u g = either_lacks_deep word _ DUnion (first_lacks (codes "Group") word PartsTo g) (DUnion-lacks word s u)
@@ -448,10 +442,16 @@ module _ (n : ℕ) (inner : Reader Lexeme AstType) (D : Form) (rule : IsRule IsF
       (word-rule (codes "Null") refl))
       by_bits
 
-  pub type-rule : IsRule IsFormed (type_with inner) S (λ _. PathNext) V DBits
+  inside_to : (ts : List Lexeme) → DBits ts → InsideTo D ts
+  inside_to ts = ⊎_elim (λ d. absurd d.ends.ends) (⊎_elim inl (λ d. inr (⊎_elim inl (λ d. inr (⊎_elim (λ s. s) (λ e. absurd e) d)) d)))
+
+  to_inside : (ts : List Lexeme) → InsideTo D ts → DBits ts
+  to_inside ts = ⊎_elim (λ d. inr (inl d)) (⊎_elim (λ d. inr (inr (inl d))) (λ d. inr (inr (inr (inl d)))))
+
+  pub type-rule : IsRule IsFormed (type_with inner) S (λ _. PathNext) V (InsideTo D)
   type-rule =
-      same-rule IsFormed (type_with inner) ByNull (λ _. PathNext) V DBits S (λ _. PathNext) V DBits
-      (record { there = there; back = back; follow = λ x rest next. next; within = λ x w. w; apart = λ x w. w; first = λ ts d. d; deep = λ ts d. d })
+      same-rule IsFormed (type_with inner) ByNull (λ _. PathNext) V DBits S (λ _. PathNext) V (InsideTo D)
+      (record { there = there; back = back; follow = λ x rest next. next; within = λ x w. w; apart = λ x w. w; first = inside_to; deep = to_inside })
       by_null
 
 -- ---- a type that stands too deep
@@ -522,13 +522,13 @@ goes_by t kind form false true c d e is1 is2 is3 is4 is5 =
     (record { kind = kind; text = (Rattle.std.proofs.lemmas.Slice.Eq.bytes_eq-Decides t.spelling (codes "Bits")).0 is2 })
     (good_brackets (made kinds.Number (codes "1") ∷ []) good_digit) (in_brackets (Whole 1) (made kinds.Number (codes "1") ∷ []) one_digit)
 goes_by t kind form false false true d e is1 is2 is3 is4 is5 =
-    goes_with types.Group (codes "Group") (λ parts. Bracketed (Commas Item parts)) [] t (brackets []) (λ ts s. there (types.Group []) ts (inr (inr (inl ([], refl, s)))))
+    goes_with types.Group (codes "Group") (λ parts. Bracketed (Commas SpellsPart parts)) [] t (brackets []) (λ ts s. there (types.Group []) ts (inr (inr (inl ([], refl, s)))))
     (record { kind = kind; text = (Rattle.std.proofs.lemmas.Slice.Eq.bytes_eq-Decides t.spelling (codes "Group")).0 is3 })
-    (good_brackets [] (All-nil IsFormed)) (in_brackets (Commas Item []) [] refl)
+    (good_brackets [] (All-nil IsFormed)) (in_brackets (Commas SpellsPart []) [] refl)
 goes_by t kind form false false false true e is1 is2 is3 is4 is5 =
-    goes_with types.Union (codes "Union") (λ parts. Bracketed (Commas Item parts)) [] t (brackets []) (λ ts s. there (types.Union []) ts (inr (inr (inr (inl ([], refl, s))))))
+    goes_with types.Union (codes "Union") (λ parts. Bracketed (Commas SpellsPart parts)) [] t (brackets []) (λ ts s. there (types.Union []) ts (inr (inr (inr (inl ([], refl, s))))))
     (record { kind = kind; text = (Rattle.std.proofs.lemmas.Slice.Eq.bytes_eq-Decides t.spelling (codes "Union")).0 is4 })
-    (good_brackets [] (All-nil IsFormed)) (in_brackets (Commas Item []) [] refl)
+    (good_brackets [] (All-nil IsFormed)) (in_brackets (Commas SpellsPart []) [] refl)
 goes_by t kind form false false false false true is1 is2 is3 is4 is5 =
     goes_with types.Stream (codes "Stream") (λ s. Bracketed (ArgumentsOf s)) null_stream t (brackets data_null) (λ ts s. there (types.Stream null_stream) ts (inr (inr (inr (inr (inl (null_stream, refl, s)))))))
     (record { kind = kind; text = (Rattle.std.proofs.lemmas.Slice.Eq.bytes_eq-Decides t.spelling (codes "Stream")).0 is5 })
@@ -568,8 +568,8 @@ type_starts : (y : AstType) (ts : List Lexeme) → S y ts → StartsWord ts
 type_starts y ts s =
     ⊎_elim (λ s. word_starts (codes "Null") ts s.1)
     (⊎_elim (made_starts types.Bits (codes "Bits") (λ width. Bracketed (Whole width)) y ts)
-    (⊎_elim (made_starts types.Group (codes "Group") (λ parts. Bracketed (Commas Item parts)) y ts)
-    (⊎_elim (made_starts types.Union (codes "Union") (λ parts. Bracketed (Commas Item parts)) y ts)
+    (⊎_elim (made_starts types.Group (codes "Group") (λ parts. Bracketed (Commas SpellsPart parts)) y ts)
+    (⊎_elim (made_starts types.Union (codes "Union") (λ parts. Bracketed (Commas SpellsPart parts)) y ts)
     (⊎_elim (made_starts types.Stream (codes "Stream") (λ s. Bracketed (ArgumentsOf s)) y ts)
     (λ s. path_starts s.0.names ts s.2)))))
     (back y ts s)
@@ -589,19 +589,11 @@ starts y front good s =
 no_level : (x : AstType) → Fits 0 x → ⊥
 no_level x fits = let some = depth-some (plain x) in omega arith
 
--- a type of at most so many levels, and what leads to one that stands too deep
-pub record LevelRule (n : ℕ) : Type 1 where
-  pub Deep : Form
-  pub rule : IsRule IsFormed (ltype n) S (λ _. PathNext) (Fits n) Deep
-
-pub ltype-rule : (n : ℕ) → LevelRule n
-unfolding ltype
-ltype-rule zero = record {
-  Deep = Nothing;
-  rule = same-rule IsFormed (too_deep begins_type) S (λ _. PathNext) (λ _. ⊥) Nothing S (λ _. PathNext) (Fits 0) Nothing
-      (record { there = λ x ts s. s; back = λ x ts s. s; follow = λ x rest next. next; within = λ x w. absurd w; apart = no_level; first = λ ts d. d; deep = λ ts d. d })
-      (too_deep-rule IsFormed begins_type S (λ _. PathNext) nothing_goes begun starts);
-}
-ltype-rule (suc n) =
-    let inner = ltype-rule n in
-    record { Deep = DBits n (ltype n) inner.Deep inner.rule; rule = type-rule n (ltype n) inner.Deep inner.rule }
+-- a type of at most so many levels
+pub ltype-rule : (n : ℕ) → IsRule IsFormed (ltype n) S (λ _. PathNext) (Fits n) (TypeTo n)
+unfolding ltype TypeTo
+ltype-rule zero =
+    same-rule IsFormed (too_deep begins_type) S (λ _. PathNext) (λ _. ⊥) Nothing S (λ _. PathNext) (Fits 0) Nothing
+    (record { there = λ x ts s. s; back = λ x ts s. s; follow = λ x rest next. next; within = λ x w. absurd w; apart = no_level; first = λ ts d. d; deep = λ ts d. d })
+    (too_deep-rule IsFormed begins_type S (λ _. PathNext) nothing_goes begun starts)
+ltype-rule (suc n) = type-rule n (ltype n) (TypeTo n) (ltype-rule n)
