@@ -19,8 +19,9 @@ use Rattle.complexity_rules.specs.Checking.{Keeps, IsLowestBroken, IsStep, Sees,
 use Rattle.complexity_rules.specs.Waiting.{IsJudged, IsLowestShown}
 use Rattle.complexity_rules.specs.declared.checker.Checker.{Checker}
 use Rattle.complexity_rules.specs.Tails.{IsTailIn}
-use Rattle.complexity_rules.specs.Walk.{Finds, tail_over}
-use Rattle.complexity_rules.specs.declared.walk.Walk.{Walk}
+use Rattle.complexity_rules.specs.Effect.{IsEffect}
+use Rattle.complexity_rules.specs.Walk.{tail_over}
+use Rattle.complexity_rules.specs.declared.effect.Effect.{Effect}
 use Rattle.complexity_rules.proofs.WalkLemmas.{tail_of-over}
 
 length-one_more : (cycles : List Cycle) (now : Cycle) → length (cycles ++ now ∷ []) ≡ length cycles + 1
@@ -75,17 +76,17 @@ taken t = record { ready = true; shown = Some t }
 items_done-taken : (p : Parameters) (cycles : List Cycle) (t : Transfer) → items_done p (cycles ++ taken t ∷ []) ≡ items_done p cycles ++ items_of p t
 items_done-taken p cycles t = items_done-one_more p cycles (taken t) ∙ ap (λ (is : List Item). items_done p cycles ++ is) (append-nil (items_of p t))
 
-pub Keeps-taken : (p : Parameters) (cycles : List Cycle) (t : Transfer) (seen next : ℕ) (waiting : Option Transfer) (tail : Option Tail) (transfers done packets packed : ℕ) (walk : Walk) →
-    next ≡ seen + 1 → done ≡ transfers + 1 → packed ≡ packets + walk.packets → Finds p.dims tail (items_of p t) walk → Keeps p cycles seen waiting tail transfers packets →
-    Keeps p (cycles ++ taken t ∷ []) next None walk.tail done packed
-Keeps-taken p cycles t seen next waiting tail transfers done packets packed walk one_more one_done all_packed found k = record {
+pub Keeps-taken : (p : Parameters) (cycles : List Cycle) (t : Transfer) (seen next : ℕ) (waiting : Option Transfer) (tail : Option Tail) (transfers done packets packed : ℕ) (effect : Effect) →
+    next ≡ seen + 1 → done ≡ transfers + 1 → packed ≡ packets + effect.packets → IsEffect p.dims tail (items_of p t) effect → Keeps p cycles seen waiting tail transfers packets →
+    Keeps p (cycles ++ taken t ∷ []) next None effect.tail done packed
+Keeps-taken p cycles t seen next waiting tail transfers done packets packed effect one_more one_done all_packed found k = record {
   seen = one_more ∙ ap (λ (n : ℕ). n + 1) k.seen ∙ sym (length-one_more cycles (taken t));
   waiting = sym (waiting_of-one_more cycles (taken t));
   tail =
       found.last ∙ ap (λ (o : Option Tail). tail_over o (items_of p t)) k.tail ∙ sym (tail_of-over (items_done p cycles) (items_of p t)) ∙ ap tail_of (sym (items_done-taken p cycles t));
   transfers = one_done ∙ ap (λ (n : ℕ). n + 1) k.transfers ∙ sym (ap length (done_of-one_more cycles (taken t)) ∙ length-append (done_of cycles) (t ∷ []));
   packets =
-      all_packed ∙ ap (λ (n : ℕ). n + walk.packets) k.packets ∙ ap (λ (n : ℕ). packets_of p cycles + n) found.packets
+      all_packed ∙ ap (λ (n : ℕ). n + effect.packets) k.packets ∙ ap (λ (n : ℕ). packets_of p cycles + n) found.packets
       ∙ sym (sum_by-append (λ i. cond (ends_packet p.dims i) 1 0) (items_done p cycles) (items_of p t)) ∙ ap (count_by (ends_packet p.dims)) (sym (items_done-taken p cycles t));
 }
 
@@ -124,8 +125,8 @@ tail_over-in dims tail [] each inside = inside
 tail_over-in dims tail (items.Elem word ∷ more) each inside = tail_over-in dims (Some tails.Elem) more each (λ dim is. cc)
 tail_over-in dims tail (items.Close d ∷ more) each inside = tail_over-in dims (Some (tails.Close d)) more each.1 (λ dim is. let same : d ≡ dim = cc in omega (arith, each.0))
 
-pub IsTailIn-walk : (p : Parameters) (t : Transfer) (tail : Option Tail) (walk : Walk) → Finds p.dims tail (items_of p t) walk → IsTailIn p.dims tail → IsTailIn p.dims walk.tail
-IsTailIn-walk p t tail walk found inside =
+pub IsTailIn-effect : (p : Parameters) (t : Transfer) (tail : Option Tail) (effect : Effect) → IsEffect p.dims tail (items_of p t) effect → IsTailIn p.dims tail → IsTailIn p.dims effect.tail
+IsTailIn-effect p t tail effect found inside =
     subst (IsTailIn p.dims) (sym found.last) (tail_over-in p.dims tail (items_of p t) (AreIn-parts p.dims p.lanes (lane_items p t) (λ lane within. AreIn-lane p t lane)) inside)
 
 -- ---- a step
@@ -156,19 +157,19 @@ pub waiting_some : (old : Checker) (before : List Cycle) → old.waits ≡ true 
 waiting_some old before waits stands = sym stands.waiting ∙ ap (λ (waits : Bool). if waits then Some old.offered else None) waits
 
 -- a transfer that did not wait is offered
-pub IsJudged-offered : (p : Parameters) (offered t : Transfer) (tail : Option Tail) (walk : Walk) → offered ≡ t → Finds p.dims tail (items_of p t) walk → walk.packets ≤ 4224 →
-    IsLowestShown p tail t None → IsJudged p true offered tail walk
-IsJudged-offered p offered t tail walk is found few kept =
-    subst (λ (o : Transfer). IsJudged p true o tail walk) (sym is) (record { found = λ waits. found; few = λ waits. few; kept = λ waits. kept })
+pub IsJudged-offered : (p : Parameters) (offered t : Transfer) (tail : Option Tail) (effect : Effect) → offered ≡ t → IsEffect p.dims tail (items_of p t) effect → effect.packets ≤ 4224 →
+    IsLowestShown p tail t None → IsJudged p true offered tail effect
+IsJudged-offered p offered t tail effect is changes few kept =
+    subst (λ (o : Transfer). IsJudged p true o tail effect) (sym is) (record { changes = λ waits. changes; few = λ waits. few; kept = λ waits. kept })
 
 -- no rule from the second on is broken
 pub IsLowestShown-none : (p : Parameters) (tail : Option Tail) (t : Transfer) (broken : Option Rule) (none : Bool) → is_some broken ≡ not none → none ≡ true → IsLowestShown p tail t broken → IsLowestShown p tail t None
 IsLowestShown-none p tail t None none tells is lowest = lowest
 IsLowestShown-none p tail t (Some rule) none tells is lowest = cc
 
-pub IsJudged-none : (p : Parameters) (waits : Bool) (offered : Transfer) (tail : Option Tail) (walk : Walk) → waits ≡ false → IsJudged p waits offered tail walk
-IsJudged-none p waits offered tail walk free = record {
-  found = λ on. let clash : false ≡ true = sym free ∙ on in cc;
+pub IsJudged-none : (p : Parameters) (waits : Bool) (offered : Transfer) (tail : Option Tail) (effect : Effect) → waits ≡ false → IsJudged p waits offered tail effect
+IsJudged-none p waits offered tail effect free = record {
+  changes = λ on. let clash : false ≡ true = sym free ∙ on in cc;
   few = λ on. let clash : false ≡ true = sym free ∙ on in cc;
   kept = λ on. let clash : false ≡ true = sym free ∙ on in cc;
 }

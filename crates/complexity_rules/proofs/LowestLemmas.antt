@@ -1,5 +1,5 @@
 -- The lowest rule of a cycle, from a test for each rule.
-use Rattle.std.proofs.Common.{◌≡◌, ◌∙◌, ◌↔◌, ℕ, ◌+◌, ◌<◌, ◌≤◌, inl, inr, ◌⊎◌, Bool, true, false, nat_le, if◌then◌else◌, IsTrue, List, Option, None, Some, refl, sym, ap, subst, arith}
+use Rattle.std.proofs.Common.{◌≡◌, ◌∙◌, ◌↔◌, ℕ, ◌+◌, ◌^◌, ◌<◌, ◌≤◌, inl, inr, ◌⊎◌, Bool, true, false, nat_le, if◌then◌else◌, IsTrue, List, Option, None, Some, refl, sym, ap, subst, arith}
 use Rattle.std.proofs.lemmas.Bool.{cases_lt, and_parts, and_from, le-leb, leb-true}
 use Rattle.tydi_base.specs.Level.{number_of}
 use Rattle.physical_stream.specs.Params.{Parameters}
@@ -7,6 +7,9 @@ use Rattle.physical_stream.specs.Cycles.{Cycle, items_done, waiting_of}
 use Rattle.physical_stream.specs.Breaks.{BreaksAfter, Forbids, BreaksHold, BreaksIndex, BreaksLaneLast, BreaksStrobe, BreaksStart, BreaksEnd, BreaksEmpty, BreaksInnerPause, BreaksOuterPause, BreaksNest}
 use Rattle.physical_stream.specs.Rules.{Binds, number_of_rule, binds_up_to}
 use Rattle.physical_stream.specs.Shape.{tail_of}
+use Rattle.physical_stream.specs.Signals.{Fits}
+use Rattle.tydi_base.specs.Width.{index_width}
+use Rattle.std.specs.Int.{bit_at}
 use Rattle.physical_stream.specs.declared.item.Tail.{Tail}
 use Rattle.physical_stream.specs.declared.transfer.Transfer.{Transfer}
 use Rattle.physical_stream.specs.declared.rule.Rule.{Rule}
@@ -120,6 +123,33 @@ lowest_shown p before ready t level index lane_last strobe start end empty nest 
     let at_strobe = lowest_step p before now 4 level Strobe strobe from_start from_strobe at refl g_strobe is_strobe at_start in
     let at_lane_last = lowest_step p before now 3 level LaneLast lane_last from_strobe from_lane_last at refl g_lane_last is_lane_last at_strobe in
     lowest_step p before now 2 level Index index from_lane_last from_index at refl g_index is_index at_lane_last
+
+-- of one lane there are no two strobe bits, no two indices and no lane before the last one
+zero_index : (lanes n : ℕ) → lanes ≡ 1 → n < 2 ^ index_width lanes → n ≡ 0
+zero_index lanes n one below = let width : 2 ^ index_width lanes ≡ 1 = ap (λ (k : ℕ). 2 ^ index_width k) one in omega (arith, below, width)
+
+no_index : (p : Parameters) (t : Transfer) → p.lanes ≡ 1 → Fits p t → BreaksIndex p t → ⊥
+no_index p t one fits (inl less) = omega (arith, less, zero_index p.lanes t.stai one fits.stai)
+no_index p t one fits (inr past) = omega (arith, past, one, zero_index p.lanes t.endi one fits.endi)
+
+no_strobe : (p : Parameters) (t : Transfer) → p.lanes ≡ 1 → BreaksStrobe p t → ⊥
+no_strobe p t one b =
+    let same : b.one ≡ b.other = omega (arith, one, b.one_within, b.other_within) in
+    let clash : ◌≡◌ {A = ℕ} 1 0 = sym b.one_set ∙ ap (λ (n : ℕ). bit_at t.strb n) same ∙ b.other_clear in omega (arith, clash)
+
+pub lowest_one_lane : (p : Parameters) (before : List Cycle) (ready : Bool) (t : Transfer) (level : ℕ) (empty nest : Bool) (from_empty from_nest : Option Rule) → p.lanes ≡ 1 → Fits p t → level ≡ p.level →
+    from_nest ≡ or_higher level Nest nest None → from_empty ≡ or_higher level Empty empty from_nest →
+    (IsTrue empty ↔ BreaksEmpty p (items_done p before) t) → (IsTrue nest ↔ BreaksNest p (items_done p before) t) → IsLowestFrom p before (showing ready t) 2 from_empty
+lowest_one_lane p before ready t level empty nest from_empty from_nest one fits at g_nest g_empty is_empty is_nest =
+    let now = showing ready t in
+    let top = lowest_step p before now 10 level Nest nest None from_nest at refl g_nest is_nest (lowest_top p before now) in
+    let above_pauses = lowest_skip p before now 8 InnerPause from_nest refl (λ b. b.1) (lowest_skip p before now 9 OuterPause from_nest refl (λ b. b.1) top) in
+    let at_empty = lowest_step p before now 7 level Empty empty from_nest from_empty at refl g_empty is_empty above_pauses in
+    let above_end = lowest_skip p before now 6 End from_empty refl (λ b. b.1.0 (omega (arith, one, zero_index p.lanes t.endi one fits.endi))) at_empty in
+    let above_start = lowest_skip p before now 5 Start from_empty refl (λ b. omega (arith, b.1, zero_index p.lanes t.stai one fits.stai)) above_end in
+    let above_strobe = lowest_skip p before now 4 Strobe from_empty refl (λ b. no_strobe p t one b.1) above_start in
+    let above_lanes = lowest_skip p before now 3 LaneLast from_empty refl (λ b. omega (arith, one, b.1.early)) above_strobe in
+    lowest_skip p before now 2 Index from_empty refl (λ b. no_index p t one fits b.1) above_lanes
 
 pub lowest_pause : (p : Parameters) (before : List Cycle) (ready : Bool) (level : ℕ) (inner outer : Bool) (from_inner from_outer : Option Rule) → waiting_of before ≡ None → level ≡ p.level →
     from_outer ≡ or_higher level OuterPause outer None → from_inner ≡ or_higher level InnerPause inner from_outer →

@@ -1,4 +1,5 @@
 pub mod Checking
+pub mod Effect
 pub mod Levels
 pub mod Lowest
 pub mod Nesting

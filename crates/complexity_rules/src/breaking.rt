@@ -76,7 +76,12 @@ pub(crate) fn hold(level: Level) -> Rule
 
 /// The rule, where it binds at this level and the cycle does what it forbids; else what a rule of a greater number says.
 #[inline(always)]
-fn or_higher(level: Level, rule: Rule, forbidden: bool, higher: Option<Rule>) -> Option<Rule>
+pub(crate) fn or_higher(
+    level: Level,
+    rule: Rule,
+    forbidden: bool,
+    higher: Option<Rule>,
+) -> Option<Rule>
     ensures { result ≡ or_higher level rule forbidden higher }
 {
     if forbidden && binds(rule, level) {
@@ -119,7 +124,8 @@ fn breaks_end(p: &Params, transfer: &Transfer, walk: &Walk) -> bool
 }
 
 /// Whether no lane is active, and nothing is closed or not an empty sequence first.
-fn breaks_empty(tail: Option<Tail>, walk: &Walk) -> bool
+#[inline(always)]
+pub(crate) fn breaks_empty(tail: Option<Tail>, walk: &Walk) -> bool
     ensures { result ≡ (not walk.now.active && misses_empty tail walk.now.first_close) }
 {
     !walk.active && misses_empty(tail, walk.first_close)

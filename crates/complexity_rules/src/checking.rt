@@ -12,13 +12,14 @@ ghost use Rattle.physical_stream.specs.Signals.{Fits};
 ghost use Rattle.physical_stream.specs.declared.rule.Rule.TheVariants.{Hold};
 ghost use Rattle.physical_stream.specs.declared.transfer.Transfer.{Transfer};
 ghost use Rattle.complexity_rules.specs.Checking.{IsLowestBroken, IsStep, Sees, StandsFor, Steps, params_in, seen_in};
-ghost use Rattle.complexity_rules.specs.Tails.{IsTailIn};
+ghost use Rattle.complexity_rules.specs.Effect.{IsEffect};
 ghost use Rattle.complexity_rules.specs.Waiting.{IsLowestShown};
-ghost use Rattle.complexity_rules.specs.Walk.{Finds};
 
 use crate::breaking::{hold, lowest_of_pause, lowest_of_shown};
 use crate::checker::Checker;
-use crate::walk::{Walk, walk_over};
+use crate::effect::Effect;
+use crate::one_lane::{lowest_of_one, walk_over_one};
+use crate::walk::walk_over;
 use physical_stream::{End, Params, Row, Rule, Tail, Transfer};
 use std::alloc::Global;
 use tydi_base::Memory;
@@ -28,8 +29,8 @@ use tydi_base::Memory;
 struct Judged {
     /// The lowest rule that it breaks.
     broken: Option<Rule>,
-    /// The walk over the items of the transfer.
-    walk: Walk,
+    /// What the transfer changes when it is done.
+    effect: Effect,
 }
 
 impl Checker {
@@ -43,7 +44,10 @@ impl Checker {
             params,
             waits: false,
             offered,
-            walk: Walk::after(None),
+            effect: Effect {
+                tail: None,
+                packets: 0,
+            },
             tail: None,
             seen: 0,
             transfers: 0,
@@ -108,7 +112,7 @@ impl Checker {
     {
         let judged = self.judge_shown(transfer);
         if judged.broken.is_none() {
-            self.see_first(transfer, ready, judged.walk);
+            self.see_first(transfer, ready, judged.effect);
         }
         judged.broken
     }
@@ -157,14 +161,52 @@ impl Checker {
     fn judge_shown(&self, transfer: &Transfer) -> Judged
         requires { Fits (params_in self.now) transfer.now }
         ensures lowest { IsLowestShown (params_in self.now) self.now.tail transfer.now result.broken }
-        ensures found { Finds (params_in self.now).dims self.now.tail (items_of (params_in self.now) transfer.now) result.walk }
-        ensures few { result.walk.packets ≤ 4224 }
+        ensures changes { IsEffect (params_in self.now).dims self.now.tail (items_of (params_in self.now) transfer.now) result.effect }
+        ensures few { result.effect.packets ≤ 4224 }
+    {
+        if self.has_one_lane() {
+            self.judge_one(transfer)
+        } else {
+            self.judge_lanes(transfer)
+        }
+    }
+
+    /// Whether the stream has one lane alone.
+    #[inline(always)]
+    fn has_one_lane(&self) -> bool
+        ensures { IsTrue result ↔ ((params_in self.now).lanes ≡ 1) }
+    {
+        self.params.lanes == 1
+    }
+
+    /// The same for any stream.
+    #[inline(always)]
+    fn judge_lanes(&self, transfer: &Transfer) -> Judged
+        requires { Fits (params_in self.now) transfer.now }
+        ensures lowest { IsLowestShown (params_in self.now) self.now.tail transfer.now result.broken }
+        ensures changes { IsEffect (params_in self.now).dims self.now.tail (items_of (params_in self.now) transfer.now) result.effect }
+        ensures few { result.effect.packets ≤ 4224 }
     {
         let items = walk_over(&self.params, transfer, self.tail);
-        let broken = lowest_of_shown(&self.params, self.tail, transfer, &items);
         Judged {
-            broken,
-            walk: items.walk,
+            broken: lowest_of_shown(&self.params, self.tail, transfer, &items),
+            effect: items.walk.effect(),
+        }
+    }
+
+    /// The same for a stream of one lane.
+    #[inline(always)]
+    fn judge_one(&self, transfer: &Transfer) -> Judged
+        requires one { (params_in self.now).lanes ≡ 1 }
+        requires fits { Fits (params_in self.now) transfer.now }
+        ensures lowest { IsLowestShown (params_in self.now) self.now.tail transfer.now result.broken }
+        ensures changes { IsEffect (params_in self.now).dims self.now.tail (items_of (params_in self.now) transfer.now) result.effect }
+        ensures few { result.effect.packets ≤ 4224 }
+    {
+        let walk = walk_over_one(&self.params, transfer, self.tail);
+        Judged {
+            broken: lowest_of_one(&self.params, self.tail, &walk),
+            effect: walk.effect(),
         }
     }
 
@@ -186,18 +228,18 @@ impl Checker {
     }
 
     /// Sees a cycle that shows this transfer, which breaks no rule, where none waits.
-    fn see_first(&mut self, transfer: &Transfer, ready: bool, walk: Walk)
+    fn see_first(&mut self, transfer: &Transfer, ready: bool, effect: Effect)
         requires fits { Fits (params_in self.old) transfer.now }
         requires room { seen_in self.old < 2 ^ 32 - 1 }
-        requires found { Finds (params_in self.old).dims self.old.tail (items_of (params_in self.old) transfer.now) walk }
-        requires few { walk.packets ≤ 4224 }
+        requires changes { IsEffect (params_in self.old).dims self.old.tail (items_of (params_in self.old) transfer.now) effect }
+        requires few { effect.packets ≤ 4224 }
         requires kept { IsLowestShown (params_in self.old) self.old.tail transfer.now None }
         ensures { Sees self.old self.new (record { ready = ready; shown = Some transfer.now }) }
     {
         if ready {
-            self.see_done(walk);
+            self.see_done(effect);
         } else {
-            self.see_offered(transfer, walk);
+            self.see_offered(transfer, effect);
         }
     }
 
@@ -208,39 +250,39 @@ impl Checker {
         ensures { Sees self.old self.new (record { ready = ready; shown = Some self.old.offered }) }
     {
         if ready {
-            let walk = self.walk;
-            self.see_done(walk);
+            let effect = self.effect;
+            self.see_done(effect);
         } else {
             self.seen += 1;
         }
     }
 
-    /// Sees a cycle in which a transfer is done, over whose items this is the walk.
-    fn see_done(&mut self, walk: Walk)
+    /// Sees a cycle in which a transfer is done that changes this.
+    fn see_done(&mut self, effect: Effect)
         requires room { seen_in self.old < 2 ^ 32 - 1 }
-        requires found { (t : Transfer) × Finds (params_in self.old).dims self.old.tail (items_of (params_in self.old) t) walk }
-        requires few { walk.packets ≤ 4224 }
-        ensures { (t : Transfer) → Finds (params_in self.old).dims self.old.tail (items_of (params_in self.old) t) walk
+        requires changes { (t : Transfer) × IsEffect (params_in self.old).dims self.old.tail (items_of (params_in self.old) t) effect }
+        requires few { effect.packets ≤ 4224 }
+        ensures { (t : Transfer) → IsEffect (params_in self.old).dims self.old.tail (items_of (params_in self.old) t) effect
             → Sees self.old self.new (record { ready = true; shown = Some t }) }
     {
         self.waits = false;
-        self.tail = walk.tail;
+        self.tail = effect.tail;
         self.seen += 1;
         self.transfers += 1;
-        self.packets += walk.packets;
+        self.packets += effect.packets;
     }
 
-    /// Sees a cycle that offers this transfer, which is not taken, over whose items this is the walk.
-    fn see_offered(&mut self, transfer: &Transfer, walk: Walk)
+    /// Sees a cycle that offers this transfer, which is not taken and changes this when it is done.
+    fn see_offered(&mut self, transfer: &Transfer, effect: Effect)
         requires fits { Fits (params_in self.old) transfer.now }
         requires room { seen_in self.old < 2 ^ 32 - 1 }
-        requires found { Finds (params_in self.old).dims self.old.tail (items_of (params_in self.old) transfer.now) walk }
-        requires few { walk.packets ≤ 4224 }
+        requires changes { IsEffect (params_in self.old).dims self.old.tail (items_of (params_in self.old) transfer.now) effect }
+        requires few { effect.packets ≤ 4224 }
         requires kept { IsLowestShown (params_in self.old) self.old.tail transfer.now None }
         ensures { Sees self.old self.new (record { ready = false; shown = Some transfer.now }) }
     {
         self.offered.copy_from(transfer);
-        self.walk = walk;
+        self.effect = effect;
         self.waits = true;
         self.seen += 1;
     }

@@ -6,19 +6,13 @@
 mod breaking;
 mod checker;
 mod checking;
+mod effect;
 mod levels;
 mod nesting;
+mod one_lane;
 mod pauses;
-#[cfg(test)]
-mod reference_rules;
-#[cfg(test)]
-mod sweep_tests;
 mod table;
-#[cfg(test)]
-mod table_tests;
 mod tails;
-#[cfg(test)]
-mod test_cycles;
 #[cfg(test)]
 mod tests;
 mod unmarked;

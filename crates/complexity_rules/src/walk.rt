@@ -8,9 +8,11 @@ ghost use Rattle.physical_stream.specs.Signals.{Fits};
 ghost use Rattle.physical_stream.specs.declared.item.Item.{Item};
 ghost use Rattle.physical_stream.specs.declared.item.Item.TheVariants as items;
 ghost use Rattle.physical_stream.specs.declared.item.Tail.{Tail};
+ghost use Rattle.complexity_rules.specs.Effect.{IsEffect};
 ghost use Rattle.complexity_rules.specs.Unmarked.{AreUnmarked};
 ghost use Rattle.complexity_rules.specs.Walk.{Finds, first_of_two};
 
+use crate::effect::Effect;
 use crate::unmarked::{active_between, marks_of, next_marked};
 use physical_stream::{Params, Tail, Transfer, is_active, is_last};
 
@@ -42,6 +44,18 @@ impl Walk {
             first_close: None,
             misplaced: false,
             packets: 0,
+        }
+    }
+
+    /// What the items change when they are done.
+    #[inline(always)]
+    pub(crate) fn effect(self) -> Effect
+        ensures effect { (dims : ℕ) (begins : Option Tail) (over : List Item) → Finds dims begins over self → IsEffect dims begins over result }
+        ensures packets { result.packets ≡ self.packets }
+    {
+        Effect {
+            tail: self.tail,
+            packets: self.packets,
         }
     }
 
@@ -129,7 +143,7 @@ impl Walk {
 
     /// The walk goes over the items of this lane.
     #[inline(always)]
-    fn over_lane(self, p: &Params, transfer: &Transfer, lane: u16) -> Walk
+    pub(crate) fn over_lane(self, p: &Params, transfer: &Transfer, lane: u16) -> Walk
         requires fits { Fits p.now transfer.now }
         requires within { lane < p.now.lanes }
         requires numbered { lane < 128 }

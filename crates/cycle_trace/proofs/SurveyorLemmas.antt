@@ -92,6 +92,9 @@ module _ (t : TraceText) (cycle stream : ℕ) (next : IsNextRow t cycle stream) 
   pub turn : HasTurn t cycle stream can.params
   turn = has_turn t cycle stream next can.params can.turn
 
+  same_some : {A : Type 0} {x y : A} → Some x ≡ Some y → x ≡ y
+  same_some is = cc
+
   -- what the survey so far says stays so where an offence was found
   pub RowsSay-found : (checkers new : List Checker) (found : FoundOffence) → RowsSay t checkers (Some found) → RowsSay (with_row t row) new (Some found)
   RowsSay-found checkers new found says = IsFirst-stays t cycle stream next.place turn.in_streams turn.in_cycles row (offence_of found) says
@@ -136,7 +139,7 @@ module _ (t : TraceText) (cycle stream : ℕ) (next : IsNextRow t cycle stream) 
           each : (s : ℕ) (checker : Checker) (head : Head) → slice_get (set checkers stream new) s ≡ Some checker → slice_get t.heads s ≡ Some head → (stream ≡ s) ⊎ (stream ≡ s → ⊥) → IsChecked (with_row t row) s checker head
           each s checker head here h (inl is) =
               let written : slice_get (set checkers stream new) s ≡ Some new = ap (slice_get (set checkers stream new)) (sym is) ∙ slice_get-set_same checkers stream new stream_within in
-              let is_new : new ≡ checker = cc in
+              let is_new : new ≡ checker = same_some (sym written ∙ here) in
               let is_head : turn.head ≡ head = let e = sym turn.there ∙ ap (slice_get t.heads) is ∙ h in cc in
               let cycles : cycles_of_stream t stream ++ row ∷ [] ≡ cycles_of_stream (with_row t row) s =
               sym (cycles_of_stream-turn t cycle stream next.place turn.in_streams turn.in_cycles row) ∙ ap (cycles_of_stream (with_row t row)) is in
