@@ -12,7 +12,7 @@ use Rattle.std.proofs.lemmas.Int.Digits.{digits_value-lt}
 use Rattle.tydi_base.specs.Decimal.{read_on, below}
 use Rattle.tydi_base.specs.Frac.{IsReduced}
 use Rattle.tydi_base.specs.Level.{IsLevel}
-use Rattle.tydi_base.specs.Name.{is_name, name_of}
+use Rattle.tydi_base.specs.Name.{is_name, name_of, has_name_form}
 use Rattle.tydi_base.specs.declared.place.Place.{Place}
 use Rattle.tydi_base.proofs.DecimalLaws.{own}
 use Rattle.tydi_reading.specs.Forms.{Never, Anything}
@@ -25,7 +25,6 @@ use Rattle.tydi_reading.proofs.StepRules.{Only, pure-rule, map-rule, read-rule, 
 use Rattle.til_lexer.specs.Spelling.{HasForm, IsWholeNumber, IsPointNumber, IsBetween}
 use Rattle.til_lexer.specs.Spans.{digits_at}
 use Rattle.til_lexer.specs.Places.{start}
-use Rattle.til_lexer.specs.Words.{has_name_form}
 use Rattle.til_lexer.specs.declared.token.TokenKind.TheVariants as kinds
 use Rattle.til_parser.specs.declared.ltype.AstSync.{AstSync}
 use Rattle.til_parser.specs.declared.ltype.AstSync.TheVariants as syncs

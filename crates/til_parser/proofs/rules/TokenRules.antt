@@ -15,7 +15,7 @@ use Rattle.til_lexer.specs.declared.token.TokenKind.{TokenKind}
 use Rattle.til_lexer.specs.declared.token.TokenKind.TheVariants as kinds
 use Rattle.til_lexer.specs.Places.{start}
 use Rattle.til_lexer.specs.Spelling.{HasForm}
-use Rattle.til_lexer.specs.Words.{has_name_form}
+use Rattle.tydi_base.specs.Name.{has_name_form}
 use Rattle.til_parser.specs.Grammar.{Form, One, Of, IsWord, Word}
 use Rattle.til_parser.specs.Lexemes.{Lexeme, IsFormed}
 use Rattle.til_parser.specs.Reading.{same_kind, is_kind, is_word, expect, expect_word, token}

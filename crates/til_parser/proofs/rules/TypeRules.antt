@@ -2,8 +2,7 @@
 use Rattle.std.proofs.Common.{◌≡◌, ℕ, zero, suc, ◌<◌, ◌≤◌, ◌⊎◌, inl, inr, ⊎_elim, Bool, true, false, List, [], ◌∷◌, ◌++◌, All, length, refl, sym, ap, ◌∙◌, subst, arith, codes, append_assoc, bytes_eq, true≢false}
 use Rattle.std.proofs.lemmas.List.{append-nil, length-append}
 use Rattle.std.proofs.lemmas.List.Elements.{All-nil, All-cons, All-head}
-use Rattle.tydi_base.specs.Name.{is_name}
-use Rattle.til_lexer.specs.Words.{has_name_form}
+use Rattle.tydi_base.specs.Name.{is_name, has_name_form}
 use Rattle.tydi_reading.specs.Forms.{Never, Anything, Nothing, ◌⋯◌, GoesOn}
 use Rattle.tydi_reading.specs.Lists.{EachIs}
 use Rattle.tydi_reading.specs.Reading.{Reader, tells, choose, too_deep, ◌>>◌, ◌<$>◌, ◌<&>◌, ◌<<◌}
