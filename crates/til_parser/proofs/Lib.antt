@@ -7,5 +7,4 @@ mod LevelLemmas
 mod LexemeLemmas
 mod PlainLemmas
 mod PlacesLemmas
-mod WordLemmas
 pub mod LawLemmas

@@ -2,6 +2,7 @@ pub mod Lexemes
 pub mod Numbers
 pub mod Tree
 pub mod Reading
+pub mod Words
 pub mod Grammar
 pub mod Nesting
 pub mod Faults

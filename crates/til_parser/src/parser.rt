@@ -6,8 +6,10 @@ ghost use Rattle.til_lexer.specs.Spelling.{HasForm, own_text};
 ghost use Rattle.til_parser.specs.Lexemes.{Lexeme, HasFormIn, lexemes_of};
 ghost use Rattle.til_parser.specs.Reading as spec;
 ghost use Rattle.til_parser.specs.declared.ltype.AstType.{AstType};
-ghost use Rattle.tydi_reading.specs.Reading.{Outcome, ReadsAlways, rest_of, stopped, tells, too_deep};
+ghost use Rattle.tydi_reading.specs.Reading.{Outcome, ReadsAlways, rest_of, stopped, tells, told_by, too_deep};
+ghost use Rattle.til_parser.specs.Words.{type_word_at};
 
+use crate::keyword::{TypeWord, type_word_of};
 use std::alloc::Global;
 use std::marker::Model;
 use til_lexer::{Token, TokenKind};
@@ -97,6 +99,18 @@ impl<'a> Parser<'a> {
         match self.rest {
             [next, ..] if same_kind(next.kind, kind) => {
                 Some((next.place, spelling(self.text, next)))
+            }
+            _ => None,
+        }
+    }
+
+    /// The word of a type that stands next, if one does.
+    pub(crate) fn type_word(&self) -> Option<TypeWord>
+        ensures { result ≡ told_by type_word_at self.now }
+    {
+        match self.rest {
+            [next, ..] if same_kind(next.kind, TokenKind::Word) => {
+                type_word_of(spelling(self.text, next))
             }
             _ => None,
         }

@@ -118,6 +118,19 @@ checked meaning p = p >>= (λ x. λ rest. meant (meaning x) rest rest)
 abbrev pub leaf : {T A : Type 0} → (T → Option A) → Reader T A
 leaf meaning = λ ts. meant (option_and_then meaning (first ts)) (rest_of ts) ts
 
+-- the meaning of the next thing, where it has one
+abbrev pub told_by : {T K : Type 0} → (T → Option K) → List T → Option K
+told_by meaning ts = option_and_then meaning (first ts)
+
+-- what a meaning asks for, after the thing that has it, or the other reader where there is none
+abbrev pub led_by : {T K A : Type 0} → Option K → (K → Reader T A) → Reader T A → Reader T A
+led_by (Some k) p q = λ ts. p k (rest_of ts)
+led_by None p q = q
+
+-- a next thing with a meaning is taken, and what that asks for follows; without one, the other reader
+abbrev pub led : {T K A : Type 0} → (T → Option K) → (K → Reader T A) → Reader T A → Reader T A
+led meaning p q = λ ts. led_by (told_by meaning ts) p q ts
+
 -- what may not stand here, inside as many others as are allowed: told where it begins
 abbrev pub too_deep : {T A : Type 0} → (T → Bool) → Reader T A
 too_deep begins [] = refuse []

@@ -3,7 +3,7 @@ use Rattle.std.proofs.Common.{◌≡◌, ℕ, true, List, [], ◌∷◌, ◌++�
 use Rattle.std.specs.Prelude.{codes}
 use Rattle.std.specs.List.{flat_map, list_all}
 use Rattle.til_lexer.specs.Spans.{is_space}
-use Rattle.til_lexer.specs.Words.{has_name_form}
+use Rattle.tydi_base.specs.Name.{has_name_form}
 use Rattle.til_lexer.specs.declared.token.TokenKind.TheVariants as kinds
 use Rattle.til_parser.specs.declared.tree.AstDecl.{AstDecl}
 use Rattle.til_parser.specs.declared.tree.AstKind.{AstKind}

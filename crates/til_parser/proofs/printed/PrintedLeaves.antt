@@ -11,11 +11,10 @@ use Rattle.std.proofs.lemmas.List.{append-nil}
 use Rattle.tydi_base.specs.Decimal.{read_on}
 use Rattle.tydi_base.specs.Frac.{Fraction, IsReduced}
 use Rattle.tydi_base.specs.Level.{IsLevel}
-use Rattle.tydi_base.specs.Name.{is_name, is_reserved}
+use Rattle.tydi_base.specs.Name.{is_name, is_reserved, has_name_form}
 use Rattle.tydi_base.proofs.DecimalLaws.{own}
 use Rattle.til_lexer.specs.Spans.{is_space}
 use Rattle.til_lexer.specs.Spelling.{HasForm, IsBetween}
-use Rattle.til_lexer.specs.Words.{has_name_form}
 use Rattle.til_lexer.specs.declared.token.TokenKind.{TokenKind}
 use Rattle.til_lexer.specs.declared.token.TokenKind.TheVariants as kinds
 use Rattle.til_parser.specs.declared.tree.AstName.{AstName}

@@ -1,6 +1,6 @@
 -- The rules of ports and declarations.
 use Rattle.std.proofs.Common.{◌≡◌, ℕ, ◌⊎◌, inl, inr, ⊎_elim, Bool, true, false, List, [], ◌∷◌, ◌++◌, Option, Some, None, refl, sym, subst, codes, append_assoc}
-use Rattle.til_lexer.specs.Words.{has_name_form}
+use Rattle.tydi_base.specs.Name.{has_name_form}
 use Rattle.tydi_reading.specs.Forms.{Never, Anything, ◌⋯◌}
 use Rattle.tydi_reading.specs.Lists.{EachIs}
 use Rattle.tydi_reading.specs.Reading.{tells, ◌>>◌, ◌<$>◌, ◌<&>◌}
@@ -9,6 +9,7 @@ use Rattle.tydi_reading.proofs.ChoiceRules.{choose-rule, both-rule}
 use Rattle.tydi_reading.proofs.FilledLemmas.{filled-first, filled-second}
 use Rattle.tydi_reading.proofs.MarkRules.{skip-rule}
 use Rattle.tydi_reading.proofs.StepRules.{map-rule, same-rule}
+use Rattle.std.proofs.lemmas.Option.{none-some}
 use Rattle.til_lexer.specs.declared.token.TokenKind.{TokenKind}
 use Rattle.til_lexer.specs.declared.token.TokenKind.TheVariants as kinds
 use Rattle.til_parser.specs.declared.keyword.Keyword.{Keyword}
@@ -29,10 +30,11 @@ use Rattle.til_parser.specs.Reading.{same_kind, is_kind, expect, expect_word}
 use Rattle.til_parser.specs.ReadTypes.{name, path, doc, quoted, either_word, bracketed, ltype}
 use Rattle.til_parser.specs.ReadDecls.{body, port, streamlet_ports, keyword, impl_kind, test_kind, kind_of}
 use Rattle.til_parser.specs.Tree.{plain}
+use Rattle.til_parser.specs.Words.{keyword_of}
 use Rattle.til_parser.proofs.rules.BodyRules.{Name-not, Name-filled, front-tells, Of-tells, body-rule, no_deep-rule}
-use Rattle.til_parser.proofs.rules.LeafRules.{PathNext, NoDoc, Fixed, plain-same, word_or-rule, fixed-rule, name-rule, path-rule, doc-rule, quoted-rule, either-rule}
+use Rattle.til_parser.proofs.rules.LeafRules.{PathNext, NoDoc, name-rule, path-rule, doc-rule, quoted-rule, either-rule}
 use Rattle.til_parser.proofs.rules.ListRules.{Lists, bracketed-rule, Of-path}
-use Rattle.til_parser.proofs.rules.TokenRules.{kind-rule, word-rule, Word-not_word}
+use Rattle.til_parser.proofs.rules.TokenRules.{made, kind-rule, word-rule, token-rule, word_entry, word_token}
 use Rattle.til_parser.proofs.rules.TypeRules.{S, Fits, ltype-rule}
 
 -- ---- ports
@@ -226,56 +228,33 @@ keyword_word keywords.Streamlet = codes "streamlet"
 keyword_word keywords.Impl = codes "impl"
 keyword_word keywords.Test = codes "test"
 
-abbrev K4 : Keyword → Form
-K4 = Fixed keywords.Test (codes "test")
+keyword_of-word : (word : List ℕ) (x : Keyword) → keyword_of word ≡ Some x → word ≡ keyword_word x
+unfolding keyword_of
+keyword_of-word word x is =
+    word_entry keyword_word word keywords.Type x _ is (λ is. word_entry keyword_word word keywords.Interface x _ is (λ is.
+    word_entry keyword_word word keywords.Streamlet x _ is (λ is. word_entry keyword_word word keywords.Impl x _ is (λ is.
+    word_entry keyword_word word keywords.Test x _ is (λ is. absurd (none-some x is))))))
 
-abbrev K3 : Keyword → Form
-K3 x ts = Fixed keywords.Impl (codes "impl") x ts ⊎ K4 x ts
-
-abbrev K2 : Keyword → Form
-K2 x ts = Fixed keywords.Streamlet (codes "streamlet") x ts ⊎ K3 x ts
-
-abbrev K1 : Keyword → Form
-K1 x ts = Fixed keywords.Interface (codes "interface") x ts ⊎ K2 x ts
-
-keyword_parts : (x : Keyword) (ts : List Lexeme) → Word (keyword_word x) ts → Fixed keywords.Type (codes "type") x ts ⊎ K1 x ts
-keyword_parts keywords.Type ts s = inl (refl, s)
-keyword_parts keywords.Interface ts s = inr (inl (refl, s))
-keyword_parts keywords.Streamlet ts s = inr (inr (inl (refl, s)))
-keyword_parts keywords.Impl ts s = inr (inr (inr (inl (refl, s))))
-keyword_parts keywords.Test ts s = inr (inr (inr (inr (refl, s))))
-
-of_keyword : (x y : Keyword) (word : List ℕ) (ts : List Lexeme) → keyword_word x ≡ word → Fixed x word y ts → Word (keyword_word y) ts
-of_keyword x y word ts is s = subst (λ z. Word (keyword_word z) ts) (sym s.0) (subst (λ w. Word w ts) (sym is) s.1)
+keyword_of-is : (x : Keyword) → keyword_of (keyword_word x) ≡ Some x
+unfolding keyword_of
+keyword_of-is keywords.Type = refl
+keyword_of-is keywords.Interface = refl
+keyword_of-is keywords.Streamlet = refl
+keyword_of-is keywords.Impl = refl
+keyword_of-is keywords.Test = refl
 
 pub keyword-rule : IsRule IsFormed keyword (λ x. Word (keyword_word x)) (λ _. Anything) (λ _. Unit {0}) Never
-unfolding keyword
-keyword-rule =
-    plain-same keyword (λ x ts. Fixed keywords.Type (codes "type") x ts ⊎ K1 x ts) (λ x. Word (keyword_word x))
-    (λ x ts. ⊎_elim (of_keyword keywords.Type x (codes "type") ts refl) (⊎_elim (of_keyword keywords.Interface x (codes "interface") ts refl)
-    (⊎_elim (of_keyword keywords.Streamlet x (codes "streamlet") ts refl) (⊎_elim (of_keyword keywords.Impl x (codes "impl") ts refl) (of_keyword keywords.Test x (codes "test") ts refl)))))
-    keyword_parts
-    (word_or-rule keywords.Type (codes "type") _ K1 refl
-    (λ y front rest. ⊎_elim (λ s. Word-not_word (codes "interface") (codes "type") refl front rest s.1)
-    (⊎_elim (λ s. Word-not_word (codes "streamlet") (codes "type") refl front rest s.1)
-    (⊎_elim (λ s. Word-not_word (codes "impl") (codes "type") refl front rest s.1) (λ s. Word-not_word (codes "test") (codes "type") refl front rest s.1))))
-    (word_or-rule keywords.Interface (codes "interface") _ K2 refl
-    (λ y front rest. ⊎_elim (λ s. Word-not_word (codes "streamlet") (codes "interface") refl front rest s.1)
-    (⊎_elim (λ s. Word-not_word (codes "impl") (codes "interface") refl front rest s.1) (λ s. Word-not_word (codes "test") (codes "interface") refl front rest s.1)))
-    (word_or-rule keywords.Streamlet (codes "streamlet") _ K3 refl
-    (λ y front rest. ⊎_elim (λ s. Word-not_word (codes "impl") (codes "streamlet") refl front rest s.1) (λ s. Word-not_word (codes "test") (codes "streamlet") refl front rest s.1))
-    (word_or-rule keywords.Impl (codes "impl") _ K4 refl
-    (λ y front rest s. Word-not_word (codes "test") (codes "impl") refl front rest s.1)
-    (fixed-rule keywords.Test (codes "test") refl)))))
+keyword-rule = token-rule kinds.Word (λ place spelling. keyword_of spelling) (λ x. Word (keyword_word x)) (word_token keyword_of keyword_word keyword_of-word keyword_of-is)
+    (made kinds.Word (codes "type")) keywords.Type refl refl (keyword_of-is keywords.Type)
 
 -- ---- what follows the keyword and the name
 
-abbrev pub keyword_of : AstKind → Keyword
-keyword_of (decls.Alias ltype) = keywords.Type
-keyword_of (decls.Interface all) = keywords.Interface
-keyword_of (decls.Streamlet all) = keywords.Streamlet
-keyword_of (decls.Impl target inside) = keywords.Impl
-keyword_of (decls.Test target port value plan) = keywords.Test
+abbrev pub keyword_for : AstKind → Keyword
+keyword_for (decls.Alias ltype) = keywords.Type
+keyword_for (decls.Interface all) = keywords.Interface
+keyword_for (decls.Streamlet all) = keywords.Streamlet
+keyword_for (decls.Impl target inside) = keywords.Impl
+keyword_for (decls.Test target port value plan) = keywords.Test
 
 abbrev pub SpellsRest : AstKind → Form
 SpellsRest (decls.Alias ltype) = Of kinds.Equals ⋯ SpellsType (plain ltype)
@@ -285,14 +264,14 @@ SpellsRest (decls.Impl target inside) = Word (codes "of") ⋯ Path target.names 
 SpellsRest (decls.Test target port value plan) =
     Word (codes "of") ⋯ Path target.names ⋯ Word (codes "drive") ⋯ Name port ⋯ Of kinds.Equals ⋯ Quoted value ⋯ Word (codes "plan") ⋯ Quoted plan
 
-pub kind_parts : (called : AstName) (kind : AstKind) (ts : List Lexeme) → SpellsKind called kind ts → (Word (keyword_word (keyword_of kind)) ⋯ Name called ⋯ SpellsRest kind) ts
+pub kind_parts : (called : AstName) (kind : AstKind) (ts : List Lexeme) → SpellsKind called kind ts → (Word (keyword_word (keyword_for kind)) ⋯ Name called ⋯ SpellsRest kind) ts
 kind_parts called (decls.Alias ltype) ts s = s
 kind_parts called (decls.Interface all) ts s = s
 kind_parts called (decls.Streamlet all) ts s = s
 kind_parts called (decls.Impl target inside) ts s = s
 kind_parts called (decls.Test target port value plan) ts s = s
 
-pub kind_of_parts : (called : AstName) (kind : AstKind) (ts : List Lexeme) → (Word (keyword_word (keyword_of kind)) ⋯ Name called ⋯ SpellsRest kind) ts → SpellsKind called kind ts
+pub kind_of_parts : (called : AstName) (kind : AstKind) (ts : List Lexeme) → (Word (keyword_word (keyword_for kind)) ⋯ Name called ⋯ SpellsRest kind) ts → SpellsKind called kind ts
 kind_of_parts called (decls.Alias ltype) ts s = s
 kind_of_parts called (decls.Interface all) ts s = s
 kind_of_parts called (decls.Streamlet all) ts s = s
@@ -301,7 +280,7 @@ kind_of_parts called (decls.Test target port value plan) ts s = s
 
 -- a declaration of this keyword
 abbrev pub KindForm : Keyword → AstKind → Form
-KindForm begun kind ts = (keyword_of kind ≡ begun) × SpellsRest kind ts
+KindForm begun kind ts = (keyword_for kind ≡ begun) × SpellsRest kind ts
 
 module _ (n : ℕ) where
   abbrev EqualsTo : Form → Form

@@ -29,7 +29,7 @@ use Rattle.til_parser.specs.Reading.{same_kind, is_kind, expect, expect_word}
 use Rattle.til_parser.specs.ReadTypes.{name, path, doc}
 use Rattle.til_parser.specs.ReadDecls.{braced, keyword, kind_of, named_kind, decl, namespace, project_of, project}
 use Rattle.til_parser.proofs.rules.BodyRules.{front-tells}
-use Rattle.til_parser.proofs.rules.DeclRules.{doc_tells, keyword_word, keyword_of, kind_parts, kind_of_parts, KindForm, RestTo, keyword-rule, kind-rule_of}
+use Rattle.til_parser.proofs.rules.DeclRules.{doc_tells, keyword_word, keyword_for, kind_parts, kind_of_parts, KindForm, RestTo, keyword-rule, kind-rule_of}
 use Rattle.til_parser.proofs.rules.LeafRules.{PathNext, NoDoc, name-rule, path-rule, doc-rule}
 use Rattle.til_parser.proofs.rules.ListRules.{Braces, braced-rule, Of-path}
 use Rattle.til_parser.proofs.rules.TokenRules.{kind-rule, word-rule, Word-not}
@@ -72,7 +72,7 @@ module _ (n : ℕ) where
   unfolding NamedForm
   named_part z ts s =
       let p = kind_parts z.0 z.1 ts s in (
-        keyword_of z.1,
+        keyword_for z.1,
         record {
           front = p.front;
           back = p.back;
