@@ -26,7 +26,7 @@ use Rattle.cycle_trace.proofs.RowAdded.{cycles_of_stream-turn, cycles_of_stream-
 
 -- ---- lists of checkers
 
-slice_get-set_same : {A : Type 0} (xs : List A) (i : ℕ) (x : A) → i < length xs → slice_get (set xs i x) i ≡ Some x
+pub slice_get-set_same : {A : Type 0} (xs : List A) (i : ℕ) (x : A) → i < length xs → slice_get (set xs i x) i ≡ Some x
 slice_get-set_same [] i x within = absurd (omega arith)
 slice_get-set_same (y ∷ xs) zero x within = refl
 slice_get-set_same (y ∷ xs) (suc i) x within = slice_get-set_same xs i x (omega arith)
@@ -38,7 +38,7 @@ slice_get-set_other (y ∷ xs) zero (suc j) x other = refl
 slice_get-set_other (y ∷ xs) (suc i) zero x other = refl
 slice_get-set_other (y ∷ xs) (suc i) (suc j) x other = slice_get-set_other xs i j x (λ same. other (omega arith))
 
-slice_get-there : {A : Type 0} (xs : List A) (i : ℕ) → i < length xs → (x : A) × (slice_get xs i ≡ Some x)
+pub slice_get-there : {A : Type 0} (xs : List A) (i : ℕ) → i < length xs → (x : A) × (slice_get xs i ≡ Some x)
 slice_get-there [] i within = absurd (omega arith)
 slice_get-there (x ∷ xs) zero within = (x, refl)
 slice_get-there (x ∷ xs) (suc i) within = slice_get-there xs i (omega arith)

@@ -1,5 +1,7 @@
 pub mod Faults
 pub mod HeaderText
+pub mod LineBegun
+pub mod RowForm
 pub mod RowLayout
 pub mod RowStart
 pub mod RowText

@@ -10,6 +10,7 @@ mod fault;
 mod header_text;
 mod keep;
 mod laws;
+mod line_begun;
 mod line_taking;
 mod own_row;
 mod reading;
