@@ -1,5 +1,5 @@
 -- The header of a trace, read.
-use Rattle.std.proofs.Common.{◌≡◌, ℕ, suc, ◌^◌, ◌<◌, ◌≤◌, Bool, true, false, not, ◌&&◌, List, [], ◌∷◌, length, eqb, Option, Some, None, Result, Ok, Err, IfOk, nat_le, nat_lt, MatchOption, refl, sym, ap, ◌∙◌, arith, if◌then◌else◌}
+use Rattle.std.proofs.Common.{◌≡◌, ℕ, suc, ◌^◌, ◌<◌, ◌≤◌, Bool, true, false, not, ◌&&◌, List, [], ◌∷◌, length, Option, Some, None, Result, Ok, Err, IfOk, nat_le, nat_lt, MatchOption, refl, sym, ap, ◌∙◌, arith, if◌then◌else◌}
 use Rattle.std.proofs.Math.Bool.{and-false}
 use Rattle.std.proofs.lemmas.Bool.Decides.{nat_tests}
 use Rattle.std.specs.List.{list_any}
@@ -7,10 +7,9 @@ use Rattle.std.specs.Str.{bytes_eq}
 use Rattle.std.specs.Option.{ok_or}
 use Rattle.std.specs.BTreeSet.{BTreeSet}
 use Rattle.std.specs.declared.vec.Vec.{Vec}
-use Rattle.tydi_base.specs.Decimal.{read_on, is_decimal, decimal_of, below}
+use Rattle.tydi_base.specs.Decimal.{decimal_of, below}
 use Rattle.tydi_base.specs.Reading.{◌>>=◌, or_fault, Gives}
 use Rattle.tydi_base.specs.Path.{path_text}
-use Rattle.tydi_base.specs.Pieces.{lines_of}
 use Rattle.tydi_base.proofs.ReadingLaws.{fails_then, bind_ok}
 use Rattle.physical_stream.specs.declared.head.Head.{Head}
 use Rattle.cycle_trace.specs.declared.fault.TraceFault.TheVariants.{BadHeader}

@@ -15,6 +15,7 @@ pub mod RowsSpelling
 pub mod SignalSpelling
 pub mod SizedLemmas
 pub mod StrobeLemmas
+pub mod TextLengthLemmas
 pub mod TextSetLemmas
 pub mod TraceSpelling
 pub mod ViewLemmas

@@ -1,6 +1,6 @@
 -- How far a line has the form of a row, with one byte more.
-use Rattle.std.proofs.Common.{◌≡◌, ℕ, zero, suc, ◌+◌, ◌-◌, ◌<◌, ◌≤◌, Bool, true, false, ◌&&◌, ◌||◌, ◌==◌, nat_lt, eqb, if◌then◌else◌, List, [], ◌∷◌, ◌++◌, length, get_or, drop, is_some, add-one, append_assoc, IsSome, refl, sym, ap, subst, ◌∙◌, arith}
-use Rattle.std.specs.List.{count_by, list_all, list_any, onto_first}
+use Rattle.std.proofs.Common.{◌≡◌, ℕ, zero, suc, ◌+◌, ◌<◌, ◌≤◌, Bool, true, false, ◌&&◌, ◌||◌, ◌==◌, nat_lt, eqb, if◌then◌else◌, List, [], ◌∷◌, ◌++◌, length, get_or, drop, add-one, IsSome, refl, sym, ap, subst, ◌∙◌, arith}
+use Rattle.std.specs.List.{count_by, list_any, onto_first}
 use Rattle.std.proofs.lemmas.Bool.Decides.{nat_tests}
 use Rattle.std.proofs.Math.ListN.{drop_of_length-le}
 use Rattle.std.proofs.Math.Seq.{drop-cons}
@@ -8,102 +8,19 @@ use Rattle.std.proofs.lemmas.Bool.{eqb-true, eq-eqb}
 use Rattle.std.proofs.lemmas.List.{append-nil}
 use Rattle.std.proofs.lemmas.List.Splits.{length-slice_split, slice_split-cons_no, slice_split-cons_yes}
 use Rattle.std.specs.Str.{bytes_eq}
-use Rattle.tydi_base.specs.Hex.{digit_of}
 use Rattle.tydi_base.specs.Pieces.{words_of}
 use Rattle.cycle_trace.specs.Faults.{fault_in}
-use Rattle.cycle_trace.specs.RowForm.{Goes, IsForm, fits, goes_on, is_end, is_spelled, row_keys, step}
-use Rattle.cycle_trace.specs.RowText.{are_signals, has_form, is_bit, is_dash, is_payload, is_signal, is_value, row_fault}
-use Rattle.cycle_trace.specs.declared.fault.TraceFault.{TraceFault}
+use Rattle.cycle_trace.specs.RowForm.{Goes, IsForm, fits, is_spelled, row_keys}
+use Rattle.cycle_trace.specs.RowText.{are_signals, has_form, is_dash, is_payload, is_value, row_fault}
 use Rattle.cycle_trace.specs.declared.fault.TraceFault.TheVariants.{BadRow, WrongSignals}
 use Rattle.cycle_trace.specs.declared.row_form.RowForm.{RowForm}
 use Rattle.cycle_trace.specs.declared.row_form.RowForm.TheVariants as forms
 use Rattle.cycle_trace.specs.declared.row_form.ValueKind.{ValueKind}
-use Rattle.cycle_trace.specs.declared.row_form.ValueKind.TheVariants as kinds
 
 -- ---- a byte more
 
 apart_is : (a b : ℕ) → eqb a b ≡ false → a ≡ b → ⊥
 apart_is a b is same = let yes_so = eq-eqb a b same in cc
-
--- a form by what it is after a space, and after another byte
-module _ (old spaced new : RowForm) (byte : ℕ) (test : Bool) where
-  either_form : (t : Bool) (words : List (List ℕ)) → fits (if t then new else forms.No) words ≡ (if t then fits new words else false)
-  either_form true words = refl
-  either_form false words = refl
-
-  pub goes : ((word : List ℕ) (words : List (List ℕ)) → fits spaced (word ∷ words) ≡ fits old ([] ∷ word ∷ words))
-      → ((word : List ℕ) (words : List (List ℕ)) → (if test then fits new (word ∷ words) else false) ≡ fits old ((byte ∷ word) ∷ words)) → Goes old byte (step byte spaced test new)
-  goes at_space at_byte = by_space (eqb byte 32) refl
-    where
-      by_space : (b : Bool) → eqb byte 32 ≡ b → Goes old byte (if b then spaced else (if test then new else forms.No))
-      by_space true is = record { space = λ same word words. at_space word words; other = λ ne word words. absurd (ne (eqb-true byte 32 is)) }
-      by_space false is = record { space = λ same word words. absurd (apart_is byte 32 is same); other = λ ne word words. either_form test (word ∷ words) ∙ at_byte word words }
-
--- ---- the bits
-
-or_end : (a b : Bool) (word : List ℕ) → ((b && is_end word) || (a && is_end word)) ≡ ((a || b) && is_end word)
-or_end true true [] = refl
-or_end true false [] = refl
-or_end false true [] = refl
-or_end false false [] = refl
-or_end true true (x ∷ word) = refl
-or_end true false (x ∷ word) = refl
-or_end false true (x ∷ word) = refl
-or_end false false (x ∷ word) = refl
-
--- a word that begins so is a bit
-bit_at : (byte : ℕ) (word : List ℕ) → is_bit (byte ∷ word) ≡ (((byte == 48) || (byte == 49)) && is_end word)
-bit_at byte [] = or_end (byte == 48) (byte == 49) []
-bit_at byte (x ∷ word) = or_end (byte == 48) (byte == 49) (x ∷ word)
-
-first_bit : (t : Bool) (byte : ℕ) (word : List ℕ) (words : List (List ℕ)) → is_bit (byte ∷ word) ≡ (t && is_end word) → (if t then fits forms.AfterValid (word ∷ words) else false) ≡ has_form ((byte ∷ word) ∷ words)
-first_bit true byte word [] is = refl
-first_bit false byte word [] is = refl
-first_bit true byte word (ready ∷ payload) is = ap (λ (b : Bool). b && is_bit ready && is_payload payload) (sym is)
-first_bit false byte word (ready ∷ payload) is = ap (λ (b : Bool). b && is_bit ready && is_payload payload) (sym is)
-
-next_bit : (t : Bool) (byte : ℕ) (word : List ℕ) (words : List (List ℕ)) → is_bit (byte ∷ word) ≡ (t && is_end word) → (if t then fits forms.AfterReady (word ∷ words) else false) ≡ fits forms.Ready ((byte ∷ word) ∷ words)
-next_bit true byte word words is = ap (λ (b : Bool). b && is_payload words) (sym is)
-next_bit false byte word words is = ap (λ (b : Bool). b && is_payload words) (sym is)
-
-pub goes-Valid : (byte : ℕ) → Goes forms.Valid byte (step byte forms.No ((byte == 48) || (byte == 49)) forms.AfterValid)
-goes-Valid byte = goes forms.Valid forms.No forms.AfterValid byte ((byte == 48) || (byte == 49)) (λ word words. refl) (λ word words. first_bit ((byte == 48) || (byte == 49)) byte word words (bit_at byte word))
-
-after_valid : (byte : ℕ) (word : List ℕ) (words : List (List ℕ)) → false ≡ fits forms.AfterValid ((byte ∷ word) ∷ words)
-after_valid byte word [] = refl
-after_valid byte word (ready ∷ payload) = refl
-
-pub goes-AfterValid : (byte : ℕ) → Goes forms.AfterValid byte (step byte forms.Ready false forms.No)
-goes-AfterValid byte = goes forms.AfterValid forms.Ready forms.No byte false (λ word words. refl) (λ word words. after_valid byte word words)
-
-pub goes-Ready : (byte : ℕ) → Goes forms.Ready byte (step byte forms.No ((byte == 48) || (byte == 49)) forms.AfterReady)
-goes-Ready byte = goes forms.Ready forms.No forms.AfterReady byte ((byte == 48) || (byte == 49)) (λ word words. refl) (λ word words. next_bit ((byte == 48) || (byte == 49)) byte word words (bit_at byte word))
-
-pub goes-AfterReady : (byte : ℕ) → Goes forms.AfterReady byte (step byte forms.Payload false forms.No)
-goes-AfterReady byte = goes forms.AfterReady forms.Payload forms.No byte false (λ word words. refl) (λ word words. refl)
-
--- ---- values
-
-if_right : (t right : Bool) (next : ℕ) (words : List (List ℕ)) → (if t then goes_on next right words else false) ≡ goes_on next (t && right) words
-if_right true right next words = refl
-if_right false right next words = refl
-
-pub goes-Sign : (next : ℕ) (kind : ValueKind) (byte : ℕ) → Goes (forms.Sign next kind) byte (step byte forms.No (byte == 61) (forms.Value next kind))
-goes-Sign next kind byte = goes (forms.Sign next kind) forms.No (forms.Value next kind) byte (byte == 61) (λ word words. refl) (λ word words. if_right (byte == 61) (is_spelled kind word) next words)
-
-some_digits : (byte : ℕ) (digits : List ℕ) → nat_lt 0 (length (byte ∷ digits)) ≡ true
-some_digits byte digits = grind (arith, nat_tests)
-
-pub goes-Value : (next byte : ℕ) → Goes (forms.Value next kinds.Hex) byte (step byte forms.No (is_some (digit_of byte)) (forms.Hex next))
-goes-Value next byte = goes (forms.Value next kinds.Hex) forms.No (forms.Hex next) byte (is_some (digit_of byte)) (λ word words. refl)
-    (λ word words. if_right (is_some (digit_of byte)) (list_all (λ digit. is_some (digit_of digit)) word) next words
-    ∙ ap (λ (b : Bool). goes_on next (b && (is_some (digit_of byte) && list_all (λ digit. is_some (digit_of digit)) word)) words) (sym (some_digits byte word)))
-
-pub goes-Hex : (next byte : ℕ) → Goes (forms.Hex next) byte (step byte (forms.Signal next) (is_some (digit_of byte)) (forms.Hex next))
-goes-Hex next byte = goes (forms.Hex next) (forms.Signal next) (forms.Hex next) byte (is_some (digit_of byte)) (λ word words. refl) (λ word words. if_right (is_some (digit_of byte)) (list_all (λ digit. is_some (digit_of digit)) word) next words)
-
-pub goes-Zero : (next byte : ℕ) → Goes (forms.Zero next) byte (step byte (forms.Signal next) false forms.No)
-goes-Zero next byte = goes (forms.Zero next) (forms.Signal next) forms.No byte false (λ word words. refl) (λ word words. refl)
 
 -- ---- the keys of the signals
 
@@ -210,16 +127,6 @@ goes-Payload byte new other h = record {
   other = λ ne word words. h.other ne word words ∙ no_dash byte word words (ne_test byte 45 (λ same. other (sym same)));
 }
 
-dash_ends : (byte : ℕ) (word : List ℕ) (words : List (List ℕ)) → false ≡ fits forms.Dash ((byte ∷ word) ∷ words)
-dash_ends byte word [] = refl
-dash_ends byte word (next ∷ words) = refl
-
-pub goes-Dash : (byte : ℕ) → Goes forms.Dash byte forms.No
-goes-Dash byte = record { space = λ same word words. refl; other = λ ne word words. dash_ends byte word words }
-
-pub goes-No : (byte : ℕ) → Goes forms.No byte forms.No
-goes-No byte = record { space = λ same word words. refl; other = λ ne word words. refl }
-
 -- ---- bytes one after another
 
 goes_words : (old new : RowForm) (byte : ℕ) (more : List ℕ) → Goes old byte new → fits new (words_of more) ≡ fits old (words_of (byte ∷ more))
@@ -253,15 +160,9 @@ ComesTo-all old form bytes i so past more = ap (λ (rest : List ℕ). fits form 
 pub whole-Signal : (next : ℕ) → false ≡ fits (forms.Signal next) ([] ∷ [])
 whole-Signal next = none_empty (drop next row_keys) []
 
-pub whole-Sign : (next : ℕ) (kind : ValueKind) → false ≡ fits (forms.Sign next kind) ([] ∷ [])
-whole-Sign next kind = refl
-
 pub fault_of : (form : RowForm) (line : List ℕ) (number : ℕ) (whole : Bool) → IsForm form line → whole ≡ fits form ([] ∷ []) → (if whole then WrongSignals number else BadRow number) ≡ row_fault number line
 fault_of form line number whole is same =
     ap (λ (b : Bool). if b then WrongSignals number else BadRow number) (same ∙ is [] ∙ ap (λ (text : List ℕ). has_form (words_of text)) (append-nil line))
-
-pub IsForm-more : (form new : RowForm) (line bytes : List ℕ) → IsForm form line → ((more : List ℕ) → fits new (words_of more) ≡ fits form (words_of (bytes ++ more))) → IsForm new (line ++ bytes)
-IsForm-more form new line bytes is comes more = comes more ∙ is (bytes ++ more) ∙ ap (λ (text : List ℕ). has_form (words_of text)) (sym (append_assoc line bytes more))
 
 -- a line that is no row has a fault
 pub row_fault-some : (number : ℕ) (line : List ℕ) → IsSome (fault_in (row_fault number line))

@@ -1,14 +1,8 @@
 -- The rows of a trace text: the values of their signals.
-use Rattle.std.proofs.Common.{◌≡◌, ℕ, ◌^◌, ◌<◌, ◌≤◌, Bool, true, false, nat_le, nat_lt, List, length, Option, Some, None, Ok, Err, refl, sym, ◌∙◌, arith}
+use Rattle.std.proofs.Common.{◌≡◌, ℕ, ◌^◌, ◌<◌, ◌≤◌, true, false, nat_le, nat_lt, List, length, Option, Some, None, Ok, Err, refl, sym, ◌∙◌, arith}
 use Rattle.std.proofs.lemmas.Bool.Decides.{nat_tests}
-use Rattle.std.proofs.lemmas.List.{length-replicate}
-use Rattle.tydi_base.specs.Reading.{or_fault}
-use Rattle.tydi_base.specs.Bits.{zero_bits}
 use Rattle.tydi_base.specs.Decimal.{decimal_of, below}
-use Rattle.tydi_base.specs.Hex.{word_at}
-use Rattle.tydi_base.proofs.ReadingLaws.{bind_ok, or_fault_ok, ok_is}
-use Rattle.tydi_base.proofs.HexLemmas.{hex_of-word_at}
-use Rattle.cycle_trace.specs.RowText.{value_of, word_field, index_of}
+use Rattle.cycle_trace.specs.RowText.{index_of}
 use Rattle.cycle_trace.proofs.HeaderLemmas.{below-short}
 
 -- ---- numbers of lanes

@@ -1,5 +1,5 @@
 -- How long the text of a row is.
-use Rattle.std.proofs.Common.{◌≡◌, ◌≢◌, ℕ, suc, ◌+◌, ◌*◌, ◌/◌, ◌^◌, ◌<◌, ◌≤◌, Bool, true, false, eqb, if◌then◌else◌, List, [], ◌∷◌, ◌++◌, length, Option, Some, None, Result, Ok, Err, is_some, append-nil, length-append, refl, sym, ap, ◌∙◌, arith}
+use Rattle.std.proofs.Common.{◌≡◌, ℕ, suc, ◌+◌, ◌*◌, ◌/◌, ◌^◌, ◌<◌, ◌≤◌, Bool, true, false, eqb, if◌then◌else◌, List, [], ◌∷◌, ◌++◌, length, Option, Some, None, Result, Ok, Err, is_some, append-nil, length-append, refl, sym, ap, ◌∙◌, arith}
 use Rattle.std.specs.Fmt.{decimal}
 use Rattle.std.specs.List.{join_with_byte}
 use Rattle.std.proofs.Math.Pow.{pow_mono}
@@ -38,6 +38,16 @@ length-signal false key value = refl
 pub length-bit_text : (bit : Bool) → length (bit_text bit) ≡ 1
 length-bit_text true = refl
 length-bit_text false = refl
+
+-- the bits, and the payload after them
+pub length-row_line : (p : Parameters) (cycle : Cycle) → length (row_line p cycle) ≡ 3 + length (spaced (payload_words p cycle.shown))
+length-row_line p cycle =
+    let valid = bit_text (is_some cycle.shown) in
+    let ready = bit_text cycle.ready in
+    let words = payload_words p cycle.shown in
+    let parts : length (row_line p cycle) ≡ length valid + suc (length ready + length (spaced words)) =
+    ap length (joined_spaced valid (ready ∷ words)) ∙ length-append valid (32 ∷ (ready ++ spaced words)) ∙ ap (λ (n : ℕ). length valid + suc n) (length-append ready (spaced words)) in
+    omega (arith, parts, length-bit_text (is_some cycle.shown), length-bit_text cycle.ready)
 
 -- a digit for each four bits
 pub length-hex : (bits : List Bool) → length (hex_of bits) ≡ (length bits + 3) / 4
@@ -97,13 +107,7 @@ module _ (p : Parameters) (few : p.lanes ≤ 128) where
   payload_words-most (Some t) each = omega (arith, or_dash-most (transfer_words p t), transfer_words-most t (each t refl))
 
   row_line-most : (cycle : Cycle) → ((t : Transfer) → cycle.shown ≡ Some t → Shows p t) → length (row_line p cycle) ≤ row_room p
-  row_line-most cycle each =
-      let valid = bit_text (is_some cycle.shown) in
-      let ready = bit_text cycle.ready in
-      let words = payload_words p cycle.shown in
-      let parts : length (row_line p cycle) ≡ length valid + suc (length ready + length (spaced words)) =
-      ap length (joined_spaced valid (ready ∷ words)) ∙ length-append valid (32 ∷ (ready ++ spaced words)) ∙ ap (λ (n : ℕ). length valid + suc n) (length-append ready (spaced words)) in
-      omega (arith, parts, length-bit_text (is_some cycle.shown), length-bit_text cycle.ready, payload_words-most cycle.shown each)
+  row_line-most cycle each = omega (arith, length-row_line p cycle, payload_words-most cycle.shown each)
 
   -- a longer line is no row of the stream
   pub row_at-long : (number : ℕ) (line : List ℕ) → row_room p < length line → row_at number p line ≡ Err (row_fault number line)

@@ -54,7 +54,7 @@ rows_from-left want got number ((byte ∷ line) ∷ []) some other = refl
 rows_from-left want got number ([] ∷ next ∷ lines) some other = refl
 rows_from-left want got number ((byte ∷ line) ∷ next ∷ lines) some other = refl
 
-some_stream : (cycles count got : ℕ) → got < cycles * count → 0 < count
+pub some_stream : (cycles count got : ℕ) → got < cycles * count → 0 < count
 some_stream cycles zero got lt = let none : cycles * 0 ≡ 0 = omega arith in absurd (omega arith)
 some_stream cycles (suc count) got lt = omega arith
 

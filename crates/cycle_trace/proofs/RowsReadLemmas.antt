@@ -28,9 +28,9 @@ use Rattle.cycle_trace.specs.Trace.{TraceText, are_heads, owed, params_of_heads}
 use Rattle.cycle_trace.proofs.KeepLemmas.{length-owed_heads}
 use Rattle.cycle_trace.proofs.RowSpelling.{row_at-some}
 use Rattle.cycle_trace.proofs.BeginningLemmas.{IsFault-row, row-fails}
-use Rattle.cycle_trace.proofs.PartsLemmas.{slice_get-front, slice_get-next}
+use Rattle.cycle_trace.proofs.PartsLemmas.{slice_get-front, slice_get-next, slice_get-there}
 use Rattle.cycle_trace.proofs.RowLengthLemmas.{row_at-long}
-use Rattle.cycle_trace.proofs.SurveyorLemmas.{has_turn, next_row, slice_get-set_same, slice_get-there}
+use Rattle.cycle_trace.proofs.SurveyorLemmas.{has_turn, next_row, slice_get-set_same}
 
 both_true : (a b : Bool) → (a && b) ≡ true → a ≡ true
 both_true true b e = refl

@@ -1,5 +1,6 @@
 pub mod Faults
 pub mod HeaderText
+pub mod Lengths
 pub mod LineBegun
 pub mod RowForm
 pub mod RowLayout

@@ -1,10 +1,10 @@
-use Rattle.std.proofs.Common.{◌∙◌, inl, inr, sym, ap, subst}
+use Rattle.std.proofs.Common.{◌∙◌, inl, inr, ap, subst}
 use Rattle.cycle_trace.specs.ReaderView.{HoldsLine, StandsAt}
 use Rattle.cycle_trace.specs.declared.text_read.Stage.{Stage}
 use Rattle.cycle_trace.specs.declared.text_read.Stage.TheVariants as stages
 use Rattle.cycle_trace.specs.declared.fault.TraceFault.{TraceFault}
 use Rattle.cycle_trace.proofs.BeginningLemmas.{Fails-end, GoesOn-end, cycles-end, title-end}
-use Rattle.cycle_trace.proofs.ReaderLemmas.{header_line, not_memory}
+use Rattle.cycle_trace.proofs.ReaderLemmas.{not_memory}
 use Rattle.cycle_trace.proofs.line_taking.finish_text.Goals as goal
 
 pub returns-in-Title-clause-finishes : goal.returns-in-Title-clause-finishes

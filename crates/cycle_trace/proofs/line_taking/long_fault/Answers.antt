@@ -1,4 +1,4 @@
-use Rattle.std.proofs.Common.{◌∙◌, ◌≤◌, ℕ, ◌+◌, ◌++◌, ◌∷◌, [], length, Err, IsSome, refl, ap, sym, subst, arith}
+use Rattle.std.proofs.Common.{◌∙◌, ◌≤◌, ℕ, ◌++◌, ◌∷◌, [], length, Err, IsSome, refl, ap, sym, subst, arith}
 use Rattle.cycle_trace.specs.Beginnings.{Fails}
 use Rattle.cycle_trace.specs.Faults.{fault_in}
 use Rattle.cycle_trace.specs.RowText.{row_fault}

@@ -1,6 +1,6 @@
 use Rattle.std.proofs.Common.{List, ℕ, sym, subst}
 use Rattle.cycle_trace.specs.ReaderView.{HoldsLine, Stands, StandsAt}
-use Rattle.cycle_trace.specs.LineBegun.{IsLine, IsLong}
+use Rattle.cycle_trace.specs.LineBegun.{IsLong}
 use Rattle.cycle_trace.specs.declared.text_read.Stage.{Stage}
 use Rattle.cycle_trace.proofs.BeginningLemmas.{GoesOn-line}
 use Rattle.cycle_trace.proofs.line_taking.take_begun.Goals as goal

@@ -1,4 +1,4 @@
-use Rattle.std.proofs.Common.{◌≡◌, ◌∙◌, ◌+◌, ◌<◌, ◌≤◌, ℕ, List, [], ◌∷◌, ◌++◌, length, append-nil, refl, sym, ap, subst, arith}
+use Rattle.std.proofs.Common.{◌≡◌, ◌∙◌, ◌<◌, ◌≤◌, ℕ, List, [], ◌∷◌, ◌++◌, length, append-nil, refl, sym, ap, subst, arith}
 use Rattle.cycle_trace.specs.Beginnings.{Fails}
 use Rattle.cycle_trace.specs.ReaderView.{HoldsLine, StandsAt, StandsFor}
 use Rattle.cycle_trace.specs.Trace.{owed, params_of_heads}

@@ -1,4 +1,4 @@
-use Rattle.std.proofs.Common.{◌∙◌, List, [], ◌∷◌, ◌++◌, ℕ, sym, subst}
+use Rattle.std.proofs.Common.{◌∙◌, List, [], ◌++◌, ℕ, sym, subst}
 use Rattle.cycle_trace.specs.LineBegun.{Begins}
 use Rattle.cycle_trace.specs.ReaderView.{HoldsLine, Stands}
 use Rattle.cycle_trace.specs.declared.text_read.Stage.{Stage}

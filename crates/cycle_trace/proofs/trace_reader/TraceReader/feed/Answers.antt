@@ -1,4 +1,4 @@
-use Rattle.std.proofs.Common.{◌∙◌, [], refl, sym}
+use Rattle.std.proofs.Common.{◌∙◌, [], refl}
 use Rattle.tydi_base.specs.Pieces.{lines_of}
 use Rattle.cycle_trace.specs.ReaderView.{StandsFor}
 use Rattle.cycle_trace.proofs.ReaderLemmas.{FedSoFar-all, FedSoFar-more, FedSoFar-none, past_header, plain-first, spent_before}
