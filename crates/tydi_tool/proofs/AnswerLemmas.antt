@@ -3,7 +3,7 @@ use Rattle.std.proofs.Common.{◌≡◌, ℕ, List, Option, None, Some, sym, ap,
 use Rattle.std.specs.Str.{IsUtf8, is_utf8}
 use Rattle.std.proofs.lemmas.Str.{IsUtf8-from_is_utf8}
 use Rattle.tydi_io.specs.Store.{Files}
-use Rattle.physical_stream.specs.First.{Offends}
+use Rattle.physical_stream.specs.First.{Offence, Offends}
 use Rattle.physical_stream.specs.Cycles.{StreamTrace}
 use Rattle.physical_stream.specs.declared.end.End.{End}
 use Rattle.physical_stream.specs.declared.end.End.TheVariants as ends
@@ -11,7 +11,7 @@ use Rattle.physical_stream.specs.declared.head.Head.{Head}
 use Rattle.physical_stream.proofs.FirstLemmas.{IsFirst-one}
 use Rattle.cycle_trace.specs.Trace.{TraceText, streams_of}
 use Rattle.cycle_trace.specs.TraceText.{trace_of}
-use Rattle.cycle_trace.specs.Survey.{Surveys, survey_of}
+use Rattle.cycle_trace.specs.Survey.{Surveys, counts_of, first_unfinished, survey_of}
 use Rattle.cycle_trace.specs.declared.counts.Counts.{Counts}
 use Rattle.cycle_trace.specs.declared.counts.SurveyFault.{SurveyFault}
 use Rattle.cycle_trace.specs.declared.counts.SurveyFault.TheVariants as faults
@@ -83,8 +83,8 @@ RefusesBy-line X None one other r s = absurd r
 -- ---- a trace
 
 -- a survey finds one thing
-Surveys-one : (streams : List StreamTrace) (a b : Result Counts SurveyFault) → Surveys streams a → Surveys streams b → a ≡ b
-Surveys-one streams a b x y = x.says ∙ ap (survey_of streams) (IsFirst-one (Offends streams) x.first y.first x.is_first y.is_first) ∙ sym y.says
+Surveys-one : (streams : List StreamTrace) (a b : Result Counts SurveyFault) → Surveys (Offends streams) streams a → Surveys (Offends streams) streams b → a ≡ b
+Surveys-one streams a b x y = x.says ∙ ap (λ (first : Option Offence). survey_of first (first_unfinished 0 streams) (counts_of streams)) (IsFirst-one (Offends streams) x.first y.first x.is_first y.is_first) ∙ sym y.says
 
 survey_with : List Head → Result Counts SurveyFault → Survey
 survey_with heads found = record { heads = heads; found = found }

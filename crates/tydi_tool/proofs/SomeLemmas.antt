@@ -10,7 +10,7 @@ use Rattle.physical_stream.specs.declared.end.End.TheVariants as ends
 use Rattle.physical_stream.specs.declared.head.Head.{Head}
 use Rattle.cycle_trace.specs.Trace.{TraceText, streams_of}
 use Rattle.cycle_trace.specs.TraceText.{trace_of}
-use Rattle.cycle_trace.specs.Survey.{survey_of}
+use Rattle.cycle_trace.specs.Survey.{counts_of, first_unfinished, survey_of}
 use Rattle.cycle_trace.specs.declared.counts.Counts.{Counts}
 use Rattle.cycle_trace.specs.declared.counts.SurveyFault.{SurveyFault}
 use Rattle.cycle_trace.specs.declared.counts.SurveyFault.TheVariants as faults
@@ -78,7 +78,7 @@ RefusesBy-trace word reading.Memory some = absurd (some refl)
 
 ReadsReading-some : (word text : List ℕ) (read : Result TraceText TraceFault) → trace_of text ≡ read → HasSome (Result Survey (List ℕ)) (ReadsReading word read)
 ReadsReading-some word text (Ok trace) is = λ none. first_of_all (Offends (streams_of trace)) (λ first is_first.
-    none (Ok (record { heads = trace.heads; found = survey_of (streams_of trace) first })) (record { heads = refl; found = record { first = first; is_first = is_first; says = refl } }))
+    none (Ok (record { heads = trace.heads; found = survey_of first (first_unfinished 0 (streams_of trace)) (counts_of (streams_of trace)) })) (record { heads = refl; found = record { first = first; is_first = is_first; says = refl } }))
 ReadsReading-some word text (Err fault) is = λ none.
     let refused = RefusesBy-trace word fault (λ same. trace_free text (is ∙ ap Err same)) in none (Err refused.0) refused.1
 
