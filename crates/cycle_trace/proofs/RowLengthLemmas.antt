@@ -11,7 +11,8 @@ use Rattle.tydi_base.proofs.BitsLemmas.{length-bits_of}
 use Rattle.tydi_base.proofs.HexBytes.{word_at-length}
 use Rattle.tydi_base.proofs.HexLemmas.{word_at-hex_of}
 use Rattle.physical_stream.specs.Params.{Parameters}
-use Rattle.physical_stream.specs.Signals.{has_content, has_last, has_stai, has_endi, has_strb, has_user, index_width, Shows}
+use Rattle.physical_stream.specs.Signals.{has_content, has_last, has_stai, has_endi, has_strb, has_user, Shows}
+use Rattle.tydi_base.specs.Width.{index_width}
 use Rattle.physical_stream.specs.Cycles.{Cycle}
 use Rattle.physical_stream.specs.declared.transfer.Transfer.{Transfer}
 use Rattle.cycle_trace.specs.RowLayout.{row_room}

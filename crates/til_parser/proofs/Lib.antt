@@ -5,6 +5,6 @@ mod rules
 mod spelled
 mod LevelLemmas
 mod LexemeLemmas
-mod PlainLemmas
+pub mod PlainLemmas
 mod PlacesLemmas
 pub mod LawLemmas

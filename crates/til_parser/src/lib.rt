@@ -6,6 +6,7 @@
 #![tactic(auto)]
 
 mod arguments;
+mod compared;
 mod declarations;
 mod fault;
 mod keyword;
