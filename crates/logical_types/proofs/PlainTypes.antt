@@ -6,15 +6,11 @@ use Rattle.logical_types.specs.declared.fault.TypeFault.{TypeFault}
 use Rattle.logical_types.specs.declared.fault.TypeFault.TheVariants as faults
 use Rattle.logical_types.specs.declared.streams.Around.{Around}
 use Rattle.logical_types.specs.Tree.{Ltype, null, bits, group, union, stream, Parts, no_parts, part, Settings}
-use Rattle.logical_types.specs.Faults.{outermost, inside, TypeNode, nodes, nodes_of_parts, has_fault, all_faults, plain_faults, faults_at, IsValid, IsPlain}
+use Rattle.logical_types.specs.Faults.{outermost, inside, TypeNode, nodes, nodes_of_parts, has_fault, all_faults, plain_faults, faults_at, IsValid, IsPlain, ArePlain}
 
 -- the faults at a node that are not of throughputs, lanes or dimensions
 abbrev plain_at : TypeNode → List TypeFault
 plain_at node = filter (has_fault node) plain_faults
-
--- parts that are plain
-abbrev pub ArePlain : Parts → Type 0
-ArePlain parts = flat_map plain_at (nodes_of_parts outermost parts) ≡ []
 
 -- ---- lists that are empty
 
