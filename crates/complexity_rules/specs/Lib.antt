@@ -1,7 +1,10 @@
 pub mod Checking
 pub mod Levels
 pub mod Lowest
+pub mod Nesting
 pub mod Pauses
 pub mod Table
 pub mod Tails
+pub mod Unmarked
+pub mod Waiting
 pub mod Walk

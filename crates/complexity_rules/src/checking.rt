@@ -1,25 +1,29 @@
 //! What a checker says, cycle by cycle.
 
-ghost use Rattle.std.specs.Prelude.{◌≡◌, ◌↔◌, ◌+◌, ◌-◌, ◌*◌, ◌^◌, ◌<◌, ◌≤◌, ◌∷◌, ◌++◌, [], List, Bool, true, false, Option, Some, None, IfOk, IfSome, IsSome, OnSome, is_some, if◌then◌else◌};
+ghost use Rattle.std.specs.Prelude.{◌≡◌, ◌↔◌, ◌+◌, ◌-◌, ◌*◌, ◌^◌, ◌<◌, ◌≤◌, ◌∷◌, ◌++◌, [], List, Bool, true, false, Option, Some, None, IfOk, IfSome, IsSome, IsTrue, OnSome, is_some, if◌then◌else◌};
 ghost use Rattle.std.specs.Option.{option_copied};
-ghost use Rattle.physical_stream.specs.Cycles.{Cycle, cycle_in, items_done};
+ghost use Rattle.physical_stream.specs.Cycles.{Cycle, cycle_in, items_done, waiting_of};
 ghost use Rattle.physical_stream.specs.Counts.{transfers_of, packets_of};
 ghost use Rattle.physical_stream.specs.Ending.{ending_of, ending_after, unclosed};
 ghost use Rattle.physical_stream.specs.Items.{items_of};
+ghost use Rattle.physical_stream.specs.Rules.{Binds};
 ghost use Rattle.physical_stream.specs.Shape.{is_whole, tail_of};
 ghost use Rattle.physical_stream.specs.Signals.{Fits};
-ghost use Rattle.complexity_rules.specs.Checking.{IsLowestBroken, StandsFor, Steps, params_in, seen_in, waiting_in};
+ghost use Rattle.physical_stream.specs.declared.rule.Rule.TheVariants.{Hold};
+ghost use Rattle.physical_stream.specs.declared.transfer.Transfer.{Transfer};
+ghost use Rattle.complexity_rules.specs.Checking.{IsLowestBroken, IsStep, Sees, StandsFor, Steps, params_in, seen_in};
 ghost use Rattle.complexity_rules.specs.Tails.{IsTailIn};
+ghost use Rattle.complexity_rules.specs.Waiting.{IsLowestShown};
 ghost use Rattle.complexity_rules.specs.Walk.{Finds};
 
-use crate::breaking::{lowest_of_pause, lowest_of_shown};
+use crate::breaking::{hold, lowest_of_pause, lowest_of_shown};
 use crate::checker::Checker;
 use crate::walk::{Walk, walk_over};
 use physical_stream::{End, Params, Row, Rule, Tail, Transfer};
 use std::alloc::Global;
 use tydi_base::Memory;
 
-/// What a cycle is that shows a transfer.
+/// What a cycle is that shows a transfer, where none waits.
 #[derive(Clone, Copy, Debug, PartialEq, Eq)]
 struct Judged {
     /// The lowest rule that it breaks.
@@ -39,6 +43,7 @@ impl Checker {
             params,
             waits: false,
             offered,
+            walk: Walk::after(None),
             tail: None,
             seen: 0,
             transfers: 0,
@@ -72,14 +77,38 @@ impl Checker {
     fn step_shown(&mut self, transfer: &Transfer, ready: bool) -> Option<Rule>
         requires fits { Fits (params_in self.old) transfer.now }
         requires room { seen_in self.old < 2 ^ 32 - 1 }
-        ensures params { params_in self.new ≡ params_in self.old }
-        ensures steps { (cycles : List Cycle) → StandsFor self.old cycles → Steps self.old self.new cycles (record { ready = ready; shown = Some transfer.now }) result }
-        ensures kept { OnSome result (self.new ≡ self.old) }
-        ensures seen { seen_in self.new ≡ (if is_some result then seen_in self.old else seen_in self.old + 1) }
+        ensures { IsStep self.old self.new (record { ready = ready; shown = Some transfer.now }) result }
+    {
+        if self.has_waiting() {
+            self.step_again(transfer, ready)
+        } else {
+            self.step_first(transfer, ready)
+        }
+    }
+
+    /// One cycle more, which shows this transfer while one waits.
+    fn step_again(&mut self, transfer: &Transfer, ready: bool) -> Option<Rule>
+        requires waits { self.old.waits ≡ true }
+        requires room { seen_in self.old < 2 ^ 32 - 1 }
+        ensures { IsStep self.old self.new (record { ready = ready; shown = Some transfer.now }) result }
+    {
+        if !self.has_offered(transfer) {
+            return Some(self.hold());
+        }
+        self.see_again(ready);
+        None
+    }
+
+    /// One cycle more, which shows this transfer while none waits.
+    fn step_first(&mut self, transfer: &Transfer, ready: bool) -> Option<Rule>
+        requires free { self.old.waits ≡ false }
+        requires fits { Fits (params_in self.old) transfer.now }
+        requires room { seen_in self.old < 2 ^ 32 - 1 }
+        ensures { IsStep self.old self.new (record { ready = ready; shown = Some transfer.now }) result }
     {
         let judged = self.judge_shown(transfer);
         if judged.broken.is_none() {
-            self.see_shown(transfer, ready, judged.walk);
+            self.see_first(transfer, ready, judged.walk);
         }
         judged.broken
     }
@@ -87,11 +116,11 @@ impl Checker {
     /// One cycle more, which shows no transfer.
     fn step_pause(&mut self, _ready: bool) -> Option<Rule>
         requires room { seen_in self.old < 2 ^ 32 - 1 }
-        ensures params { params_in self.new ≡ params_in self.old }
-        ensures steps { (cycles : List Cycle) → StandsFor self.old cycles → Steps self.old self.new cycles (record { ready = _ready; shown = None }) result }
-        ensures kept { OnSome result (self.new ≡ self.old) }
-        ensures seen { seen_in self.new ≡ (if is_some result then seen_in self.old else seen_in self.old + 1) }
+        ensures { IsStep self.old self.new (record { ready = _ready; shown = None }) result }
     {
+        if self.has_waiting() {
+            return Some(self.hold());
+        }
         let broken = self.judge_pause();
         if broken.is_none() {
             self.see_pause();
@@ -99,75 +128,100 @@ impl Checker {
         broken
     }
 
-    /// What a cycle is that shows this transfer.
+    /// Whether a transfer waits.
+    #[inline(always)]
+    fn has_waiting(&self) -> bool
+        ensures { result ≡ self.now.waits }
+    {
+        self.waits
+    }
+
+    /// Whether this is the transfer that waits, where one does.
+    #[inline(always)]
+    fn has_offered(&self, transfer: &Transfer) -> bool
+        ensures { IsTrue result ↔ (transfer.now ≡ self.now.offered) }
+    {
+        transfer.equals(&self.offered)
+    }
+
+    /// The rule on waiting transfers.
+    fn hold(&self) -> Rule
+        ensures rule { result ≡ Hold }
+        ensures binds { Binds Hold (params_in self.now).level }
+    {
+        hold(self.params.level)
+    }
+
+    /// What a cycle is that shows this transfer, where none waits.
+    #[inline(always)]
     fn judge_shown(&self, transfer: &Transfer) -> Judged
         requires { Fits (params_in self.now) transfer.now }
-        ensures lowest { (cycles : List Cycle) (ready : Bool) → StandsFor self.now cycles → IsLowestBroken (params_in self.now) cycles (record { ready = ready; shown = Some transfer.now }) result.broken }
+        ensures lowest { IsLowestShown (params_in self.now) self.now.tail transfer.now result.broken }
         ensures found { Finds (params_in self.now).dims self.now.tail (items_of (params_in self.now) transfer.now) result.walk }
         ensures few { result.walk.packets ≤ 4224 }
     {
         let items = walk_over(&self.params, transfer, self.tail);
-        let broken = lowest_of_shown(&self.params, self.waiting(), self.tail, transfer, &items);
+        let broken = lowest_of_shown(&self.params, self.tail, transfer, &items);
         Judged {
             broken,
             walk: items.walk,
         }
     }
 
-    /// The lowest rule that a cycle breaks that shows no transfer.
+    /// The lowest rule that a cycle breaks that shows no transfer, where none waits.
     fn judge_pause(&self) -> Option<Rule>
-        ensures { (cycles : List Cycle) (ready : Bool) → StandsFor self.now cycles → IsLowestBroken (params_in self.now) cycles (record { ready = ready; shown = None }) result }
+        ensures { (cycles : List Cycle) (ready : Bool) → waiting_of cycles ≡ None → self.now.tail ≡ tail_of (items_done (params_in self.now) cycles)
+            → IsLowestBroken (params_in self.now) cycles (record { ready = ready; shown = None }) result }
     {
-        lowest_of_pause(&self.params, self.waiting(), self.tail)
-    }
-
-    /// The transfer that waits to be taken.
-    fn waiting(&self) -> Option<&Transfer>
-        ensures { option_copied result ≡ waiting_in self.now }
-    {
-        if self.waits {
-            Some(&self.offered)
-        } else {
-            None
-        }
+        lowest_of_pause(&self.params, self.tail)
     }
 
     /// Sees a cycle that shows no transfer.
     fn see_pause(&mut self)
+        requires free { self.old.waits ≡ false }
         requires room { seen_in self.old < 2 ^ 32 - 1 }
-        ensures params { params_in self.new ≡ params_in self.old }
-        ensures stands { (cycles : List Cycle) (ready : Bool) → StandsFor self.old cycles → StandsFor self.new (cycles ++ record { ready = ready; shown = None } ∷ []) }
-        ensures seen { seen_in self.new ≡ seen_in self.old + 1 }
+        ensures { (ready : Bool) → Sees self.old self.new (record { ready = ready; shown = None }) }
     {
-        self.waits = false;
         self.seen += 1;
     }
 
-    /// Sees a cycle that shows this transfer.
-    fn see_shown(&mut self, transfer: &Transfer, ready: bool, walk: Walk)
+    /// Sees a cycle that shows this transfer, which breaks no rule, where none waits.
+    fn see_first(&mut self, transfer: &Transfer, ready: bool, walk: Walk)
         requires fits { Fits (params_in self.old) transfer.now }
         requires room { seen_in self.old < 2 ^ 32 - 1 }
         requires found { Finds (params_in self.old).dims self.old.tail (items_of (params_in self.old) transfer.now) walk }
         requires few { walk.packets ≤ 4224 }
-        ensures params { params_in self.new ≡ params_in self.old }
-        ensures stands { (cycles : List Cycle) → StandsFor self.old cycles → StandsFor self.new (cycles ++ record { ready = ready; shown = Some transfer.now } ∷ []) }
-        ensures seen { seen_in self.new ≡ seen_in self.old + 1 }
+        requires kept { IsLowestShown (params_in self.old) self.old.tail transfer.now None }
+        ensures { Sees self.old self.new (record { ready = ready; shown = Some transfer.now }) }
     {
         if ready {
-            self.see_done(transfer, walk);
+            self.see_done(walk);
         } else {
-            self.see_offered(transfer);
+            self.see_offered(transfer, walk);
         }
     }
 
-    /// Sees a cycle in which this transfer is done.
-    fn see_done(&mut self, _transfer: &Transfer, walk: Walk)
+    /// Sees a cycle that shows the transfer that waits.
+    fn see_again(&mut self, ready: bool)
+        requires waits { self.old.waits ≡ true }
         requires room { seen_in self.old < 2 ^ 32 - 1 }
-        requires found { Finds (params_in self.old).dims self.old.tail (items_of (params_in self.old) _transfer.now) walk }
+        ensures { Sees self.old self.new (record { ready = ready; shown = Some self.old.offered }) }
+    {
+        if ready {
+            let walk = self.walk;
+            self.see_done(walk);
+        } else {
+            self.seen += 1;
+        }
+    }
+
+    /// Sees a cycle in which a transfer is done, over whose items this is the walk.
+    fn see_done(&mut self, walk: Walk)
+        requires room { seen_in self.old < 2 ^ 32 - 1 }
+        requires found { (t : Transfer) × Finds (params_in self.old).dims self.old.tail (items_of (params_in self.old) t) walk }
         requires few { walk.packets ≤ 4224 }
-        ensures params { params_in self.new ≡ params_in self.old }
-        ensures stands { (cycles : List Cycle) → StandsFor self.old cycles → StandsFor self.new (cycles ++ record { ready = true; shown = Some _transfer.now } ∷ []) }
-        ensures seen { seen_in self.new ≡ seen_in self.old + 1 }
+        ensures { (t : Transfer) → Finds (params_in self.old).dims self.old.tail (items_of (params_in self.old) t) walk
+            → Sees self.old self.new (record { ready = true; shown = Some t }) }
     {
         self.waits = false;
         self.tail = walk.tail;
@@ -176,15 +230,17 @@ impl Checker {
         self.packets += walk.packets;
     }
 
-    /// Sees a cycle that offers this transfer, which is not taken.
-    fn see_offered(&mut self, transfer: &Transfer)
+    /// Sees a cycle that offers this transfer, which is not taken, over whose items this is the walk.
+    fn see_offered(&mut self, transfer: &Transfer, walk: Walk)
         requires fits { Fits (params_in self.old) transfer.now }
         requires room { seen_in self.old < 2 ^ 32 - 1 }
-        ensures params { params_in self.new ≡ params_in self.old }
-        ensures stands { (cycles : List Cycle) → StandsFor self.old cycles → StandsFor self.new (cycles ++ record { ready = false; shown = Some transfer.now } ∷ []) }
-        ensures seen { seen_in self.new ≡ seen_in self.old + 1 }
+        requires found { Finds (params_in self.old).dims self.old.tail (items_of (params_in self.old) transfer.now) walk }
+        requires few { walk.packets ≤ 4224 }
+        requires kept { IsLowestShown (params_in self.old) self.old.tail transfer.now None }
+        ensures { Sees self.old self.new (record { ready = false; shown = Some transfer.now }) }
     {
         self.offered.copy_from(transfer);
+        self.walk = walk;
         self.waits = true;
         self.seen += 1;
     }

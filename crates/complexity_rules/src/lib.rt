@@ -7,6 +7,7 @@ mod breaking;
 mod checker;
 mod checking;
 mod levels;
+mod nesting;
 mod pauses;
 #[cfg(test)]
 mod reference_rules;
@@ -15,13 +16,17 @@ mod sweep_tests;
 mod table;
 #[cfg(test)]
 mod table_tests;
+mod tails;
 #[cfg(test)]
 mod test_cycles;
 #[cfg(test)]
 mod tests;
+mod unmarked;
 mod walk;
 
 pub use checker::Checker;
 pub use levels::levels_are_kept;
+pub use nesting::items_are_nested;
 pub use pauses::may_pause;
 pub use table::{BINDS, RuleTable, binds, table_is_monotone};
+pub use tails::tail_after;

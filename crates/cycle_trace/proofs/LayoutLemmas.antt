@@ -28,14 +28,6 @@ top_bit count some most =
     let twice : 2 ^ count ≡ 2 * 2 ^ (count - 1) = ap (λ (n : ℕ). 2 ^ n) (sym whole) ∙ next in
     rw same (record { small = omega arith; some = omega (arith, pow_pos (count - 1)); twice = omega (arith, twice) })
 
--- a shift by the bits that number the lanes
-pub limit_is : (width : ℕ) → width ≤ 16 → (1 * 2 ^ width % 2 ^ 32 ≡ 2 ^ width) × (2 ^ width ≤ 2 ^ 16)
-limit_is width small =
-    let most : 2 ^ width ≤ 2 ^ 16 = pow_mono {j = 16} small in
-    let below : 1 * 2 ^ width < 2 ^ 32 = omega arith in
-    let same : 1 * 2 ^ width % 2 ^ 32 ≡ 1 * 2 ^ width = mod-eq_of_lt below in
-    (omega (arith, same), most)
-
 some_where : (present : Bool) (width : ℕ) → is_some (where_present present width) ≡ present
 some_where true width = refl
 some_where false width = refl

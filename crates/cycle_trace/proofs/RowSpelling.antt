@@ -15,10 +15,11 @@ use Rattle.tydi_base.specs.Reading.{◌>>=◌}
 use Rattle.tydi_base.proofs.PieceLaws.{join-pieces_of}
 use Rattle.tydi_base.proofs.ReadingLaws.{bind_ok, chosen, ok_is}
 use Rattle.physical_stream.specs.Params.{Parameters}
-use Rattle.physical_stream.specs.Signals.{has_content, has_last, has_stai, has_endi, has_strb, has_user, index_width, Shows}
+use Rattle.physical_stream.specs.Signals.{has_content, has_last, has_stai, has_endi, has_strb, has_user, Shows}
 use Rattle.physical_stream.specs.Cycles.{Cycle}
 use Rattle.physical_stream.specs.declared.transfer.Transfer.{Transfer}
-use Rattle.physical_stream.proofs.WidthLemmas.{index_width-enough}
+use Rattle.tydi_base.specs.Width.{index_width}
+use Rattle.tydi_base.proofs.WidthLaws.{index_width-enough}
 use Rattle.std.specs.Fmt.{decimal}
 use Rattle.cycle_trace.specs.RowText.{word_field, index_field, strobe_field, no_more, transfer_of, has_payload, is_dash, payload_of, shown_of, bit_of, cycle_of_words, row_of, row_at}
 use Rattle.cycle_trace.specs.Spelling.{signal_words, transfer_words, or_dash, payload_words, bit_text, row_line}

@@ -8,9 +8,10 @@ use Rattle.tydi_base.specs.Decimal.{decimal_of}
 use Rattle.tydi_base.specs.Reading.{◌>>=◌, or_fault}
 use Rattle.tydi_base.proofs.BitsLemmas.{number_of_bits-below}
 use Rattle.tydi_base.proofs.ReadingLaws.{bind_ok, chosen, ok_is}
-use Rattle.physical_stream.proofs.WidthLemmas.{index_width-enough}
+use Rattle.tydi_base.specs.Width.{index_width}
+use Rattle.tydi_base.proofs.WidthLaws.{index_width-enough}
 use Rattle.physical_stream.specs.Params.{Parameters}
-use Rattle.physical_stream.specs.Signals.{has_content, has_last, has_stai, has_endi, has_strb, has_user, index_width, Shows}
+use Rattle.physical_stream.specs.Signals.{has_content, has_last, has_stai, has_endi, has_strb, has_user, Shows}
 use Rattle.physical_stream.specs.Cycles.{Cycle}
 use Rattle.physical_stream.specs.declared.head.Head.{Head}
 use Rattle.physical_stream.specs.declared.transfer.Transfer.{Transfer}

@@ -1,7 +1,8 @@
 -- What reading a row knows of its stream (this project's own).
 use Rattle.std.specs.Prelude.{◌≡◌, ℕ, ◌-◌, ◌*◌, ◌^◌, ◌≤◌, Bool, ◌||◌, is_some}
+use Rattle.tydi_base.specs.Width.{index_width}
 use Rattle.physical_stream.specs.Params.{Parameters}
-use Rattle.physical_stream.specs.Signals.{has_content, has_last, has_stai, has_endi, has_strb, has_user, index_width}
+use Rattle.physical_stream.specs.Signals.{has_content, has_last, has_stai, has_endi, has_strb, has_user}
 use Rattle.signal_layout.specs.declared.layout.Signals.{Signals}
 use Rattle.cycle_trace.specs.RowText.{has_payload}
 use Rattle.cycle_trace.specs.declared.row_layout.WordSignal.{WordSignal}

@@ -178,8 +178,16 @@ fn transfers_fit_and_are_copied(rt: HostRuntime) -> Result<(), Fail> {
 
 #[test]
 fn transfers_carry_items_lane_by_lane(rt: HostRuntime) -> Result<(), Fail> {
-    for (lanes, width) in [(1, 0), (2, 1), (3, 2), (4, 2), (5, 3), (127, 7), (128, 7)] {
-        assert_eq!(rt; index_width(lanes), width);
+    for (lanes, limit) in [
+        (1, 1),
+        (2, 2),
+        (3, 4),
+        (4, 4),
+        (5, 8),
+        (127, 128),
+        (128, 128),
+    ] {
+        assert_eq!(rt; index_limit(lanes), limit);
     }
     let level = Level::new(8).expect(&rt, "a level");
     let p = Params::new(2, 2, level, 4, 0).expect(&rt, "a stream");
