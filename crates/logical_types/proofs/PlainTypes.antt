@@ -14,11 +14,11 @@ plain_at node = filter (has_fault node) plain_faults
 
 -- ---- lists that are empty
 
-apart : {A : Type 0} (front back : List A) → front ++ back ≡ [] → (front ≡ []) × (back ≡ [])
+pub apart : {A : Type 0} (front back : List A) → front ++ back ≡ [] → (front ≡ []) × (back ≡ [])
 apart [] back empty = (refl, empty)
 apart (one ∷ more) back empty = cc
 
-none_of : (test : Bool) (one : TypeFault) (rest : List TypeFault) → cond test (one ∷ rest) rest ≡ [] → (test ≡ false) × (rest ≡ [])
+pub none_of : (test : Bool) (one : TypeFault) (rest : List TypeFault) → cond test (one ∷ rest) rest ≡ [] → (test ≡ false) × (rest ≡ [])
 none_of true one rest empty = cc
 none_of false one rest empty = (refl, empty)
 

@@ -17,4 +17,4 @@ pub use checking::check;
 pub use fault::TypeFault;
 pub use ltype::{LType, Part, StreamType, Sync};
 pub use streams::{Around, around_outermost, inside};
-pub use widths::{union_width, width};
+pub use widths::{saturated_width, union_width, width};

@@ -17,8 +17,9 @@ pub fn width(ltype: &LType) -> u32
     saturated_width(ltype)
 }
 
+/// The width in bits of an element of a type, or the greatest number of 32 bits where it is over that.
 #[cycle(width)]
-fn saturated_width(ltype: &LType) -> u32
+pub fn saturated_width(ltype: &LType) -> u32
     ensures { result ≡ spec.saturated (spec.width_of (plain ltype.now)) }
 {
     match ltype {

@@ -1,0 +1,4 @@
+mod RateLemmas
+mod ValidLemmas
+mod CountLemmas
+mod SplitLemmas
