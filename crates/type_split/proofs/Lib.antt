@@ -2,3 +2,4 @@ mod RateLemmas
 mod ValidLemmas
 mod CountLemmas
 mod SplitLemmas
+mod KeyLemmas

@@ -1,11 +1,10 @@
 -- Nodes that are added one after another.
-use Rattle.std.proofs.Common.{◌≡◌, ℕ, suc, ◌+◌, ◌<◌, ◌≤◌, Bool, true, false, cond, List, [], ◌∷◌, ◌++◌, map, length, get_or, drop, refl, sym, ap, ◌∙◌, subst, arith, append_assoc}
+use Rattle.std.proofs.Common.{◌≡◌, ℕ, suc, ◌+◌, ◌<◌, ◌≤◌, cond, List, [], ◌∷◌, ◌++◌, map, length, get_or, drop, refl, sym, ap, ◌∙◌, arith, append_assoc}
 use Rattle.std.proofs.lemmas.List.{length-append, length-map, append-nil}
-use Rattle.logical_types.specs.declared.fault.TypeFault.{TypeFault}
 use Rattle.logical_types.specs.declared.ltype.Part.{Part}
 use Rattle.logical_types.specs.declared.ltype.StreamType.{StreamType}
-use Rattle.logical_types.specs.Tree.{Ltype, group, union, stream, Parts, plain, plain_parts, plain_of_stream, settings_of}
-use Rattle.logical_types.specs.Faults.{inside, faults_at, faults_within, faults_of_parts}
+use Rattle.logical_types.specs.Tree.{group, union, Parts, plain, plain_parts, plain_of_stream, settings_of}
+use Rattle.logical_types.specs.Faults.{faults_at, faults_within, faults_of_parts}
 use Rattle.logical_types.proofs.PlainLemmas.{plain_parts-at, plain_parts-past}
 use Rattle.logical_types.proofs.FaultLemmas.{faults_of_parts-at}
 use Rattle.logical_types.proofs.PlainTypes.{apart}

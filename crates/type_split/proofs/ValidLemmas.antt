@@ -1,13 +1,12 @@
 -- What a type without faults is.
-use Rattle.std.proofs.Common.{◌≡◌, ℕ, suc, zero, ◌+◌, ◌*◌, ◌<◌, ◌≤◌, Bool, true, false, cond, not, ◌||◌, List, [], ◌∷◌, ◌++◌, filter, ltb, eqb, refl, sym, ap, ◌∙◌, subst, arith}
+use Rattle.std.proofs.Common.{◌≡◌, ℕ, suc, zero, ◌*◌, ◌≤◌, Bool, true, false, cond, not, ◌||◌, List, [], ◌∷◌, ◌++◌, ltb, eqb, refl, sym, ap, ◌∙◌, arith}
 use Rattle.std.specs.List.{flat_map}
-use Rattle.std.proofs.lemmas.Bool.Decides.{Decides-ltb, nat_tests}
-use Rattle.logical_types.specs.declared.fault.TypeFault.{TypeFault}
+use Rattle.std.proofs.lemmas.Bool.Decides.{nat_tests}
 use Rattle.logical_types.specs.declared.fault.TypeFault.TheVariants as faults
 use Rattle.logical_types.specs.declared.streams.Around.{Around}
 use Rattle.logical_types.specs.Tree.{Ltype, null, bits, group, union, stream, Settings, has_stream}
 use Rattle.logical_types.specs.Width.{width_of}
-use Rattle.logical_types.specs.Faults.{inside, TypeNode, nodes, has_fault, all_faults, faults_at, rate_faults, faults_within, has_bad_throughput, has_too_many_lanes, has_too_many_dims, is_too_wide}
+use Rattle.logical_types.specs.Faults.{inside, TypeNode, nodes, has_fault, faults_at, rate_faults, faults_within, has_bad_throughput, has_too_many_lanes, has_too_many_dims, is_too_wide}
 use Rattle.logical_types.specs.Throughput.{product_of, fits_words}
 use Rattle.logical_types.proofs.FaultLemmas.{faults_within-stream}
 use Rattle.logical_types.proofs.PlainTypes.{apart, none_of}
@@ -53,7 +52,7 @@ pub record ValidStream (around : Around) (element user : Ltype) (settings : Sett
 pub valid-stream : (around : Around) (element user : Ltype) (settings : Settings) → faults_within around (stream element user settings) ≡ [] → ValidStream around element user settings
 valid-stream around element user settings valid =
     let parts = apart (rate_faults around settings ++ cond (has_stream user) (faults.UserHasStream ∷ []) [])
-        (faults_within (inside around settings) element ++ faults_within (inside around settings) user) (sym (faults_within-stream around element user settings) ∙ valid) in
+    (faults_within (inside around settings) element ++ faults_within (inside around settings) user) (sym (faults_within-stream around element user settings) ∙ valid) in
     let rates = (apart (rate_faults around settings) (cond (has_stream user) (faults.UserHasStream ∷ []) []) parts.0).0 in
     let types = apart (faults_within (inside around settings) element) (faults_within (inside around settings) user) parts.1 in
     let throughput = none_of (has_bad_throughput around settings) faults.BadThroughput _ rates in

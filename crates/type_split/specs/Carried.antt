@@ -1,6 +1,6 @@
 -- Which nodes are carried (this project's own): what a node that has no physical stream carries is told by a Stream inside it whose
 -- sequences are those of the node.
-use Rattle.std.specs.Prelude.{ℕ, suc, ◌+◌, Bool, true, false, ◌||◌, ◌&&◌, if◌then◌else◌, List, [], ◌∷◌, ◌++◌, Option, Some, None}
+use Rattle.std.specs.Prelude.{ℕ, Bool, true, false, ◌||◌, ◌&&◌, if◌then◌else◌, List, [], ◌∷◌, ◌++◌, Option, Some, None}
 use Rattle.logical_types.specs.Tree.{Ltype, null, bits, group, union, stream, Parts, no_parts, part}
 use Rattle.logical_types.specs.declared.ltype.Sync.{Sync}
 use Rattle.logical_types.specs.declared.ltype.Sync.TheVariants as syncs

@@ -1,4 +1,4 @@
-use Rattle.std.proofs.Common.{rules, ◌≡◌, ℕ, ◌≤◌, ◌∙◌, refl, subst}
+use Rattle.std.proofs.Common.{rules, ℕ, ◌∙◌, refl, subst}
 use Rattle.tydi_base.specs.Frac.{IsCeiling}
 use Rattle.logical_types.specs.Tree.{plain, settings_of}
 use Rattle.type_split.proofs.RateLemmas.{params_at-is}

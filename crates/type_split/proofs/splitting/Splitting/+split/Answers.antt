@@ -1,23 +1,23 @@
-use Rattle.std.proofs.Common.{◌≡◌, ℕ, ◌+◌, ◌≤◌, List, ap, sym, ◌∙◌, subst, arith}
+use Rattle.std.proofs.Common.{◌≡◌, ℕ, List, ap, sym, ◌∙◌, subst, arith}
 use Rattle.logical_types.specs.declared.ltype.Part.{Part}
-use Rattle.logical_types.specs.Tree.{Ltype, Parts, group, union, plain, plain_parts}
+use Rattle.logical_types.specs.Tree.{Ltype, group, union, plain, plain_parts}
 use Rattle.logical_types.proofs.PlainLemmas.{plain-Group, plain-Union}
 use Rattle.type_split.specs.Found.{IsFound}
 use Rattle.type_split.specs.Splitting.{Splits}
-use Rattle.type_split.proofs.SplitLemmas.{CanSplit-group, CanSplit-union, AreLeft-all, AreLeft-step, AreLeft-none, stream-added}
+use Rattle.type_split.proofs.SplitLemmas.{CanSplit-group, CanSplit-union, AreLeft-step, AreLeft-none, stream-added}
 use Rattle.type_split.proofs.splitting.Splitting.+split.Goals as goal
 
 pub add_type-returns-in-Group : goal.add_type-returns-in-Group
 add_type-returns-in-Group t c =
     let is : plain c.args.ltype.now ≡ group (plain_parts c.as_slice.result.now) =
-        ap plain c.in-Group.is ∙ plain-Group c.in-Group.parts ∙ ap (λ (l : List Part). group (plain_parts l)) (sym c.as_slice.ensures) in
+    ap plain c.in-Group.is ∙ plain-Group c.in-Group.parts ∙ ap (λ (l : List Part). group (plain_parts l)) (sym c.as_slice.ensures) in
     subst (λ (t : Ltype). Splits c.args.self.now c.add_parts.new.self c.add_parts.result c.args.place.now t) (sym is)
     (λ can. c.add_parts.ensures (CanSplit-group c.args.self.now c.args.place.now (plain_parts c.as_slice.result.now) _ can))
 
 pub add_type-returns-in-Union : goal.add_type-returns-in-Union
 add_type-returns-in-Union t c =
     let is : plain c.args.ltype.now ≡ union (plain_parts c.as_slice-in-Union.result.now) =
-        ap plain c.in-Union.is ∙ plain-Union c.in-Union.parts ∙ ap (λ (l : List Part). union (plain_parts l)) (sym c.as_slice-in-Union.ensures) in
+    ap plain c.in-Union.is ∙ plain-Union c.in-Union.parts ∙ ap (λ (l : List Part). union (plain_parts l)) (sym c.as_slice-in-Union.ensures) in
     subst (λ (t : Ltype). Splits c.args.self.now c.add_parts-in-Union.new.self c.add_parts-in-Union.result c.args.place.now t) (sym is)
     (λ can. c.add_parts-in-Union.ensures (CanSplit-union c.args.self.now c.args.place.now (plain_parts c.as_slice-in-Union.result.now) _ can))
 
