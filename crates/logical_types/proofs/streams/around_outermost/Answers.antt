@@ -2,7 +2,7 @@ use Rattle.std.proofs.Common.{ap}
 use Rattle.tydi_base.specs.Frac.{Fraction}
 use Rattle.logical_types.specs.declared.streams.Around.{Around}
 use Rattle.logical_types.proofs.ThroughputLemmas.{one-is}
-use Rattle.logical_types.proofs.checking.around_outermost.Goals as goal
+use Rattle.logical_types.proofs.streams.around_outermost.Goals as goal
 
 pub returns : goal.returns
 returns c =
