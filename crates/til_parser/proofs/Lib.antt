@@ -2,8 +2,9 @@ mod numbers
 mod texts
 mod printed
 mod rules
+mod spelled
 mod LevelLemmas
 mod LexemeLemmas
-mod PlainLemmas
-mod WordLemmas
+pub mod PlainLemmas
+mod PlacesLemmas
 pub mod LawLemmas

@@ -65,7 +65,7 @@ example = record {
 }
 
 -- the second `s` of `a`, the port `P`, the second instance `q`, the instance with the name of a port, and the second `impl`
-names_twice : map (λ (place : Place). place.offset) (twice (declarations example)) ≡ 30 ∷ 12 ∷ 56 ∷ 52 ∷ 60 ∷ []
+names_twice : map (λ (place : Place). place.offset) (twice (declarations example)) ≡ 12 ∷ 30 ∷ 56 ∷ 52 ∷ 60 ∷ []
 names_twice = refl
 
 -- the streamlet `t`, which `b` lacks, and the port `q`

@@ -1,3 +1,13 @@
 mod PathLemmas
+mod PositionLemmas
 mod LookupLemmas
+mod EarliestLemmas
+mod AgainLemmas
+mod GraphLemmas
+mod ScopeLemmas
+mod PlacingLemmas
+mod PortLemmas
+mod TwiceLemmas
+mod NameLemmas
+mod FirstLemmas
 mod Examples

@@ -17,13 +17,13 @@ find-same test other [] same = refl
 find-same {X = X} test other (x ∷ xs) same = ap (λ b. cond b (Some x) (find test xs)) (same x) ∙ ap (λ (o : Option X). cond (other x) (Some x) o) (find-same test other xs same)
 
 -- a list with an element at its end
-ends : {X : Type 0} (xs : List X) (last : X) → 1 ≤ length xs → last ≡ get_or xs (length xs - 1) last → xs ≡ take (length xs - 1) xs ++ last ∷ []
+pub ends : {X : Type 0} (xs : List X) (last : X) → 1 ≤ length xs → last ≡ get_or xs (length xs - 1) last → xs ≡ take (length xs - 1) xs ++ last ∷ []
 ends {X} xs last some is =
     let whole : length xs - 1 + 1 ≡ length xs = omega arith in
     sym (take_all (length xs) xs (omega arith)) ∙ ap (λ (n : ℕ). take n xs) (sym whole) ∙ take_more xs (length xs - 1) last (omega arith)
     ∙ ap (λ (x : X). take (length xs - 1) xs ++ x ∷ []) (sym is)
 
-empty_from : {X : Type 0} (xs : List X) → length xs < 1 → xs ≡ []
+pub empty_from : {X : Type 0} (xs : List X) → length xs < 1 → xs ≡ []
 empty_from [] none = refl
 empty_from (x ∷ xs) none = absurd (omega arith)
 

@@ -1,5 +1,5 @@
 -- The declarations of a project, and what a path names (the Tydi Intermediate Language; its names are this project's own).
-use Rattle.std.specs.Prelude.{ℕ, Bool, true, false, ◌==◌, List, [], ◌∷◌, ◌++◌, map, find, length, Option, Some, None, if◌then◌else◌}
+use Rattle.std.specs.Prelude.{ℕ, zero, suc, Bool, true, false, ◌==◌, List, [], ◌∷◌, ◌++◌, map, position, slice_index_or, length, Option, Some, None, if◌then◌else◌}
 use Rattle.std.specs.List.{flat_map}
 use Rattle.tydi_base.specs.declared.place.Place.{Place}
 use Rattle.til_parser.specs.declared.tree.Ast.{Ast}
@@ -22,12 +22,16 @@ pub record Declaration : Type 0 where
 abbrev pub names_of : AstPath → List (List ℕ)
 names_of path = map (λ one. one.name) path.names
 
+-- a place in no text
+abbrev pub nowhere : Place
+nowhere = record { offset = 0; line = 0; column = 0 }
+
 -- where a path stands: at its first name
 abbrev pub place_of : AstPath → Place
 place_of path = first_place path.names
   where
     first_place : List AstName → Place
-    first_place [] = record { offset = 0; line = 0; column = 0 }
+    first_place [] = nowhere
     first_place (first ∷ more) = first.place
 
 -- the declarations of a namespace
@@ -38,6 +42,15 @@ declared_in namespace = map (λ decl. record { space = names_of namespace.path; 
 abbrev pub declarations : Ast → List Declaration
 declarations ast = flat_map declared_in ast.namespaces
 
+-- the declaration of a number, counted from 0 in text order; an empty one where there is none
+abbrev pub declaration : List Declaration → ℕ → Declaration
+declaration all number = slice_index_or all number (record { space = []; name = record { name = []; place = nowhere }; kind = decls.Interface [] })
+
+-- what stands at the declarations before a number, in text order
+abbrev pub before : {A : Type 0} → (ℕ → List A) → ℕ → List A
+before of zero = []
+before of (suc number) = before of number ++ of number
+
 -- the whole path of a declaration
 abbrev pub path_of : Declaration → List (List ℕ)
 path_of one = one.space ++ one.name.name ∷ []
@@ -46,49 +59,53 @@ path_of one = one.space ++ one.name.name ∷ []
 abbrev pub meant : List (List ℕ) → AstPath → List (List ℕ)
 meant space path = if length path.names == 1 then space ++ names_of path else names_of path
 
--- the declaration that a path names in a namespace: the first one of that whole path
-abbrev pub named : List Declaration → List (List ℕ) → AstPath → Option Declaration
-named all space path = find (λ one. is_same_path (path_of one) (meant space path)) all
+-- the number of the first declaration of a whole path
+abbrev pub first_of_path : List Declaration → List (List ℕ) → Option ℕ
+first_of_path all path = position (λ one. is_same_path (path_of one) path) all
+
+-- the number of the declaration that a path names in a namespace: the first one of that whole path
+abbrev pub named : List Declaration → List (List ℕ) → AstPath → Option ℕ
+named all space path = first_of_path all (meant space path)
 
 -- ---- kinds
 
+abbrev pub is_type_kind : AstKind → Bool
+is_type_kind (decls.Alias ltype) = true
+is_type_kind (decls.Interface all) = false
+is_type_kind (decls.Streamlet all) = false
+is_type_kind (decls.Impl target body) = false
+is_type_kind (decls.Test target port value plan) = false
+
+abbrev pub is_interface_kind : AstKind → Bool
+is_interface_kind (decls.Alias ltype) = false
+is_interface_kind (decls.Interface all) = true
+is_interface_kind (decls.Streamlet all) = false
+is_interface_kind (decls.Impl target body) = false
+is_interface_kind (decls.Test target port value plan) = false
+
+abbrev pub is_streamlet_kind : AstKind → Bool
+is_streamlet_kind (decls.Alias ltype) = false
+is_streamlet_kind (decls.Interface all) = false
+is_streamlet_kind (decls.Streamlet all) = true
+is_streamlet_kind (decls.Impl target body) = false
+is_streamlet_kind (decls.Test target port value plan) = false
+
 abbrev pub is_type : Declaration → Bool
-is_type one = of_kind one.kind
-  where
-    of_kind : AstKind → Bool
-    of_kind (decls.Alias ltype) = true
-    of_kind (decls.Interface all) = false
-    of_kind (decls.Streamlet all) = false
-    of_kind (decls.Impl target body) = false
-    of_kind (decls.Test target port value plan) = false
+is_type one = is_type_kind one.kind
 
 abbrev pub is_interface : Declaration → Bool
-is_interface one = of_kind one.kind
-  where
-    of_kind : AstKind → Bool
-    of_kind (decls.Alias ltype) = false
-    of_kind (decls.Interface all) = true
-    of_kind (decls.Streamlet all) = false
-    of_kind (decls.Impl target body) = false
-    of_kind (decls.Test target port value plan) = false
+is_interface one = is_interface_kind one.kind
 
 abbrev pub is_streamlet : Declaration → Bool
-is_streamlet one = of_kind one.kind
-  where
-    of_kind : AstKind → Bool
-    of_kind (decls.Alias ltype) = false
-    of_kind (decls.Interface all) = false
-    of_kind (decls.Streamlet all) = true
-    of_kind (decls.Impl target body) = false
-    of_kind (decls.Test target port value plan) = false
+is_streamlet one = is_streamlet_kind one.kind
 
--- the declaration that a path names, if it is of this kind
-abbrev pub named_as : (Declaration → Bool) → List Declaration → List (List ℕ) → AstPath → Option Declaration
+-- the number of the declaration that a path names, if it is of this kind
+abbrev pub named_as : (Declaration → Bool) → List Declaration → List (List ℕ) → AstPath → Option ℕ
 named_as is all space path = kept (named all space path)
   where
-    kept : Option Declaration → Option Declaration
+    kept : Option ℕ → Option ℕ
     kept None = None
-    kept (Some one) = if is one then Some one else None
+    kept (Some number) = if is (declaration all number) then Some number else None
 
 -- ---- ports
 
@@ -110,18 +127,24 @@ pub record PortOf : Type 0 where
 abbrev pub ports_in : Declaration → List PortOf
 ports_in one = map (λ port. record { space = one.space; port = port }) (own_ports one.kind)
 
+-- the ports that the declaration of a number writes out, if there is a number
+abbrev pub ports_of_number : List Declaration → Option ℕ → List PortOf
+ports_of_number all None = []
+ports_of_number all (Some number) = ports_in (declaration all number)
+
 -- the ports of a streamlet: its own, or those of the interface that it names; none where it names no interface
 abbrev pub ports_of : List Declaration → Declaration → List PortOf
 ports_of all one = of_kind one.kind
   where
-    in_interface : Option Declaration → List PortOf
-    in_interface None = []
-    in_interface (Some interface) = ports_in interface
-
     of_kind : AstKind → List PortOf
     of_kind (decls.Alias ltype) = []
     of_kind (decls.Interface listed) = []
     of_kind (decls.Streamlet (ports.Own listed)) = ports_in one
-    of_kind (decls.Streamlet (ports.Named path)) = in_interface (named_as is_interface all one.space path)
+    of_kind (decls.Streamlet (ports.Named path)) = ports_of_number all (named_as is_interface all one.space path)
     of_kind (decls.Impl target body) = []
     of_kind (decls.Test target port value plan) = []
+
+-- the ports of the streamlet of a number, if there is a number
+abbrev pub ports_of_streamlet : List Declaration → Option ℕ → List PortOf
+ports_of_streamlet all None = []
+ports_of_streamlet all (Some number) = ports_of all (declaration all number)

@@ -1,5 +1,5 @@
 -- What is wrong with a tree, each fault at its place, and which is told. This project's own.
-use Rattle.std.specs.Prelude.{◌≡◌, ◌≤◌, ◌<◌, ◌⊎◌, ℕ, Bool, true, false, not, List, [], ◌∷◌, slice_get, Some, Contains, IsTrue}
+use Rattle.std.specs.Prelude.{◌≡◌, ◌≤◌, ◌<◌, ◌⊎◌, ℕ, Bool, true, false, not, List, [], ◌∷◌, length, slice_get, Option, Some, MatchOption, Contains, IsTrue}
 use Rattle.std.specs.List.{flat_map}
 use Rattle.tydi_base.specs.declared.place.Place.{Place}
 use Rattle.til_parser.specs.declared.tree.Ast.{Ast}
@@ -10,7 +10,7 @@ use Rattle.logical_types.specs.Tree.{Ltype, null, bits, group, union, stream}
 use Rattle.logical_types.specs.Faults.{faults_of}
 use Rattle.til_resolve.specs.declared.fault.ResolveFault.{ResolveFault}
 use Rattle.til_resolve.specs.declared.fault.ResolveFault.TheVariants as faults
-use Rattle.til_resolve.specs.Declarations.{Declaration, PortOf, declarations, place_of, ports_in}
+use Rattle.til_resolve.specs.Declarations.{Declaration, PortOf, declaration, declarations, place_of, ports_in}
 use Rattle.til_resolve.specs.Types.{type_of, number_of_nodes, depth_of}
 use Rattle.til_resolve.specs.Names.{twice, unknown, wrong_kinds}
 use Rattle.til_resolve.specs.Cycles.{IsCyclicType, IsCyclicImpl}
@@ -58,6 +58,10 @@ is_stream (group parts) = false
 is_stream (union parts) = false
 is_stream (stream element user settings) = true
 
+-- a type declaration that leads to itself, at its name
+abbrev pub IsCyclicAtName : List Declaration → Place → Type 0
+IsCyclicAtName all place = (one : ℕ) × (one < length all) × ((declaration all one).name.place ≡ place) × IsCyclicType all one
+
 -- an `impl` whose streamlet contains itself, at the path after `of`
 abbrev pub IsCyclicAt : List Declaration → Declaration → Place → Type 0
 IsCyclicAt all one place = of_kind one.kind
@@ -76,7 +80,7 @@ abbrev pub HasFault : List Declaration → ResolveFault → Type 0
 HasFault all (faults.DeclaredTwice place) = Contains (twice all) place
 HasFault all (faults.UnknownName place) = Contains (unknown all) place
 HasFault all (faults.WrongKind place) = Contains (wrong_kinds all) place
-HasFault all (faults.CyclicType place) = (one : Declaration) × Contains all one × (one.name.place ≡ place) × IsCyclicType all one
+HasFault all (faults.CyclicType place) = IsCyclicAtName all place
 HasFault all (faults.TypeTooLarge place) = (one : WrittenType) × Contains (written_types all) one × (one.place ≡ place) × IsTooLarge one.ltype
 HasFault all (faults.BadType place fault) = (one : WrittenType) × Contains (written_types all) one × (one.place ≡ place) × (slice_get (faults_of one.ltype) 0 ≡ Some fault)
 HasFault all (faults.PortNotStream place) = (one : WrittenType) × Contains (written_types all) one × (one.place ≡ place) × IsTrue one.in_port × IsTrue (not (is_stream one.ltype))
@@ -119,3 +123,8 @@ pub record IsToldOf (ast : Ast) (fault : ResolveFault) : Type 0 where
 -- a tree has no fault
 abbrev pub IsSound : Ast → Type 0
 IsSound ast = (fault : ResolveFault) → ¬ HasFault (declarations ast) fault
+
+-- the first fault of a tree, of those up to this place in the order
+pub record IsToldUpTo (all : List Declaration) (order : ℕ) (found : Option ResolveFault) : Type 0 where
+  pub told : MatchOption found ((fault : ResolveFault) → order_of fault ≤ order → ¬ HasFault all fault)
+      (λ fault. HasFault all fault × ((other : ResolveFault) → HasFault all other → IsToldBefore fault other))

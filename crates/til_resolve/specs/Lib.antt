@@ -5,4 +5,12 @@ pub mod Types
 pub mod Names
 pub mod Cycles
 pub mod Faults
+pub mod Earliest
+pub mod Scope
+pub mod Placing
+pub mod Kinds
+pub mod Ports
+pub mod Twice
+pub mod Sought
+pub mod Graph
 pub mod Project

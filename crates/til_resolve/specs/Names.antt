@@ -1,5 +1,5 @@
 -- Names that are declared twice, and paths that name nothing, or another kind than their place asks.
-use Rattle.std.specs.Prelude.{ℕ, Bool, not, ◌&&◌, List, [], ◌∷◌, ◌++◌, map, filter, Option, Some, None, is_some, if◌then◌else◌}
+use Rattle.std.specs.Prelude.{ℕ, Bool, false, not, ◌&&◌, ◌==◌, List, [], ◌∷◌, ◌++◌, map, filter, take, length, Option, Some, None, is_some, if◌then◌else◌}
 use Rattle.std.specs.List.{flat_map, list_any, filter_map}
 use Rattle.std.specs.Str.{bytes_eq, str_eq_ignore_ascii_case}
 use Rattle.tydi_base.specs.declared.place.Place.{Place}
@@ -16,7 +16,7 @@ use Rattle.til_parser.specs.declared.tree.AstStmt.TheVariants as stmts
 use Rattle.til_parser.specs.Tree as tree
 use Rattle.til_parser.specs.Tree.{plain}
 use Rattle.til_resolve.specs.Paths.{is_same_path}
-use Rattle.til_resolve.specs.Declarations.{Declaration, PortOf, place_of, path_of, named, named_as, own_ports, ports_of, is_type, is_interface, is_streamlet}
+use Rattle.til_resolve.specs.Declarations.{Declaration, PortOf, declaration, before, place_of, path_of, named, named_as, own_ports, ports_of, ports_of_streamlet, is_type, is_interface, is_streamlet}
 
 -- ---- what stands twice
 
@@ -28,78 +28,92 @@ again same before (one ∷ more) = if list_any (λ earlier. same earlier one) be
 abbrev pub seconds : {A : Type 0} → (A → A → Bool) → List A → List A
 seconds same all = again same [] all
 
--- a declaration of a path that is declared before
-abbrev pub declared_again : List Declaration → List Place
-declared_again all = map (λ one. one.name.place) (seconds (λ one other. is_same_path (path_of one) (path_of other)) all)
+-- a declaration of a path that one before it has
+abbrev pub declared_again : List Declaration → ℕ → List Place
+declared_again all number =
+    if list_any (λ earlier. is_same_path (path_of earlier) (path_of (declaration all number))) (take number all) then (declaration all number).name.place ∷ [] else []
 
 -- a port with a name of its interface or streamlet, when case is ignored
-abbrev pub ports_again : Declaration → List Place
-ports_again one = map (λ port. port.name.place) (seconds (λ first second. str_eq_ignore_ascii_case first.name.name second.name.name) (own_ports one.kind))
+abbrev pub ports_again : List AstPort → List Place
+ports_again ports = map (λ port. port.name.place) (seconds (λ first second. str_eq_ignore_ascii_case first.name.name second.name.name) ports)
 
 -- an instance, by its name and the path of its streamlet
 pub record WrittenInstance : Type 0 where
   pub name : AstName
   pub streamlet : AstPath
 
+-- the instance that a statement is, if it is one
+abbrev pub instance_at : AstStmt → Option WrittenInstance
+instance_at (stmts.Instance name streamlet) = Some (record { name = name; streamlet = streamlet })
+instance_at (stmts.Link first second) = None
+
 -- the instances of a body
 abbrev pub instances_of : AstBody → List WrittenInstance
 instances_of (bodies.Linked text) = []
 instances_of (bodies.Structural all) = filter_map instance_at all
-  where
-    instance_at : AstStmt → Option WrittenInstance
-    instance_at (stmts.Instance name streamlet) = Some (record { name = name; streamlet = streamlet })
-    instance_at (stmts.Link first second) = None
 
 -- one of these ports has exactly this name
 abbrev pub has_port : List PortOf → List ℕ → Bool
 has_port all name = list_any (λ one. bytes_eq one.port.name.name name) all
 
--- an instance with the name of another of its body, or of a port of the streamlet that the body implements
-abbrev pub instances_again : List Declaration → Declaration → List Place
-instances_again all one = of_kind one.kind
+-- an instance with the name of another of its body
+abbrev pub instances_again : List WrittenInstance → List Place
+instances_again instances = map (λ instance. instance.name.place) (seconds (λ first second. bytes_eq first.name.name second.name.name) instances)
+
+-- an instance with the name of one of these ports
+abbrev pub instances_named_as_ports : List PortOf → List WrittenInstance → List Place
+instances_named_as_ports own instances = map (λ instance. instance.name.place) (filter (λ instance. has_port own instance.name.name) instances)
+
+-- an instance with the name of another of its body, or of a port of the streamlet that the body implements: of a body behind this path after `of`
+abbrev pub names_again_in_impl : List Declaration → List (List ℕ) → AstPath → AstBody → List Place
+names_again_in_impl all space target body =
+    instances_again (instances_of body) ++ instances_named_as_ports (ports_of_streamlet all (named_as is_streamlet all space target)) (instances_of body)
+
+-- such instances of a declaration
+abbrev pub names_again_in_body : List Declaration → Declaration → List Place
+names_again_in_body all one = of_kind one.kind
   where
-    port_names : Option Declaration → List PortOf
-    port_names None = []
-    port_names (Some streamlet) = ports_of all streamlet
-
-    in_body : List PortOf → List WrittenInstance → List Place
-    in_body own instances = map (λ instance. instance.name.place) (seconds (λ first second. bytes_eq first.name.name second.name.name) instances)
-        ++ map (λ instance. instance.name.place) (filter (λ instance. has_port own instance.name.name) instances)
-
     of_kind : AstKind → List Place
     of_kind (decls.Alias ltype) = []
     of_kind (decls.Interface listed) = []
     of_kind (decls.Streamlet listed) = []
-    of_kind (decls.Impl target body) = in_body (port_names (named_as is_streamlet all one.space target)) (instances_of body)
+    of_kind (decls.Impl target body) = names_again_in_impl all one.space target body
     of_kind (decls.Test target port value plan) = []
 
--- an implementation of a streamlet: its own name, and the whole path of the streamlet
-pub record Implementation : Type 0 where
-  pub name : AstName
-  pub streamlet : List (List ℕ)
-
--- the streamlet that a declaration implements, if it is an `impl` whose path names a streamlet
-abbrev pub implements : List Declaration → Declaration → Option Implementation
+-- the number of the streamlet that a declaration implements, if it is an `impl` whose path names a streamlet
+abbrev pub implements : List Declaration → Declaration → Option ℕ
 implements all one = of_kind one.kind
   where
-    by_target : Option Declaration → Option Implementation
-    by_target None = None
-    by_target (Some streamlet) = Some (record { name = one.name; streamlet = path_of streamlet })
-
-    of_kind : AstKind → Option Implementation
+    of_kind : AstKind → Option ℕ
     of_kind (decls.Alias ltype) = None
     of_kind (decls.Interface listed) = None
     of_kind (decls.Streamlet listed) = None
-    of_kind (decls.Impl target body) = by_target (named_as is_streamlet all one.space target)
+    of_kind (decls.Impl target body) = named_as is_streamlet all one.space target
     of_kind (decls.Test target port value plan) = None
 
--- an `impl` of a streamlet that has one before
-abbrev pub implemented_again : List Declaration → List Place
-implemented_again all = map (λ one. one.name.place) (seconds (λ first second. is_same_path first.streamlet second.streamlet) (filter_map (implements all) all))
+-- a declaration implements the streamlet of this number
+abbrev pub is_impl_of : List Declaration → ℕ → Declaration → Bool
+is_impl_of all streamlet one = is_number (implements all one)
+  where
+    is_number : Option ℕ → Bool
+    is_number None = false
+    is_number (Some number) = number == streamlet
+
+-- an `impl` of a streamlet that one before it implements
+abbrev pub implemented_again : List Declaration → ℕ → List Place
+implemented_again all number = of_streamlet (implements all (declaration all number))
+  where
+    of_streamlet : Option ℕ → List Place
+    of_streamlet None = []
+    of_streamlet (Some streamlet) = if list_any (is_impl_of all streamlet) (take number all) then (declaration all number).name.place ∷ [] else []
+
+-- what a declaration declares twice by itself, or after those before it
+abbrev pub twice_at : List Declaration → ℕ → List Place
+twice_at all number = declared_again all number ++ ports_again (own_ports (declaration all number).kind) ++ names_again_in_body all (declaration all number)
 
 -- all places of what is declared twice
 abbrev pub twice : List Declaration → List Place
-twice all = declared_again all ++ flat_map ports_again all ++ flat_map (instances_again all) all ++ implemented_again all
+twice all = before (twice_at all) (length all) ++ before (implemented_again all) (length all)
 
 -- ---- paths that are looked up
 
@@ -127,23 +141,22 @@ abbrev mutual
 abbrev pub paths_in_ports : List AstPort → List AstPath
 paths_in_ports all = flat_map (λ port. paths_in (plain port.ltype)) all
 
+-- paths at places that ask such a declaration
+abbrev pub asking : List (List ℕ) → (Declaration → Bool) → List AstPath → List Use
+asking space asks paths = map (λ path. record { space = space; path = path; asks = asks }) paths
+
+-- the paths in a declaration of a kind
+abbrev pub uses_of_kind : List (List ℕ) → AstKind → List Use
+uses_of_kind space (decls.Alias ltype) = asking space is_type (paths_in (plain ltype))
+uses_of_kind space (decls.Interface listed) = asking space is_type (paths_in_ports listed)
+uses_of_kind space (decls.Streamlet (ports.Own listed)) = asking space is_type (paths_in_ports listed)
+uses_of_kind space (decls.Streamlet (ports.Named path)) = asking space is_interface (path ∷ [])
+uses_of_kind space (decls.Impl target body) = asking space is_streamlet (target ∷ map (λ one. one.streamlet) (instances_of body))
+uses_of_kind space (decls.Test target port value plan) = asking space is_streamlet (target ∷ [])
+
 -- the paths in a declaration
 abbrev pub uses_in : Declaration → List Use
-uses_in one = of_kind one.kind
-  where
-    types : List AstPath → List Use
-    types paths = map (λ path. record { space = one.space; path = path; asks = is_type }) paths
-
-    use_of : (Declaration → Bool) → AstPath → Use
-    use_of asks path = record { space = one.space; path = path; asks = asks }
-
-    of_kind : AstKind → List Use
-    of_kind (decls.Alias ltype) = types (paths_in (plain ltype))
-    of_kind (decls.Interface listed) = types (paths_in_ports listed)
-    of_kind (decls.Streamlet (ports.Own listed)) = types (paths_in_ports listed)
-    of_kind (decls.Streamlet (ports.Named path)) = use_of is_interface path ∷ []
-    of_kind (decls.Impl target body) = use_of is_streamlet target ∷ map (λ instance. use_of is_streamlet instance.streamlet) (instances_of body)
-    of_kind (decls.Test target port value plan) = use_of is_streamlet target ∷ []
+uses_in one = uses_of_kind one.space one.kind
 
 -- a path that names nothing
 abbrev pub is_unknown : List Declaration → Use → Bool
@@ -157,9 +170,9 @@ is_wrong_kind all one = is_some (named all one.space one.path) && not (is_some (
 abbrev pub port_unknown : List Declaration → Declaration → List Place
 port_unknown all one = of_kind one.kind
   where
-    in_streamlet : AstName → Option Declaration → List Place
+    in_streamlet : AstName → Option ℕ → List Place
     in_streamlet port None = []
-    in_streamlet port (Some streamlet) = if has_port (ports_of all streamlet) port.name then [] else port.place ∷ []
+    in_streamlet port (Some streamlet) = if has_port (ports_of all (declaration all streamlet)) port.name then [] else port.place ∷ []
 
     of_kind : AstKind → List Place
     of_kind (decls.Alias ltype) = []
@@ -168,10 +181,14 @@ port_unknown all one = of_kind one.kind
     of_kind (decls.Impl target body) = []
     of_kind (decls.Test target port value plan) = in_streamlet port (named_as is_streamlet all one.space target)
 
+-- the places of the paths that are refused
+abbrev pub refused : (Use → Bool) → List Use → List Place
+refused is uses = map (λ one. place_of one.path) (filter is uses)
+
 -- all places of names that are unknown
 abbrev pub unknown : List Declaration → List Place
-unknown all = map (λ one. place_of one.path) (filter (is_unknown all) (flat_map uses_in all)) ++ flat_map (port_unknown all) all
+unknown all = before (λ number. refused (is_unknown all) (uses_in (declaration all number)) ++ port_unknown all (declaration all number)) (length all)
 
 -- all places of names of a wrong kind
 abbrev pub wrong_kinds : List Declaration → List Place
-wrong_kinds all = map (λ one. place_of one.path) (filter (is_wrong_kind all) (flat_map uses_in all))
+wrong_kinds all = before (λ number. refused (is_wrong_kind all) (uses_in (declaration all number))) (length all)

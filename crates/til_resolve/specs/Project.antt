@@ -1,6 +1,6 @@
 -- The project that a tree without faults stands for.
-use Rattle.std.specs.Prelude.{◌≡◌, ℕ, List, [], ◌∷◌, map, filter, position, Option, Some, None, unwrap_or, if◌then◌else◌}
-use Rattle.std.specs.List.{filter_map}
+use Rattle.std.specs.Prelude.{◌≡◌, ℕ, List, [], ◌∷◌, map, filter, length, Option, Some, None, if◌then◌else◌}
+use Rattle.std.specs.List.{filter_map, range_with_len}
 use Rattle.til_parser.specs.declared.tree.Ast.{Ast}
 use Rattle.til_parser.specs.declared.tree.AstBody.{AstBody}
 use Rattle.til_parser.specs.declared.tree.AstBody.TheVariants as bodies
@@ -13,10 +13,9 @@ use Rattle.til_parser.specs.declared.tree.AstStmt.{AstStmt}
 use Rattle.til_parser.specs.declared.tree.AstStmt.TheVariants as stmts
 use Rattle.til_parser.specs.Tree.{plain}
 use Rattle.logical_types.specs.Tree.{plain_of_stream}
-use Rattle.til_resolve.specs.Paths.{is_same_path}
-use Rattle.til_resolve.specs.Declarations.{Declaration, PortOf, declarations, place_of, path_of, named_as, ports_of, is_streamlet}
+use Rattle.til_resolve.specs.Declarations.{Declaration, PortOf, declaration, declarations, place_of, path_of, named_as, ports_of, is_streamlet}
 use Rattle.til_resolve.specs.Types.{type_of}
-use Rattle.til_resolve.specs.Names.{Implementation, implements, instances_of}
+use Rattle.til_resolve.specs.Names.{is_impl_of, instances_of}
 use Rattle.til_resolve.specs.declared.project.Project.{Project}
 use Rattle.til_resolve.specs.declared.project.Streamlet.{Streamlet}
 use Rattle.til_resolve.specs.declared.project.Port.{Port}
@@ -35,17 +34,25 @@ Pairwise Related (x ∷ xs) (y ∷ ys) = Related x y × Pairwise Related xs ys
 
 -- ---- streamlets by their numbers
 
--- the streamlets, in text order
-abbrev pub streamlets_of : List Declaration → List Declaration
-streamlets_of all = filter is_streamlet all
+-- the numbers of the streamlets, in text order, among those of the declarations before a number
+abbrev pub streamlets_before : List Declaration → ℕ → List ℕ
+streamlets_before all end = filter (λ number. is_streamlet (declaration all number)) (range_with_len 0 end)
+
+-- the numbers of all streamlets
+abbrev pub streamlet_numbers : List Declaration → List ℕ
+streamlet_numbers all = streamlets_before all (length all)
+
+-- the number of a declaration among the streamlets alone: so many stand before it
+abbrev pub streamlet_number : List Declaration → ℕ → ℕ
+streamlet_number all number = length (streamlets_before all number)
 
 -- the number of the streamlet that a path names; 0 where it names none, which is told before
 abbrev pub number_of : List Declaration → List (List ℕ) → AstPath → ℕ
 number_of all space path = found (named_as is_streamlet all space path)
   where
-    found : Option Declaration → ℕ
+    found : Option ℕ → ℕ
     found None = 0
-    found (Some streamlet) = unwrap_or (position (λ one. is_same_path (path_of one) (path_of streamlet)) (streamlets_of all)) 0
+    found (Some streamlet) = streamlet_number all streamlet
 
 -- ---- implementations
 
@@ -72,19 +79,15 @@ impl_of all space target (bodies.Structural written) = impls.Structural (place_o
     (map (λ one. record { name = one.name.name; streamlet = number_of all space one.streamlet }) (instances_of (bodies.Structural written)))
     (links_of written)
 
--- the implementation of a streamlet, if a declaration is one
-abbrev pub impl_by : List Declaration → Declaration → Declaration → Option Impl
+-- the implementation of the streamlet of a number, if a declaration is one
+abbrev pub impl_by : List Declaration → ℕ → Declaration → Option Impl
 impl_by all streamlet one = of_kind one.kind
   where
-    kept : AstPath → AstBody → Option Implementation → Option Impl
-    kept target body None = None
-    kept target body (Some found) = if is_same_path found.streamlet (path_of streamlet) then Some (impl_of all one.space target body) else None
-
     of_kind : AstKind → Option Impl
     of_kind (decls.Alias ltype) = None
     of_kind (decls.Interface listed) = None
     of_kind (decls.Streamlet listed) = None
-    of_kind (decls.Impl target body) = kept target body (implements all one)
+    of_kind (decls.Impl target body) = if is_impl_of all streamlet one then Some (impl_of all one.space target body) else None
     of_kind (decls.Test target port value plan) = None
 
 -- the first of these, if there is one
@@ -92,8 +95,8 @@ abbrev pub first_of : {A : Type 0} → List A → Option A
 first_of [] = None
 first_of (one ∷ more) = Some one
 
--- the implementation of a streamlet
-abbrev pub body_of : List Declaration → Declaration → Option Impl
+-- the implementation of the streamlet of a number
+abbrev pub body_of : List Declaration → ℕ → Option Impl
 body_of all streamlet = first_of (filter_map (impl_by all streamlet) all)
 
 -- ---- streamlets and tests
@@ -104,10 +107,10 @@ pub record IsPortOf (all : List Declaration) (one : PortOf) (port : Port) : Type
   pub inward_is : port.inward ≡ one.port.inward
   pub type_is : plain_of_stream port.ltype ≡ type_of all one.space (plain one.port.ltype)
 
--- a streamlet of the project is a written one
-pub record IsStreamletOf (all : List Declaration) (one : Declaration) (streamlet : Streamlet) : Type 0 where
-  pub path_is : streamlet.path ≡ path_of one
-  pub ports_are : Pairwise (IsPortOf all) (ports_of all one) streamlet.ports
+-- a streamlet of the project is the written one of this number
+pub record IsStreamletOf (all : List Declaration) (one : ℕ) (streamlet : Streamlet) : Type 0 where
+  pub path_is : streamlet.path ≡ path_of (declaration all one)
+  pub ports_are : Pairwise (IsPortOf all) (ports_of all (declaration all one)) streamlet.ports
   pub body_is : streamlet.body ≡ body_of all one
 
 -- the test that a declaration is, if it is one
@@ -123,5 +126,5 @@ test_of all one = of_kind one.kind
 
 -- a project is that of a tree: its streamlets and its tests, in text order
 pub record IsProjectOf (ast : Ast) (project : Project) : Type 0 where
-  pub streamlets_are : Pairwise (IsStreamletOf (declarations ast)) (streamlets_of (declarations ast)) project.streamlets
+  pub streamlets_are : Pairwise (IsStreamletOf (declarations ast)) (streamlet_numbers (declarations ast)) project.streamlets
   pub tests_are : project.tests ≡ filter_map (test_of (declarations ast)) (declarations ast)

@@ -10,7 +10,7 @@ use Rattle.til_parser.specs.Tree.{plain}
 use Rattle.logical_types.specs.declared.ltype.Sync.{Sync}
 use Rattle.logical_types.specs.declared.ltype.Sync.TheVariants as syncs
 use Rattle.logical_types.specs.Tree.{Ltype, null, bits, group, union, stream, Parts, no_parts, part, Settings}
-use Rattle.til_resolve.specs.Declarations.{Declaration, named}
+use Rattle.til_resolve.specs.Declarations.{Declaration, declaration, named}
 
 -- a synchronicity, as types have it
 abbrev pub sync_of : AstSync → Sync
@@ -45,9 +45,8 @@ abbrev mutual
   replaced_parts meaning (tree.part name ltype more) = part name.name (replaced meaning ltype) (replaced_parts meaning more)
 
 -- the type that a declaration gives a name to, where paths in a namespace mean such types; Null where it is no type
-abbrev pub type_by : (List (List ℕ) → List AstName → Ltype) → Option Declaration → Ltype
-type_by meaning None = null
-type_by meaning (Some one) = of_kind one.kind
+abbrev pub type_by : (List (List ℕ) → List AstName → Ltype) → Declaration → Ltype
+type_by meaning one = of_kind one.kind
   where
     of_kind : AstKind → Ltype
     of_kind (decls.Alias ltype) = replaced (meaning one.space) (plain ltype)
@@ -56,11 +55,16 @@ type_by meaning (Some one) = of_kind one.kind
     of_kind (decls.Impl target body) = null
     of_kind (decls.Test target port value plan) = null
 
+-- the type that the declaration of a number gives a name to; Null where there is no number
+abbrev pub type_of_number : (List (List ℕ) → List AstName → Ltype) → List Declaration → Option ℕ → Ltype
+type_of_number meaning all None = null
+type_of_number meaning all (Some number) = type_by meaning (declaration all number)
+
 -- the type that a path means in a namespace, with so many names replaced inside one another at most. As many as there are
 -- declarations are enough where no type leads to itself; Null stands where a path names no type. Both faults are told before.
 abbrev pub meaning_of : List Declaration → ℕ → List (List ℕ) → List AstName → Ltype
 meaning_of all zero space names = null
-meaning_of all (suc less) space names = type_by (λ inner. meaning_of all less inner) (named all space (record { names = names }))
+meaning_of all (suc less) space names = type_of_number (λ inner. meaning_of all less inner) all (named all space (record { names = names }))
 
 -- the type that a written type stands for in a namespace
 abbrev pub type_of : List Declaration → List (List ℕ) → tree.Ltype → Ltype

@@ -4,8 +4,20 @@
 //! are the types, these definitions and the three look-ups. The crate stands on `til_parser` and `logical_types`.
 #![tactic(auto)]
 
+mod declared;
+mod earliest;
 mod fault;
+mod first;
+mod firsts;
+mod kinds;
+mod lookup;
+mod names;
+mod placing;
+mod ports;
 mod project;
+mod scope;
+mod search;
+mod twice;
 
 pub use fault::ResolveFault;
 pub use project::{Impl, Instance, Link, LinkEnd, Port, Project, Streamlet, Test};

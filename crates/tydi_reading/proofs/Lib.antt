@@ -12,3 +12,4 @@ pub mod SeparatedRule
 pub mod JoinedRule
 pub mod CheckedRule
 pub mod FilledLemmas
+pub mod LedRule

@@ -240,11 +240,11 @@ module _ (inner : Reader Lexeme AstType) (W : AstType → Type 0) (D : Form) (ru
   no_type p P one = same-rule IsFormed p P (λ _. Anything) (λ _. Unit {0}) Never P (λ _. PathNext) (λ _. Unit {0}) Never
       (record { there = λ x ts s. s; back = λ x ts s. s; follow = λ x rest next. tt; within = λ x w. w; apart = λ x w. w; first = λ ts d. d; deep = λ ts d. d }) one
 
-  direction_formed : (b : Bool) → Rattle.til_lexer.specs.Words.has_name_form (direction_word b) ≡ true
+  direction_formed : (b : Bool) → Rattle.tydi_base.specs.Name.has_name_form (direction_word b) ≡ true
   direction_formed true = refl
   direction_formed false = refl
 
-  truth_formed : (b : Bool) → Rattle.til_lexer.specs.Words.has_name_form (truth_word b) ≡ true
+  truth_formed : (b : Bool) → Rattle.tydi_base.specs.Name.has_name_form (truth_word b) ≡ true
   truth_formed true = refl
   truth_formed false = refl
 

@@ -1,0 +1,17 @@
+use Rattle.std.proofs.Common.{◌≡◌, ℕ, List, Contains, take, map}
+use Rattle.std.specs.Char.{to_ascii_lowercase}
+use Rattle.std.specs.Cmp.Lexicographic.{pointwise}
+use Rattle.std.specs.List.{list_any}
+use Rattle.std.specs.Prelude.{nat_eq}
+use Rattle.std.specs.Str.{bytes_eq}
+use Rattle.indexmap.specs.IndexSet.{contains}
+use Rattle.til_resolve.specs.Earliest.{IsEarliest}
+use Rattle.til_resolve.specs.Names.{ports_again}
+use Rattle.til_resolve.proofs.twice.ports_again.Given as goal
+
+-- the first among the ports so far, whose names are found in lower case
+abbrev pub invariant-ports : goal.invariant-ports
+invariant-ports l = record {
+  found : IsEarliest (Contains (ports_again (take l.port-index l.ports))) l.found;
+  seen : (name : List ℕ) → contains (pointwise nat_eq) l.seen name ≡ list_any (λ port. bytes_eq (map to_ascii_lowercase port.name.name) name) (take l.port-index l.ports);
+}

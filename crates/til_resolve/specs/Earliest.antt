@@ -1,0 +1,18 @@
+-- Of places in a text, the first. This project's own.
+use Rattle.std.specs.Prelude.{◌≤◌, nat_lt, Option, Some, None, MatchOption, if◌then◌else◌}
+use Rattle.tydi_base.specs.declared.place.Place.{Place}
+
+-- a place is such a place, and none of the others stands before it
+pub record IsFirst (Is : Place → Type 0) (one : Place) : Type 0 where
+  pub there : Is one
+  pub first : (other : Place) → Is other → one.offset ≤ other.offset
+
+-- the first of such places is found, or none where there is none
+pub record IsEarliest (Is : Place → Type 0) (found : Option Place) : Type 0 where
+  pub told : MatchOption found ((place : Place) → ¬ Is place) (IsFirst Is)
+
+-- the one of two places that stands before the other
+abbrev pub earlier : Option Place → Option Place → Option Place
+earlier None other = other
+earlier (Some first) None = Some first
+earlier (Some first) (Some second) = if nat_lt second.offset first.offset then Some second else Some first

@@ -1,0 +1,254 @@
+//! What is declared twice.
+
+ghost use Rattle.std.specs.Prelude.{◌≡◌, ◌+◌, ◌<◌, List, [], ◌∷◌, length, map, IfOk, IfSome, OnOk, Contains, nat_eq};
+ghost use Rattle.std.specs.Char.{to_ascii_lowercase};
+ghost use Rattle.indexmap.specs.IndexSet.{contains};
+ghost use Rattle.std.specs.List.{filter_map};
+ghost use Rattle.til_resolve.specs.Declarations.{before, declaration, ports_of, ports_of_streamlet};
+ghost use Rattle.til_resolve.specs.Earliest.{IsEarliest};
+ghost use Rattle.til_resolve.specs.Names as spec;
+ghost use Rattle.til_resolve.specs.Ports.{FindsPorts};
+ghost use Rattle.til_resolve.specs.Scope.{declarations_of, is_same_key};
+ghost use Rattle.til_resolve.specs.Names.{WrittenInstance};
+ghost use Rattle.til_resolve.specs.Twice.{FindsImpls, FindsNames, AddsInstance, is_same_name};
+
+use crate::earliest::earlier;
+use crate::kinds::{Asked, own_ports};
+use crate::ports::{Ports, has_port};
+use crate::scope::Scope;
+use indexmap::IndexSet;
+use std::alloc::Global;
+use til_parser::{AstBody, AstKind, AstName, AstPath, AstPort, AstStmt};
+use tydi_base::{List, Memory, Name, Place};
+
+/// The first place of what is declared twice.
+pub fn first_twice<'a>(
+    alloc: Global,
+    scope: &Scope<'a>,
+    ports: &Ports<'a>,
+) -> Result<Option<Place>, Memory>
+    requires { FindsPorts (contains is_same_key ports.now) (declarations_of scope.now.declared) (length (declarations_of scope.now.declared)) }
+    ensures { IfOk result (IsEarliest (Contains (spec.twice (declarations_of scope.now.declared)))) }
+{
+    let mut found = None;
+    'numbers: for number in 0..scope.len() {
+        found = earlier(found, twice_at(alloc, scope, ports, number)?);
+    }
+    Ok(earlier(found, first_implemented_again(alloc, scope)?))
+}
+
+// What a declaration declares twice, by itself or after those before it.
+fn twice_at<'a>(
+    alloc: Global,
+    scope: &Scope<'a>,
+    ports: &Ports<'a>,
+    number: usize,
+) -> Result<Option<Place>, Memory>
+    requires found { FindsPorts (contains is_same_key ports.now) (declarations_of scope.now.declared) (length (declarations_of scope.now.declared)) }
+    requires within { number < length (declarations_of scope.now.declared) }
+    ensures { IfOk result (IsEarliest (Contains (spec.twice_at (declarations_of scope.now.declared) number))) }
+{
+    let again = declared_again(scope, number);
+    let in_ports = ports_again(alloc, own_ports(scope.get(number).kind))?;
+    let in_body = names_again_in_body(alloc, scope, ports, number)?;
+    Ok(earlier(earlier(again, in_ports), in_body))
+}
+
+// A declaration of a path that one before it has.
+fn declared_again(scope: &Scope<'_>, number: usize) -> Option<Place>
+    requires { number < length (declarations_of scope.now.declared) }
+    ensures { IsEarliest (Contains (spec.declared_again (declarations_of scope.now.declared) number)) result }
+{
+    match scope.first(number) {
+        Some(first) if first < number => Some(scope.get(number).name.place),
+        _ => None,
+    }
+}
+
+// Ports with the name of one before them, when case is ignored.
+fn ports_again(alloc: Global, ports: &[AstPort]) -> Result<Option<Place>, Memory>
+    ensures { IfOk result (IsEarliest (Contains (spec.ports_again ports.now))) }
+{
+    let mut seen: IndexSet<List<u8>> = IndexSet::new(alloc);
+    let mut found = None;
+    'ports: for port in ports {
+        let (_, is_new) = seen.insert_full(lowered(alloc, &port.name.name)?)?;
+        found = earlier(found, (!is_new).then_some(port.name.place));
+    }
+    Ok(found)
+}
+
+// A name in lower case.
+fn lowered(alloc: Global, name: &Name) -> Result<List<u8>, Memory>
+    ensures { IfOk result (λ text. text ≡ map to_ascii_lowercase name.now) }
+{
+    let mut text = List::new(alloc);
+    'bytes: for byte in name.as_bytes() {
+        text.push(byte.to_ascii_lowercase())?;
+    }
+    Ok(text)
+}
+
+// Instances with the name of another of their body, or of a port of the streamlet that the body implements.
+fn names_again_in_body<'a>(
+    alloc: Global,
+    scope: &Scope<'a>,
+    ports: &Ports<'a>,
+    number: usize,
+) -> Result<Option<Place>, Memory>
+    requires found { FindsPorts (contains is_same_key ports.now) (declarations_of scope.now.declared) (length (declarations_of scope.now.declared)) }
+    requires within { number < length (declarations_of scope.now.declared) }
+    ensures { IfOk result (IsEarliest (Contains (spec.names_again_in_body (declarations_of scope.now.declared) (declaration (declarations_of scope.now.declared) number)))) }
+{
+    match scope.get(number).kind {
+        AstKind::Impl { target, body } => {
+            names_again_in_impl(alloc, scope, ports, number, target, body)
+        }
+        _ => Ok(None),
+    }
+}
+
+fn names_again_in_impl<'a>(
+    alloc: Global,
+    scope: &Scope<'a>,
+    ports: &Ports<'a>,
+    number: usize,
+    target: &'a AstPath,
+    body: &'a AstBody,
+) -> Result<Option<Place>, Memory>
+    requires found { FindsPorts (contains is_same_key ports.now) (declarations_of scope.now.declared) (length (declarations_of scope.now.declared)) }
+    requires within { number < length (declarations_of scope.now.declared) }
+    ensures { IfOk result (IsEarliest (Contains (spec.names_again_in_impl (declarations_of scope.now.declared) (declaration (declarations_of scope.now.declared) number).space target.now body.now))) }
+{
+    let AstBody::Structural(stmts) = body else {
+        return Ok(None);
+    };
+    let streamlet = scope.named_as(number, target, Asked::Streamlet);
+    let again = instances_again(alloc, stmts.as_slice())?;
+    let as_ports = instances_named_as_own_ports(scope, ports, streamlet, stmts.as_slice());
+    Ok(earlier(again, as_ports))
+}
+
+// Instances with the name of a port of this streamlet, if there is one.
+fn instances_named_as_own_ports<'a>(
+    scope: &Scope<'a>,
+    ports: &Ports<'a>,
+    streamlet: Option<usize>,
+    stmts: &'a [AstStmt],
+) -> Option<Place>
+    requires found { FindsPorts (contains is_same_key ports.now) (declarations_of scope.now.declared) (length (declarations_of scope.now.declared)) }
+    requires within { IfSome streamlet (λ number. number < length (declarations_of scope.now.declared)) }
+    ensures { IsEarliest (Contains (spec.instances_named_as_ports (ports_of_streamlet (declarations_of scope.now.declared) streamlet) (filter_map spec.instance_at stmts.now))) result }
+{
+    match streamlet {
+        Some(number) => instances_named_as_ports(scope, ports, number, stmts),
+        None => None,
+    }
+}
+
+// Instances with the name of one before them.
+fn instances_again(alloc: Global, stmts: &[AstStmt]) -> Result<Option<Place>, Memory>
+    ensures { IfOk result (IsEarliest (Contains (spec.instances_again (filter_map spec.instance_at stmts.now)))) }
+{
+    let mut seen: IndexSet<&AstName> = IndexSet::new(alloc);
+    let mut found = None;
+    'stmts: for stmt in stmts {
+        found = earlier(found, instance_again(&mut seen, stmt)?);
+    }
+    Ok(found)
+}
+
+// An instance with the name of one that is among these.
+fn instance_again<'a>(
+    seen: &mut IndexSet<&'a AstName>,
+    stmt: &'a AstStmt,
+) -> Result<Option<Place>, Memory>
+    ensures { IfOk result (λ found. (earlier : List WrittenInstance) → FindsNames (contains is_same_name seen.old) earlier
+        → AddsInstance (contains is_same_name seen.new) earlier (spec.instance_at stmt.now) found) }
+{
+    let AstStmt::Instance { name, .. } = stmt else {
+        return Ok(None);
+    };
+    let (_, is_new) = seen.insert_full(name)?;
+    Ok((!is_new).then_some(name.place))
+}
+
+// Instances with the name of a port of this streamlet.
+fn instances_named_as_ports<'a>(
+    scope: &Scope<'a>,
+    ports: &Ports<'a>,
+    streamlet: usize,
+    stmts: &'a [AstStmt],
+) -> Option<Place>
+    requires found { FindsPorts (contains is_same_key ports.now) (declarations_of scope.now.declared) (length (declarations_of scope.now.declared)) }
+    requires within { streamlet < length (declarations_of scope.now.declared) }
+    ensures { IsEarliest (Contains (spec.instances_named_as_ports (ports_of (declarations_of scope.now.declared) (declaration (declarations_of scope.now.declared) streamlet))
+        (filter_map spec.instance_at stmts.now))) result }
+{
+    let mut found = None;
+    'stmts: for stmt in stmts {
+        found = earlier(found, instance_named_as_port(scope, ports, streamlet, stmt));
+    }
+    found
+}
+
+fn instance_named_as_port<'a>(
+    scope: &Scope<'a>,
+    ports: &Ports<'a>,
+    streamlet: usize,
+    stmt: &'a AstStmt,
+) -> Option<Place>
+    requires found { FindsPorts (contains is_same_key ports.now) (declarations_of scope.now.declared) (length (declarations_of scope.now.declared)) }
+    requires within { streamlet < length (declarations_of scope.now.declared) }
+    ensures { IsEarliest (Contains (spec.instances_named_as_ports (ports_of (declarations_of scope.now.declared) (declaration (declarations_of scope.now.declared) streamlet))
+        (filter_map spec.instance_at (stmt.now ∷ [])))) result }
+{
+    match stmt {
+        AstStmt::Instance { name, .. } => {
+            has_port(scope, ports, streamlet, name).then_some(name.place)
+        }
+        AstStmt::Link { .. } => None,
+    }
+}
+
+// The first `impl` of a streamlet that one before it implements.
+fn first_implemented_again(alloc: Global, scope: &Scope<'_>) -> Result<Option<Place>, Memory>
+    ensures { IfOk result (IsEarliest (Contains (before (spec.implemented_again (declarations_of scope.now.declared)) (length (declarations_of scope.now.declared))))) }
+{
+    let mut seen: IndexSet<usize> = IndexSet::new(alloc);
+    let mut found = None;
+    'numbers: for number in 0..scope.len() {
+        found = earlier(found, implemented_again(scope, &mut seen, number)?);
+    }
+    Ok(found)
+}
+
+// An `impl` of a streamlet that is among these, which those before it implement.
+fn implemented_again(
+    scope: &Scope<'_>,
+    seen: &mut IndexSet<usize>,
+    number: usize,
+) -> Result<Option<Place>, Memory>
+    requires within { number < length (declarations_of scope.now.declared) }
+    requires seen { FindsImpls (contains nat_eq seen.old) (declarations_of scope.now.declared) number }
+    ensures seen { OnOk result (FindsImpls (contains nat_eq seen.new) (declarations_of scope.now.declared) (number + 1)) }
+    ensures again { IfOk result (IsEarliest (Contains (spec.implemented_again (declarations_of scope.now.declared) number))) }
+{
+    let one = scope.get(number);
+    let Some(streamlet) = implements(scope, number) else {
+        return Ok(None);
+    };
+    let (_, is_new) = seen.insert_full(streamlet)?;
+    Ok((!is_new).then_some(one.name.place))
+}
+
+// The streamlet that a declaration implements, if it is an `impl` whose path names a streamlet.
+fn implements(scope: &Scope<'_>, number: usize) -> Option<usize>
+    requires { number < length (declarations_of scope.now.declared) }
+    ensures { result ≡ spec.implements (declarations_of scope.now.declared) (declaration (declarations_of scope.now.declared) number) }
+{
+    match scope.get(number).kind {
+        AstKind::Impl { target, .. } => scope.named_as(number, target, Asked::Streamlet),
+        _ => None,
+    }
+}
