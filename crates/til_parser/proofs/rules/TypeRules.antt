@@ -35,7 +35,8 @@ use Rattle.til_parser.specs.Tree as tree
 use Rattle.til_parser.proofs.rules.LeafRules.{PathNext, name-rule, whole-rule, path-rule}
 use Rattle.til_parser.proofs.rules.ListRules.{Lists, bracketed-rule}
 use Rattle.til_parser.proofs.PlainLemmas.{plain_parts, plain-Null, plain-Bits, plain-Group, plain-Union, plain-Stream, plain-Path, of_plain, of_parts, of_plain-plain, plain-of_plain, plain_parts-of_parts}
-use Rattle.til_parser.proofs.rules.StreamRules.{ArgumentsOf, StreamWithin, stream-rule, data_null, good_null, null_spelled, null_stream, null_arguments}
+use Rattle.til_parser.proofs.rules.StreamSteps.{ArgumentsOf, data_null, good_null, null_spelled, null_stream, null_arguments}
+use Rattle.til_parser.proofs.rules.StreamRules.{StreamWithin, stream-rule}
 use Rattle.til_parser.proofs.rules.TokenRules.{both, made, one, kind_is, same_kind-is, kind-rule, word_entry}
 
 abbrev pub S : AstType → Form
