@@ -1,39 +1,26 @@
 -- What leads to something too deep in the arguments of a Stream.
-use Rattle.std.proofs.Common.{◌≡◌, ℕ, zero, suc, inl, inr, ⊎_elim, true, false, List, [], ◌∷◌, ◌++◌, All, length, Option, Some, None, option_map, refl, sym, ap, ◌∙◌, subst, arith, codes, append_assoc}
+use Rattle.std.proofs.Common.{◌≡◌, ℕ, zero, suc, inl, inr, ⊎_elim, List, [], ◌∷◌, ◌++◌, None, refl, sym, ap, ◌∙◌, subst, append_assoc}
 use Rattle.std.specs.List.{Contains}
 use Rattle.std.specs.Option.{unwrap_or}
-use Rattle.std.proofs.lemmas.Option.{none-some, same_Some}
-use Rattle.std.proofs.lemmas.List.{append-nil}
-use Rattle.std.proofs.lemmas.List.Elements.{All-nil, All-cons}
-use Rattle.tydi_reading.specs.Forms.{Anything, ◌⋯◌, Runs, Loop, RunsTo, LoopTo, GoesOn}
+use Rattle.std.proofs.lemmas.Option.{none-some}
+use Rattle.tydi_reading.specs.Forms.{◌⋯◌, RunsTo, LoopTo}
 use Rattle.tydi_reading.specs.Lists.{Each}
-use Rattle.tydi_reading.specs.Reading.{Reader, Turn, tells, checked, ◌<<◌}
+use Rattle.tydi_reading.specs.Reading.{Reader, Turn}
 use Rattle.tydi_reading.specs.Rules.{IsRule}
-use Rattle.tydi_reading.proofs.CheckedRule.{Checks, checked-rule}
-use Rattle.tydi_reading.proofs.FilledLemmas.{filled-first}
-use Rattle.tydi_reading.proofs.MarkRules.{skip-rule, close-rule}
-use Rattle.tydi_reading.proofs.StepRules.{deep-rule}
-use Rattle.tydi_reading.proofs.StepsRule.{Separates, TurnOf, steps-rule}
 use Rattle.til_lexer.specs.declared.token.TokenKind.TheVariants as kinds
 use Rattle.til_parser.specs.declared.arguments.Arguments.{Arguments}
 use Rattle.til_parser.specs.declared.ltype.AstType.{AstType}
 use Rattle.til_parser.specs.declared.ltype.AstType.TheVariants as types
 use Rattle.til_parser.specs.declared.ltype.AstStream.{AstStream}
-use Rattle.til_parser.specs.Grammar.{Form, Of, Word, Commas, LastComma, Bracketed, Given, IsDefault, AreApart, SpellsType}
+use Rattle.til_parser.specs.Grammar.{Form, Of, Word, AreApart}
 use Rattle.til_parser.specs.Grammar.{Argument, data_type, throughput, dimensionality, synchronicity, complexity, direction, user_type, keep}
-use Rattle.til_parser.specs.Grammar as grammar
 use Rattle.til_parser.specs.Lexemes.{Lexeme, IsFormed}
 use Rattle.til_parser.specs.Nesting.{ValueTo, ArgumentsTo}
-use Rattle.til_parser.specs.Reading.{same_kind, is_kind, expect}
-use Rattle.til_parser.specs.ReadTypes.{none_given, filled, stream_of, argument, arguments, stream}
-use Rattle.til_parser.specs.Tree.{plain, settings_of}
-use Rattle.til_parser.proofs.rules.ArgumentFields.{Value, value, field, put, field-put, field-put_other, field-none_given, one_or_two, value-filled, value-filled_any, IsDefault-filled}
-use Rattle.til_parser.proofs.rules.ArgumentFields.{IsGivenOr, stream_of-given, Contains-none, Contains-first, Contains-more, Contains-cases, give, field-give}
-use Rattle.til_parser.proofs.rules.ArgumentRules.{word, Spelled, Named, ValueWithin, ValueDeep, In, Step, StepWithin, StepDeep, step-rule}
+use Rattle.til_parser.specs.ReadTypes.{none_given, filled}
+use Rattle.til_parser.proofs.rules.ArgumentFields.{value, field, put, field-put_other, field-none_given, value-filled_any}
+use Rattle.til_parser.proofs.rules.ArgumentFields.{Contains-none, Contains-first, Contains-more, Contains-cases}
+use Rattle.til_parser.proofs.rules.ArgumentRules.{word, Named, ValueDeep, StepDeep}
 use Rattle.til_parser.proofs.rules.LeafRules.{PathNext}
-use Rattle.til_parser.proofs.rules.ListRules.{kind-not, kind-path}
-use Rattle.til_parser.proofs.PlainLemmas.{plain-Null}
-use Rattle.til_parser.proofs.rules.TokenRules.{kind-mark, kind-rule, Word-not, made, one, same_kind-is}
 use Rattle.til_parser.proofs.rules.StreamSteps.{S, GivenOf, Given-named}
 use Rattle.til_parser.proofs.rules.StreamSteps as steps
 use Rattle.til_parser.proofs.rules.StreamForms as forms

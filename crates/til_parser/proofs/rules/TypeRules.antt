@@ -22,7 +22,6 @@ use Rattle.til_parser.specs.declared.ltype.AstStream.{AstStream, roll-AstStream}
 use Rattle.til_parser.specs.declared.ltype.AstType.{AstType}
 use Rattle.til_parser.specs.declared.ltype.AstType.TheVariants as types
 use Rattle.til_parser.specs.declared.tree.AstName.{AstName}
-use Rattle.til_parser.specs.declared.tree.AstPath.{AstPath}
 use Rattle.til_parser.specs.Grammar.{Form, Of, IsWord, Word, Name, Whole, Path, Commas, Bracketed, SpellsType, SpellsParts, Given, AreApart, Argument}
 use Rattle.til_parser.specs.Grammar as grammar
 use Rattle.til_parser.specs.Lexemes.{Lexeme, IsFormed}
