@@ -1,10 +1,9 @@
 -- What holds of a tree holds of each that is the same, places aside.
-use Rattle.std.proofs.Common.{◌≡◌, ℕ, ◌≤◌, max, suc, Bool, List, [], ◌∷◌, ◌++◌, length, Option, Some, None, refl, sym, ap, ◌∙◌, subst, arith, codes}
+use Rattle.std.proofs.Common.{◌≡◌, ℕ, ◌≤◌, max, suc, List, [], ◌∷◌, ◌++◌, length, Option, Some, None, refl, ap, ◌∙◌, subst, arith, codes}
 use Rattle.std.specs.Prelude.{IsTrue}
 use Rattle.std.specs.List.{flat_map}
 use Rattle.tydi_base.specs.Name.{is_name}
 use Rattle.tydi_reading.specs.Lists.{EachIs}
-use Rattle.til_parser.specs.declared.tree.Ast.{Ast}
 use Rattle.til_parser.specs.declared.tree.AstBody.{AstBody}
 use Rattle.til_parser.specs.declared.tree.AstBody.TheVariants as bodies
 use Rattle.til_parser.specs.declared.tree.AstDecl.{AstDecl}
@@ -21,7 +20,7 @@ use Rattle.til_parser.specs.declared.tree.AstStmt.TheVariants as stmts
 use Rattle.til_parser.specs.Canonical.{names_text, settings_text, type_text, parts_text, more_parts_text, doc_text, port_text, next_port_text, ports_text, second_text, end_text}
 use Rattle.til_parser.specs.Canonical.{stmt_text, spaced_text, body_text, streamlet_text, quoted_text, kind_text, doc_line, decl_text, namespace_text}
 use Rattle.til_parser.specs.Grammar.{PortsWithin, StreamletWithin, KindWithin, DeclsWithin, NamespacesWithin, way_word, truth_word}
-use Rattle.til_parser.specs.Laws.{AreAlike, PlacesAreLeftOut}
+use Rattle.til_parser.specs.Laws.{PlacesAreLeftOut}
 use Rattle.til_parser.specs.Same.{Alike, SameName, SameNames, SameType, SameParts, SamePort, SameSecond, SameEnd, SameStmt, SameBody, SamePorts, SameKind, SameDecl, SameNamespace}
 use Rattle.til_parser.specs.Tree.{Ltype, null, bits, group, union, stream, path, Parts, no_parts, part, Settings, depth, depth_of_parts, plain}
 use Rattle.til_parser.specs.Trees.{HasName, IsPath, IsDoc, IsQuote, AreSettings, IsType, AreParts, IsPort, IsSecond, IsEnd, IsStmt, IsBody, ArePorts, IsKind, IsDecl, IsNamespace}

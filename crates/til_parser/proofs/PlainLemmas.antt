@@ -8,7 +8,7 @@ use Rattle.til_parser.specs.declared.ltype.AstType.TheFolds.{fold-AstPart, fold-
 use Rattle.til_parser.specs.declared.ltype.AstType.TheFolds.{ind-AstType}
 use Rattle.til_parser.specs.declared.ltype.AstPart.{AstPart, roll-AstPart}
 use Rattle.til_parser.specs.declared.ltype.AstStream.{AstStream, roll-AstStream}
-use Rattle.til_parser.specs.Tree.{Ltype, null, bits, group, union, stream, path, Parts, no_parts, part, Settings, PlainPart, PlainStream}
+use Rattle.til_parser.specs.Tree.{Ltype, null, bits, group, union, stream, path, Parts, no_parts, part, PlainPart, PlainStream}
 use Rattle.til_parser.specs.Tree.{settings_of, parts_of, plain_type, plain_part, plain_stream, plain}
 
 -- ---- the plain data of a made value

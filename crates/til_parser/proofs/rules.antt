@@ -3,6 +3,9 @@ pub mod LeafRules
 pub mod ListRules
 pub mod ArgumentFields
 pub mod ArgumentRules
+pub mod StreamSteps
+pub mod StreamForms
+pub mod StreamNesting
 pub mod StreamRules
 pub mod TypeRules
 pub mod BodyRules

@@ -13,3 +13,4 @@ pub mod JoinedRule
 pub mod CheckedRule
 pub mod FilledLemmas
 pub mod LedRule
+pub mod Example

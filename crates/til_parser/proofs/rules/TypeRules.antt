@@ -22,7 +22,6 @@ use Rattle.til_parser.specs.declared.ltype.AstStream.{AstStream, roll-AstStream}
 use Rattle.til_parser.specs.declared.ltype.AstType.{AstType}
 use Rattle.til_parser.specs.declared.ltype.AstType.TheVariants as types
 use Rattle.til_parser.specs.declared.tree.AstName.{AstName}
-use Rattle.til_parser.specs.declared.tree.AstPath.{AstPath}
 use Rattle.til_parser.specs.Grammar.{Form, Of, IsWord, Word, Name, Whole, Path, Commas, Bracketed, SpellsType, SpellsParts, Given, AreApart, Argument}
 use Rattle.til_parser.specs.Grammar as grammar
 use Rattle.til_parser.specs.Lexemes.{Lexeme, IsFormed}
@@ -35,7 +34,8 @@ use Rattle.til_parser.specs.Tree as tree
 use Rattle.til_parser.proofs.rules.LeafRules.{PathNext, name-rule, whole-rule, path-rule}
 use Rattle.til_parser.proofs.rules.ListRules.{Lists, bracketed-rule}
 use Rattle.til_parser.proofs.PlainLemmas.{plain_parts, plain-Null, plain-Bits, plain-Group, plain-Union, plain-Stream, plain-Path, of_plain, of_parts, of_plain-plain, plain-of_plain, plain_parts-of_parts}
-use Rattle.til_parser.proofs.rules.StreamRules.{ArgumentsOf, StreamWithin, stream-rule, data_null, good_null, null_spelled, null_stream, null_arguments}
+use Rattle.til_parser.proofs.rules.StreamSteps.{ArgumentsOf, data_null, good_null, null_spelled, null_stream, null_arguments}
+use Rattle.til_parser.proofs.rules.StreamRules.{StreamWithin, stream-rule}
 use Rattle.til_parser.proofs.rules.TokenRules.{both, made, one, kind_is, same_kind-is, kind-rule, word_entry}
 
 abbrev pub S : AstType → Form

@@ -1,5 +1,5 @@
 -- The tree of a text: its form, and how many declarations it has at most.
-use Rattle.std.proofs.Common.{◌≡◌, ℕ, ◌<◌, ◌≤◌, ◌+◌, List, [], ◌∷◌, ◌++◌, length, ap, ◌∙◌, arith}
+use Rattle.std.proofs.Common.{◌≡◌, ℕ, ◌≤◌, ◌+◌, List, [], ◌∷◌, length, ap, ◌∙◌, arith}
 use Rattle.std.proofs.lemmas.List.{length-append}
 use Rattle.tydi_reading.specs.Forms.{◌⋯◌}
 use Rattle.tydi_reading.specs.Lists.{Each}

@@ -15,7 +15,7 @@ use Rattle.tydi_reading.specs.Forms.{◌⋯◌}
 use Rattle.tydi_reading.specs.Lists.{Each, EachIs}
 use Rattle.tydi_reading.proofs.StepLemmas.{All-front, All-back}
 use Rattle.til_parser.specs.declared.tree.AstName.{AstName}
-use Rattle.til_parser.specs.Grammar.{Form, Bracketed, Commas, Doc, IsMarked, Name, Number, One, Path, Quoted, Whole}
+use Rattle.til_parser.specs.Grammar.{Form, Bracketed, Commas, Doc, Name, Number, One, Path, Quoted, Whole}
 use Rattle.til_parser.specs.Lexemes.{Lexeme, IsFormed, between_marks}
 use Rattle.til_parser.specs.Trees.{HasName, IsPath, IsDoc, IsQuote, FitsBetween, IsShort, IsSpelledNumber}
 use Rattle.til_parser.proofs.texts.NumberTextLemmas.{read_on-below}

@@ -1,7 +1,6 @@
 -- What spells a tree shows its form.
-use Rattle.std.proofs.Common.{ℕ, ⊎_elim, List, [], ◌∷◌, Option, Some, None, subst, sym}
+use Rattle.std.proofs.Common.{⊎_elim, List, Option, Some, None, subst, sym}
 use Rattle.tydi_reading.specs.Lists.{EachIs}
-use Rattle.til_parser.specs.declared.tree.Ast.{Ast}
 use Rattle.til_parser.specs.declared.tree.AstBody.{AstBody}
 use Rattle.til_parser.specs.declared.tree.AstBody.TheVariants as bodies
 use Rattle.til_parser.specs.declared.tree.AstDecl.{AstDecl}
