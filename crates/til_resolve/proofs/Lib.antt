@@ -10,4 +10,7 @@ mod PortLemmas
 mod TwiceLemmas
 mod NameLemmas
 mod FirstLemmas
+mod TypeGraphLemmas
+mod RankLemmas
+mod CyclicLemmas
 mod Examples

@@ -16,16 +16,19 @@ ByWay Step from (next ∷ more) to = Step from next × ByWay Step next more to
 abbrev pub LeadsTo : {A : Type 0} → (A → A → Type 0) → A → A → Type 0
 LeadsTo {A} Step from to = (way : List A) × ByWay Step from way to
 
+-- the paths in the type of a type declaration
+abbrev pub paths_of_alias : AstKind → List AstPath
+paths_of_alias (decls.Alias ltype) = paths_in (plain ltype)
+paths_of_alias (decls.Interface listed) = []
+paths_of_alias (decls.Streamlet listed) = []
+paths_of_alias (decls.Impl target body) = []
+paths_of_alias (decls.Test target port value plan) = []
+
 -- a path in a type declaration names another; both by their numbers
-abbrev pub NamesType : List Declaration → ℕ → ℕ → Type 0
-NamesType all one other = of_kind (declaration all one).kind
-  where
-    of_kind : AstKind → Type 0
-    of_kind (decls.Alias ltype) = (path : AstPath) × Contains (paths_in (plain ltype)) path × (named_as is_type all (declaration all one).space path ≡ Some other)
-    of_kind (decls.Interface listed) = ⊥
-    of_kind (decls.Streamlet listed) = ⊥
-    of_kind (decls.Impl target body) = ⊥
-    of_kind (decls.Test target port value plan) = ⊥
+pub record NamesType (all : List Declaration) (one other : ℕ) : Type 0 where
+  pub path : AstPath
+  pub written : Contains (paths_of_alias (declaration all one).kind) path
+  pub names : named_as is_type all (declaration all one).space path ≡ Some other
 
 -- a type declaration leads to itself
 abbrev pub IsCyclicType : List Declaration → ℕ → Type 0

@@ -99,13 +99,14 @@ is_interface one = is_interface_kind one.kind
 abbrev pub is_streamlet : Declaration → Bool
 is_streamlet one = is_streamlet_kind one.kind
 
+-- a number, if its declaration is of this kind
+abbrev pub kept_as : (Declaration → Bool) → List Declaration → Option ℕ → Option ℕ
+kept_as is all None = None
+kept_as is all (Some number) = if is (declaration all number) then Some number else None
+
 -- the number of the declaration that a path names, if it is of this kind
 abbrev pub named_as : (Declaration → Bool) → List Declaration → List (List ℕ) → AstPath → Option ℕ
-named_as is all space path = kept (named all space path)
-  where
-    kept : Option ℕ → Option ℕ
-    kept None = None
-    kept (Some number) = if is (declaration all number) then Some number else None
+named_as is all space path = kept_as is all (named all space path)
 
 -- ---- ports
 

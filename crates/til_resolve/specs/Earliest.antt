@@ -1,5 +1,5 @@
 -- Of places in a text, the first. This project's own.
-use Rattle.std.specs.Prelude.{◌≤◌, nat_lt, Option, Some, None, MatchOption, if◌then◌else◌}
+use Rattle.std.specs.Prelude.{◌≤◌, nat_lt, nat_le, Bool, false, Option, Some, None, MatchOption, if◌then◌else◌}
 use Rattle.tydi_base.specs.declared.place.Place.{Place}
 
 -- a place is such a place, and none of the others stands before it
@@ -16,3 +16,8 @@ abbrev pub earlier : Option Place → Option Place → Option Place
 earlier None other = other
 earlier (Some first) None = Some first
 earlier (Some first) (Some second) = if nat_lt second.offset first.offset then Some second else Some first
+
+-- a place that was found stands no later than another
+abbrev pub stands_first : Option Place → Place → Bool
+stands_first None place = false
+stands_first (Some found) place = nat_le found.offset place.offset

@@ -58,9 +58,16 @@ is_stream (group parts) = false
 is_stream (union parts) = false
 is_stream (stream element user settings) = true
 
+-- a type declaration before a number that leads to itself, at its name
+pub record IsCyclicBefore (all : List Declaration) (end : ℕ) (place : Place) : Type 0 where
+  pub one : ℕ
+  pub within : one < end
+  pub at : (declaration all one).name.place ≡ place
+  pub leads : IsCyclicType all one
+
 -- a type declaration that leads to itself, at its name
 abbrev pub IsCyclicAtName : List Declaration → Place → Type 0
-IsCyclicAtName all place = (one : ℕ) × (one < length all) × ((declaration all one).name.place ≡ place) × IsCyclicType all one
+IsCyclicAtName all place = IsCyclicBefore all (length all) place
 
 -- an `impl` whose streamlet contains itself, at the path after `of`
 abbrev pub IsCyclicAt : List Declaration → Declaration → Place → Type 0

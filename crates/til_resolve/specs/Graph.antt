@@ -1,7 +1,9 @@
 -- Things that lead to one another, by their numbers. It serves the search for cycles, and no public clause.
-use Rattle.std.specs.Prelude.{◌≡◌, ℕ, ◌+◌, ◌<◌, ◌⊎◌, Bool, false, true, not, List, [], length, slice_index_or, Contains}
-use Rattle.std.specs.List.{count_by}
-use Rattle.til_resolve.specs.Cycles.{LeadsTo}
+use Rattle.std.specs.Prelude.{◌≡◌, ℕ, ◌+◌, ◌<◌, ◌≤◌, ◌⊎◌, Bool, false, true, not, List, [], ◌∷◌, length, slice_index_or, Contains}
+use Rattle.std.specs.List.{count_by, filter_map}
+use Rattle.til_parser.specs.declared.tree.AstPath.{AstPath}
+use Rattle.til_resolve.specs.Declarations.{Declaration, declaration, before, named_as, is_type}
+use Rattle.til_resolve.specs.Cycles.{LeadsTo, paths_of_alias}
 
 -- the numbers to which a number leads at once
 abbrev pub targets_of : List (List ℕ) → ℕ → List ℕ
@@ -38,3 +40,30 @@ pub record Searches (graph : List (List ℕ)) (start : ℕ) (reached : List Bool
   pub waits : (one : ℕ) → Contains waiting one → (one ≡ start) ⊎ IsReached reached one
   pub sound : (one : ℕ) → IsReached reached one → LeadsTo (Leads graph) start one
   pub closed : (one : ℕ) → (one ≡ start) ⊎ IsReached reached one → Contains waiting one ⊎ ((other : ℕ) → Leads graph one other → IsReached reached other)
+
+-- ---- ranks
+
+abbrev pub rank_of : List ℕ → ℕ → ℕ
+rank_of ranks one = slice_index_or ranks one 0
+
+-- what a number leads to at once has a lower rank
+abbrev pub Falls : List ℕ → List (List ℕ) → ℕ → Type 0
+Falls ranks graph one = (other : ℕ) → Leads graph one other → rank_of ranks other < rank_of ranks one
+
+-- nothing has a higher rank than what leads to it
+abbrev pub NeverRises : List ℕ → List (List ℕ) → Type 0
+NeverRises ranks graph = (one other : ℕ) → Leads graph one other → rank_of ranks other ≤ rank_of ranks one
+
+-- ---- the graph of types
+
+-- the types that paths in a namespace name, by their numbers
+abbrev pub types_named : List Declaration → List (List ℕ) → List AstPath → List ℕ
+types_named all space paths = filter_map (named_as is_type all space) paths
+
+-- the types that a type declaration names
+abbrev pub types_at : List Declaration → ℕ → List ℕ
+types_at all one = types_named all (declaration all one).space (paths_of_alias (declaration all one).kind)
+
+-- the same of the declarations before a number
+abbrev pub type_graph : List Declaration → ℕ → List (List ℕ)
+type_graph all end = before (λ one. types_at all one ∷ []) end

@@ -19,3 +19,13 @@ pub fn earlier(one: Option<Place>, other: Option<Place>) -> Option<Place>
         one
     }
 }
+
+/// Whether a place that was found stands no later than another.
+pub fn stands_first(found: Option<Place>, place: Place) -> bool
+    ensures { result ≡ spec.stands_first found place }
+{
+    match found {
+        Some(first) => first.offset <= place.offset,
+        None => false,
+    }
+}

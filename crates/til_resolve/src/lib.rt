@@ -4,6 +4,8 @@
 //! are the types, these definitions and the three look-ups. The crate stands on `til_parser` and `logical_types`.
 #![tactic(auto)]
 
+mod certificate;
+mod cyclic_types;
 mod declared;
 mod earliest;
 mod fault;
@@ -15,9 +17,11 @@ mod names;
 mod placing;
 mod ports;
 mod project;
+mod ranks;
 mod scope;
 mod search;
 mod twice;
+mod type_graph;
 
 pub use fault::ResolveFault;
 pub use project::{Impl, Instance, Link, LinkEnd, Port, Project, Streamlet, Test};

@@ -1,6 +1,6 @@
-use Rattle.std.proofs.Common.{◌≡◌, ◌<◌, ◌++◌, Bool, false, List, ℕ, [], ◌∷◌, get_or, length, Contains, subst, sym, ap, ◌∙◌, arith}
+use Rattle.std.proofs.Common.{◌≡◌, ◌<◌, false, List, ℕ, [], get_or, length, Contains, subst, sym, ◌∙◌, arith}
 use Rattle.std.proofs.lemmas.List.{get_or_read}
-use Rattle.std.proofs.lemmas.List.Elements.{Contains-push, Contains-get_or}
+use Rattle.std.proofs.lemmas.List.Elements.{Contains-get_or}
 use Rattle.til_resolve.specs.Graph.{Searches, Reaches, targets_of}
 use Rattle.til_resolve.proofs.GraphLemmas.{Searches-turn, Searches-end, taken-within}
 use Rattle.til_resolve.proofs.search.leads_to_itself.Goals as goal

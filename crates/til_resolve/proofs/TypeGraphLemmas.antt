@@ -1,0 +1,153 @@
+-- The graph of types says which type declaration names which.
+use Rattle.std.proofs.Common.{◌≡◌, ℕ, zero, suc, ◌+◌, ◌<◌, ◌≤◌, ◌⊎◌, inl, inr, List, [], ◌∷◌, ◌++◌, length, get_or, take, Bool, true, false, cond, Option, Some, None, IfSome, Contains, refl, sym, ap, subst, ◌∙◌, arith, length-append}
+use Rattle.std.specs.List.{flat_map, filter_map}
+use Rattle.std.proofs.lemmas.Bool.{cases_lt}
+use Rattle.std.proofs.lemmas.Grind.{flat_map-append}
+use Rattle.std.proofs.lemmas.List.{take_more, get_or_read}
+use Rattle.std.proofs.lemmas.List.Elements.{Contains-append_left, Contains-append_right, Contains-append_cases, Contains-push, filter_map-append}
+use Rattle.til_parser.specs.declared.ltype.AstPart.{AstPart}
+use Rattle.til_parser.specs.declared.tree.AstPath.{AstPath}
+use Rattle.til_parser.specs.Tree.{plain}
+use Rattle.til_resolve.specs.Cycles.{ByWay, LeadsTo, NamesType, IsCyclicType, paths_of_alias}
+use Rattle.til_resolve.specs.Declarations.{Declaration, declaration, named, named_as, first_of_path, meant, before, is_type, path_of, kept_as}
+use Rattle.til_resolve.specs.Graph.{targets_of, Leads, AreNumbers, Falls, NeverRises, rank_of, types_named, types_at, type_graph}
+use Rattle.til_resolve.specs.Names.{paths_in}
+use Rattle.til_resolve.specs.Sought.{paths_in_list}
+use Rattle.til_resolve.proofs.EarliestLemmas.{Contains-nil, Contains-one}
+use Rattle.til_resolve.specs.Paths.{is_same_path}
+use Rattle.til_resolve.proofs.AgainLemmas.{append_nil}
+use Rattle.til_resolve.proofs.ScopeLemmas.{position-within}
+
+-- ---- the types that paths name
+
+pub types_named-append : (all : List Declaration) (space : List (List ℕ)) (front back : List AstPath) → types_named all space (front ++ back) ≡ types_named all space front ++ types_named all space back
+types_named-append all space front back = filter_map-append (named_as is_type all space) front back
+
+-- the paths of one part more
+pub types_named-more : (all : List Declaration) (space : List (List ℕ)) (parts : List AstPart) (i : ℕ) (part : AstPart) → i < length parts → part ≡ get_or parts i part
+    → types_named all space (paths_in_list (take (i + 1) parts)) ≡ types_named all space (paths_in_list (take i parts)) ++ types_named all space (paths_in (plain part.ltype))
+types_named-more all space parts i part within is =
+    let paths : AstPart → List AstPath = λ one. paths_in (plain one.ltype) in
+    ap (λ (l : List AstPart). types_named all space (flat_map paths l)) (take_more parts i part within ∙ ap (λ (y : AstPart). take i parts ++ y ∷ []) (sym is))
+    ∙ ap (types_named all space) (flat_map-append paths (take i parts) (part ∷ []) ∙ ap (λ (l : List AstPath). flat_map paths (take i parts) ++ l) (append_nil (paths part)))
+    ∙ types_named-append all space (flat_map paths (take i parts)) (paths part)
+
+-- ---- a list of what stands at each number
+
+length-each : {A : Type 0} (of : ℕ → A) (n : ℕ) → length (before (λ one. of one ∷ []) n) ≡ n
+length-each of zero = refl
+length-each of (suc n) = length-append (before (λ one. of one ∷ []) n) (of n ∷ []) ∙ ap (λ k. k + 1) (length-each of n) ∙ omega arith
+
+at_front : {A : Type 0} (front back : List A) (k : ℕ) (d : A) → k < length front → get_or (front ++ back) k d ≡ get_or front k d
+at_front [] back k d within = absurd (omega (arith, within))
+at_front (x ∷ xs) back zero d within = refl
+at_front (x ∷ xs) back (suc k) d within = at_front xs back k d (omega arith)
+
+at_end : {A : Type 0} (front : List A) (x d : A) → get_or (front ++ x ∷ []) (length front) d ≡ x
+at_end [] x d = refl
+at_end (y ∷ ys) x d = at_end ys x d
+
+each-at : {A : Type 0} (of : ℕ → A) (n k : ℕ) (d : A) → k < n → get_or (before (λ one. of one ∷ []) n) k d ≡ of k
+each-at of zero k d within = absurd (omega (arith, within))
+each-at {A} of (suc n) k d within = by (cases_lt k n) (each-at of n k d)
+  where
+    by : (k < n) ⊎ (n ≤ k) → (k < n → get_or (before (λ one. of one ∷ []) n) k d ≡ of k) → get_or (before (λ one. of one ∷ []) n ++ of n ∷ []) k d ≡ of k
+    by (inl below) inside = at_front (before (λ one. of one ∷ []) n) (of n ∷ []) k d (omega (arith, below, length-each of n)) ∙ inside below
+    by (inr above) inside =
+        let same : k ≡ length (before (λ one. of one ∷ []) n) = omega (arith, above, within, length-each of n) in
+        let number : k ≡ n = omega (arith, above, within) in
+        ap (λ i. get_or (before (λ one. of one ∷ []) n ++ of n ∷ []) i d) same ∙ at_end (before (λ one. of one ∷ []) n) (of n) d ∙ ap of (sym number)
+
+pub length-type_graph : (all : List Declaration) → length (type_graph all (length all)) ≡ length all
+length-type_graph all = length-each (types_at all) (length all)
+
+-- ---- steps of the graph
+
+-- a number that a list of paths names
+named-by : (f : AstPath → Option ℕ) (paths : List AstPath) (target : ℕ) → Contains (filter_map f paths) target → (path : AstPath) × Contains paths path × (f path ≡ Some target)
+named-by f [] target there = absurd (Contains-nil target there)
+named-by f (x ∷ xs) target there = by (f x) refl there (named-by f xs target)
+  where
+    further : (path : AstPath) × Contains xs path × (f path ≡ Some target) → (path : AstPath) × Contains (x ∷ xs) path × (f path ≡ Some target)
+    further found = (found.0, Contains-append_right (x ∷ []) xs found.0 found.1, found.2)
+
+    either : (y : ℕ) → f x ≡ Some y → Contains (y ∷ []) target ⊎ Contains (filter_map f xs) target → (Contains (filter_map f xs) target → (path : AstPath) × Contains xs path × (f path ≡ Some target))
+        → (path : AstPath) × Contains (x ∷ xs) path × (f path ≡ Some target)
+    either y is (inl here) rest = (x, Contains-append_left (x ∷ []) xs x (Contains-push [] x), is ∙ ap (λ (n : ℕ). Some n) (Contains-one y target here))
+    either y is (inr later) rest = further (rest later)
+
+    by : (o : Option ℕ) → f x ≡ o → Contains (filter_map f (x ∷ xs)) target → (Contains (filter_map f xs) target → (path : AstPath) × Contains xs path × (f path ≡ Some target))
+        → (path : AstPath) × Contains (x ∷ xs) path × (f path ≡ Some target)
+    by None is there rest = further (rest (subst (λ (l : List ℕ). Contains l target) (skipped is) there))
+      where
+        skipped : f x ≡ None → filter_map f (x ∷ xs) ≡ filter_map f xs
+        skipped none = rw none refl
+    by (Some y) is there rest = either y is (Contains-append_cases (y ∷ []) (filter_map f xs) target (subst (λ (l : List ℕ). Contains l target) (kept is) there)) rest
+      where
+        kept : f x ≡ Some y → filter_map f (x ∷ xs) ≡ y ∷ filter_map f xs
+        kept some = rw some refl
+
+names-in : (f : AstPath → Option ℕ) (paths : List AstPath) (path : AstPath) (target : ℕ) → Contains paths path → f path ≡ Some target → Contains (filter_map f paths) target
+names-in f [] path target there is = absurd (Contains-nil path there)
+names-in f (x ∷ xs) path target there is =
+    subst (λ (l : List ℕ). Contains l target) (sym (filter_map-append f (x ∷ []) xs)) (by (Contains-append_cases (x ∷ []) xs path there) (λ later. names-in f xs path target later is))
+  where
+    only : filter_map f (path ∷ []) ≡ target ∷ []
+    only = rw is refl
+
+    by : Contains (x ∷ []) path ⊎ Contains xs path → (Contains xs path → Contains (filter_map f xs) target) → Contains (filter_map f (x ∷ []) ++ filter_map f xs) target
+    by (inl here) rest = Contains-append_left (filter_map f (x ∷ [])) (filter_map f xs) target
+        (subst (λ (l : List ℕ). Contains l target) (sym (ap (λ (y : AstPath). filter_map f (y ∷ [])) (Contains-one x path here) ∙ only)) (Contains-push [] target))
+    by (inr later) rest = Contains-append_right (filter_map f (x ∷ [])) (filter_map f xs) target (rest later)
+
+past : {A : Type 0} (xs : List A) (k : ℕ) (d : A) → length xs ≤ k → get_or xs k d ≡ d
+past [] k d done = refl
+past (x ∷ xs) zero d done = absurd (omega (arith, done))
+past (x ∷ xs) (suc k) d done = past xs k d (omega arith)
+
+pub NamesType-Leads : (all : List Declaration) (one other : ℕ) → Leads (type_graph all (length all)) one other → NamesType all one other
+NamesType-Leads all one other step = by (cases_lt one (length all))
+  where
+    made : (path : AstPath) × Contains (paths_of_alias (declaration all one).kind) path × (named_as is_type all (declaration all one).space path ≡ Some other) → NamesType all one other
+    made found = record { path = found.0; written = found.1; names = found.2 }
+
+    by : (one < length all) ⊎ (length all ≤ one) → NamesType all one other
+    by (inl within) = made (named-by (named_as is_type all (declaration all one).space) (paths_of_alias (declaration all one).kind) other
+        (subst (λ (l : List ℕ). Contains l other) (each-at (types_at all) (length all) one [] within) step))
+    by (inr above) = absurd (Contains-nil other (subst (λ (l : List ℕ). Contains l other) (past (type_graph all (length all)) one [] (omega (arith, above, length-type_graph all))) step))
+
+pub Leads-NamesType : (all : List Declaration) (one other : ℕ) → NamesType all one other → Leads (type_graph all (length all)) one other
+Leads-NamesType all one other step = by (cases_lt one (length all))
+  where
+    by : (one < length all) ⊎ (length all ≤ one) → Leads (type_graph all (length all)) one other
+    by (inl within) = subst (λ (l : List ℕ). Contains l other) (sym (each-at (types_at all) (length all) one [] within))
+        (names-in (named_as is_type all (declaration all one).space) (paths_of_alias (declaration all one).kind) step.path other step.written step.names)
+    by (inr above) = absurd (Contains-nil step.path (subst (λ (d : Declaration). Contains (paths_of_alias d.kind) step.path) (past all one (declaration [] 0) above) step.written))
+
+-- what a path names is a declaration
+named-within : (all : List Declaration) (space : List (List ℕ)) (path : AstPath) (n : ℕ) → named_as is_type all space path ≡ Some n → n < length all
+named-within all space path n is = by (named all space path) (position-within (λ one. is_same_path (path_of one) (meant space path)) all) is
+  where
+    by : (o : Option ℕ) → IfSome o (λ k. k < length all) → kept_as is_type all o ≡ Some n → n < length all
+    by None within same = cc
+    by (Some k) within same = tested (is_type (declaration all k)) same
+      where
+        tested : (b : Bool) → cond b (Some k) None ≡ Some n → n < length all
+        tested true e = let same_number : k ≡ n = cc in subst (λ (i : ℕ). i < length all) same_number within
+        tested false e = cc
+
+pub AreNumbers-type_graph : (all : List Declaration) → AreNumbers (type_graph all (length all))
+AreNumbers-type_graph all = record { within = λ one other step. within one other (NamesType-Leads all one other step) }
+  where
+    within : (one other : ℕ) → NamesType all one other → other < length (type_graph all (length all))
+    within one other step = omega (arith, length-type_graph all, named-within all (declaration all one).space step.path other step.names)
+
+ByWay-map : {A : Type 0} (Step Other : A → A → Type 0) → ((x y : A) → Step x y → Other x y) → (from to : A) (way : List A) → ByWay Step from way to → ByWay Other from way to
+ByWay-map Step Other each from to [] step = each from to step
+ByWay-map Step Other each from to (next ∷ more) step = (each from next step.0, ByWay-map Step Other each next to more step.1)
+
+pub cyclic-there : (all : List Declaration) (one : ℕ) → LeadsTo (Leads (type_graph all (length all))) one one → IsCyclicType all one
+cyclic-there all one way = (way.0, ByWay-map (Leads (type_graph all (length all))) (NamesType all) (NamesType-Leads all) one one way.0 way.1)
+
+pub cyclic-back : (all : List Declaration) (one : ℕ) → IsCyclicType all one → LeadsTo (Leads (type_graph all (length all))) one one
+cyclic-back all one way = (way.0, ByWay-map (NamesType all) (Leads (type_graph all (length all))) (Leads-NamesType all) one one way.0 way.1)
