@@ -4,6 +4,7 @@
 //! `physical_stream`.
 #![tactic(auto)]
 
+mod carried;
 mod clash;
 mod fault;
 mod found;
@@ -13,6 +14,7 @@ mod splitting;
 mod streams;
 mod whole;
 
+pub use carried::uncarried;
 pub use fault::SplitFault;
 pub use split::{Node, Phys, Split};
 pub use whole::split_type;
