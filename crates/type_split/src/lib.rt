@@ -4,15 +4,21 @@
 //! `physical_stream`.
 #![tactic(auto)]
 
+mod carried;
 mod clash;
+mod counts;
 mod fault;
 mod found;
 mod place;
 mod split;
 mod splitting;
 mod streams;
+#[cfg(test)]
+mod tests;
 mod whole;
 
+pub use carried::uncarried;
+pub use counts::number_of_streams;
 pub use fault::SplitFault;
 pub use split::{Node, Phys, Split};
 pub use whole::split_type;
