@@ -253,9 +253,6 @@ module _ {Y : Type 0} (bytes line : List ℕ) (plain : Lacks 10 line) (cycles : 
 -- ---- the rows
 
 module _ (t : TraceText) where
-  owed_rows : List Parameters
-  owed_rows = owed (params_of_heads t.heads) t.cycles
-
   front-row : (cycle : Cycle) (read : Result (List Cycle) TraceFault)
       → ◌≡◌ {A = Result TraceText TraceFault} ((read >>= λ cycles. Ok (cycle ∷ cycles)) >>= λ rows. Ok (record { cycles = t.cycles; heads = t.heads; rows = t.rows ++ rows }))
       (read >>= λ rows. Ok (record { cycles = t.cycles; heads = t.heads; rows = (t.rows ++ cycle ∷ []) ++ rows }))

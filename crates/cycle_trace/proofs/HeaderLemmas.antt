@@ -62,9 +62,6 @@ heads_from-other number paths line (next ∷ lines) some e = rw e refl
 
 -- ---- one stream line
 
-can_stand : (few met : Bool) (head : Head) → few ≡ true → met ≡ false → ◌≡◌ {A = Result Head (Unit {0})} (if few && not met then Ok head else Err tt) (Ok head)
-can_stand few met head e f = rw (e, f) refl
-
 module _ (texts : List (List ℕ)) (line : List ℕ) where
   pub head_after-fails : (fault : Option (Unit {0})) → MatchOption fault (Unit {0}) (λ d. head_of line ≡ Err d) → MatchOption fault (Unit {0}) (λ d. head_after texts line ≡ Err d)
   unfolding head_after

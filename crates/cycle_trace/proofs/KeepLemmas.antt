@@ -13,7 +13,7 @@ use Rattle.physical_stream.specs.declared.head.Head.{Head}
 use Rattle.physical_stream.specs.declared.head.Header.{Header}
 use Rattle.cycle_trace.specs.Trace.{TraceText, IsTrace, cycle_of, cycles_of, owed, params_of_heads, text_of}
 use Rattle.cycle_trace.specs.KeepView.{IsBegun}
-use Rattle.cycle_trace.specs.RowSink.{CanTake, IsHeader, begun_by, with_row}
+use Rattle.cycle_trace.specs.RowSink.{CanTake, with_row}
 use Rattle.cycle_trace.specs.declared.own_row.OwnRow.{OwnRow}
 use Rattle.cycle_trace.proofs.PartsLemmas.{slice_get-front, slice_get-next, slice_get-there}
 use Rattle.cycle_trace.proofs.RowsLemmas.{length-owed}
@@ -21,9 +21,6 @@ use Rattle.cycle_trace.proofs.RowsLemmas.{length-owed}
 -- how many rows a header asks for
 pub length-owed_heads : (t : TraceText) → length (owed (params_of_heads t.heads) t.cycles) ≡ t.cycles * length t.heads
 length-owed_heads t = length-owed (params_of_heads t.heads) t.cycles ∙ ap (λ (n : ℕ). t.cycles * n) (length-map t.heads (λ (head : Head). head.params))
-
-pub IsBegun-none : (header : Header) → IsHeader header → IsBegun (begun_by header)
-IsBegun-none header h = record { few_cycles = h.few_cycles; streams = h.streams; within = omega arith; each = λ i p row shown turn here is. absurd cc }
 
 pub IsBegun-more : (t : TraceText) (row : Cycle) → IsBegun t → CanTake t row → IsBegun (with_row t row)
 IsBegun-more t row h can = record {

@@ -77,13 +77,6 @@ header_line stages.Heads room begun line is h = h
 header_line stages.Rows room begun line is h = absurd is
 header_line (stages.Failed fault) room begun line is h = absurd is
 
-pub header_holds : (stage : Stage) (room : ℕ) (begun : LineBegun) (line : List ℕ) → IsInHeader stage → Begins begun line → begun.long ≡ None → HoldsLine stage room begun line
-header_holds stages.Title room begun line is begins whole = (begins, whole)
-header_holds stages.Cycles room begun line is begins whole = (begins, whole)
-header_holds stages.Heads room begun line is begins whole = (begins, whole)
-header_holds stages.Rows room begun line is begins whole = absurd is
-header_holds (stages.Failed fault) room begun line is begins whole = absurd is
-
 -- no line is begun
 pub holds_none : (stage : Stage) (room : ℕ) (begun : LineBegun) → Begins begun [] → begun.long ≡ None → (stage ≡ stages.Rows → begun.room ≡ room) → HoldsLine stage room begun []
 holds_none stages.Title room begun begins whole same = (begins, whole)

@@ -1,9 +1,8 @@
 -- How far the rows of a text are read.
-use Rattle.std.proofs.Common.{◌≡◌, ◌≢◌, ◌↔◌, IsTrue, ◌∙◌, ℕ, zero, suc, ◌+◌, ◌*◌, ◌<◌, ◌≤◌, Bool, true, false, ◌==◌, ◌&&◌, if◌then◌else◌, nat_le, inl, inr, ◌⊎◌, List, [], ◌∷◌, ◌++◌, length, map, take, get_or, Option, Some, None, Result, Ok, Err, MatchOption, IfSome, refl, sym, ap, subst, arith}
+use Rattle.std.proofs.Common.{◌≡◌, ◌≢◌, ◌↔◌, IsTrue, ◌∙◌, ℕ, zero, suc, ◌+◌, ◌*◌, ◌<◌, ◌≤◌, false, ◌==◌, if◌then◌else◌, inl, inr, ◌⊎◌, List, [], ◌∷◌, ◌++◌, length, map, take, get_or, Option, Some, None, Result, Ok, Err, MatchOption, IfSome, refl, sym, ap, subst, arith}
 use Rattle.std.specs.List.{slice_get}
 use Rattle.std.specs.Option.{option_map}
 use Rattle.std.proofs.Math.ListN.{set}
-use Rattle.std.proofs.lemmas.Bool.Decides.{nat_tests}
 use Rattle.std.proofs.lemmas.Bool.{cases_lt}
 use Rattle.std.proofs.lemmas.List.{length-append, length-map, length-take-le, take_more}
 use Rattle.std.proofs.lemmas.Option.{slice_get_within, slice_get-map, slice_get-get_or}
@@ -24,20 +23,13 @@ use Rattle.cycle_trace.specs.RowSink.{CanTake, with_row}
 use Rattle.cycle_trace.specs.Beginnings.{Fails, GoesOnLine}
 use Rattle.cycle_trace.specs.RowLayout.{row_room}
 use Rattle.cycle_trace.specs.RowText.{row_at, row_fault}
-use Rattle.cycle_trace.specs.Trace.{TraceText, are_heads, owed, params_of_heads}
+use Rattle.cycle_trace.specs.Trace.{TraceText, owed, params_of_heads}
 use Rattle.cycle_trace.proofs.KeepLemmas.{length-owed_heads}
 use Rattle.cycle_trace.proofs.RowSpelling.{row_at-some}
 use Rattle.cycle_trace.proofs.BeginningLemmas.{IsFault-row, row-fails}
 use Rattle.cycle_trace.proofs.PartsLemmas.{slice_get-front, slice_get-next, slice_get-there}
 use Rattle.cycle_trace.proofs.RowLengthLemmas.{row_at-long}
 use Rattle.cycle_trace.proofs.SurveyorLemmas.{has_turn, next_row, slice_get-set_same}
-
-both_true : (a b : Bool) → (a && b) ≡ true → a ≡ true
-both_true true b e = refl
-both_true false b e = absurd cc
-
-pub few_heads : (heads : List Head) → are_heads heads ≡ true → length heads ≤ 65536
-few_heads heads stand = let few = both_true (nat_le (length heads) 65536) _ stand in grind (arith, nat_tests)
 
 -- the parameters stay where a row is read
 abbrev pub params_of_rows : List StreamRows → List Parameters
