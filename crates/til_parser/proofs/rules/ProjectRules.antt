@@ -29,7 +29,8 @@ use Rattle.til_parser.specs.Reading.{same_kind, is_kind, expect, expect_word}
 use Rattle.til_parser.specs.ReadTypes.{name, path, doc}
 use Rattle.til_parser.specs.ReadDecls.{braced, keyword, kind_of, named_kind, decl, namespace, project_of, project}
 use Rattle.til_parser.proofs.rules.BodyRules.{front-tells}
-use Rattle.til_parser.proofs.rules.DeclRules.{doc_tells, keyword_word, keyword_for, kind_parts, kind_of_parts, KindForm, RestTo, keyword-rule, kind-rule_of}
+use Rattle.til_parser.proofs.rules.PortRules.{doc_tells}
+use Rattle.til_parser.proofs.rules.DeclRules.{keyword_word, keyword_for, kind_parts, kind_of_parts, KindForm, RestTo, keyword-rule, kind-rule_of}
 use Rattle.til_parser.proofs.rules.LeafRules.{PathNext, NoDoc, name-rule, path-rule, doc-rule}
 use Rattle.til_parser.proofs.rules.ListRules.{Braces, braced-rule, Of-path}
 use Rattle.til_parser.proofs.rules.TokenRules.{kind-rule, word-rule, Word-not}

@@ -11,12 +11,15 @@ use Rattle.til_parser.specs.Lexemes.{Lexeme, IsFormed}
 use Rattle.til_parser.specs.Nesting.{SpellsPart, PartTo, TypeTo, PortTo, DeclTo, NamespaceTo}
 use Rattle.til_parser.specs.ReadTypes.{name, ltype, part, argument}
 use Rattle.til_parser.specs.ReadDecls.{port, stmt, decl, namespace}
-use Rattle.til_parser.proofs.rules.ArgumentRules.{word, Spelled, Step, StepWithin, StepDeep, step-rule}
+use Rattle.til_parser.proofs.rules.AwaitedRules.{word, Spelled}
+use Rattle.til_parser.proofs.rules.ArgumentRules.{Step, StepWithin, StepDeep, step-rule}
 use Rattle.til_parser.proofs.rules.BodyRules.{Name-filled, stmt-rule, stmt-filled}
-use Rattle.til_parser.proofs.rules.DeclRules.{port-rule, port-lists}
+use Rattle.til_parser.proofs.rules.PortRules.{port-rule, port-lists}
 use Rattle.til_parser.proofs.rules.LeafRules.{PathNext, name-rule}
 use Rattle.til_parser.proofs.rules.ProjectRules.{decl-rule, decl-filled, namespace-rule, namespace-filled}
-use Rattle.til_parser.proofs.rules.TypeRules.{S, Fits, part-rule, part-lists, ltype-rule}
+use Rattle.til_parser.proofs.rules.PartRules.{S, part-rule, part-lists}
+use Rattle.til_parser.proofs.rules.TypeRules.{Fits}
+use Rattle.til_parser.proofs.rules.LevelRules.{ltype-rule}
 
 pub Shrinks-name : Shrinks name
 Shrinks-name = shrinks-rule IsFormed name Name (λ _. Anything) (λ _. Unit {0}) Never Name-filled name-rule

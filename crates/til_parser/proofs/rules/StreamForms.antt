@@ -19,7 +19,7 @@ use Rattle.til_parser.specs.ReadTypes.{none_given, filled, stream_of}
 use Rattle.til_parser.specs.Tree.{plain, settings_of}
 use Rattle.til_parser.proofs.rules.ArgumentFields.{Value, value, field, put, field-put, field-put_other, field-none_given, value-filled, IsDefault-filled}
 use Rattle.til_parser.proofs.rules.ArgumentFields.{IsGivenOr, stream_of-given, Contains-none, Contains-first, Contains-more, Contains-cases, give, field-give}
-use Rattle.til_parser.proofs.rules.ArgumentRules.{Named}
+use Rattle.til_parser.proofs.rules.AwaitedRules.{Named}
 use Rattle.til_parser.proofs.rules.LeafRules.{PathNext}
 use Rattle.til_parser.proofs.rules.TokenRules.{made, one}
 use Rattle.til_parser.proofs.rules.StreamSteps.{S, GivenOf, Named-given, Given-named, ArgumentsOf, Commas-map, commas_more, map_some, map_none, data_null, good_null, null_named}

@@ -19,7 +19,8 @@ use Rattle.til_parser.specs.Nesting.{ValueTo, ArgumentsTo}
 use Rattle.til_parser.specs.ReadTypes.{none_given, filled}
 use Rattle.til_parser.proofs.rules.ArgumentFields.{value, field, put, field-put_other, field-none_given, value-filled_any}
 use Rattle.til_parser.proofs.rules.ArgumentFields.{Contains-none, Contains-first, Contains-more, Contains-cases}
-use Rattle.til_parser.proofs.rules.ArgumentRules.{word, Named, ValueDeep, StepDeep}
+use Rattle.til_parser.proofs.rules.AwaitedRules.{word, Named}
+use Rattle.til_parser.proofs.rules.ArgumentRules.{ValueDeep, StepDeep}
 use Rattle.til_parser.proofs.rules.LeafRules.{PathNext}
 use Rattle.til_parser.proofs.rules.StreamSteps.{S, GivenOf, Given-named}
 use Rattle.til_parser.proofs.rules.StreamSteps as steps

@@ -22,7 +22,8 @@ use Rattle.til_parser.specs.ReadTypes.{none_given, filled, argument, arguments}
 use Rattle.til_parser.specs.Tree.{plain, settings_of}
 use Rattle.til_parser.proofs.rules.ArgumentFields.{Value, value, field, put, field-put_other, field-none_given, one_or_two, IsDefault-filled}
 use Rattle.til_parser.proofs.rules.ArgumentFields.{Contains-none, Contains-first}
-use Rattle.til_parser.proofs.rules.ArgumentRules.{word, Spelled, Named, ValueDeep, In, Step, StepWithin, StepDeep, step-rule}
+use Rattle.til_parser.proofs.rules.AwaitedRules.{word, Spelled, Named}
+use Rattle.til_parser.proofs.rules.ArgumentRules.{ValueDeep, In, Step, StepWithin, StepDeep, step-rule}
 use Rattle.til_parser.proofs.rules.LeafRules.{PathNext}
 use Rattle.til_parser.proofs.rules.ListRules.{kind-not, kind-path}
 use Rattle.til_parser.proofs.PlainLemmas.{plain-Null}
