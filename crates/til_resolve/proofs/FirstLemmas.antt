@@ -12,6 +12,10 @@ use Rattle.til_resolve.specs.Names.{twice, unknown, wrong_kinds, refused, is_wro
 use Rattle.til_resolve.specs.Sought.{all_refused, refused_at, first_of_both}
 use Rattle.til_resolve.proofs.AgainLemmas.{append_nil}
 
+-- a fault that is told of those up to a place in the order is told of those up to any later place
+pub told-further : (all : List Declaration) (order further : ℕ) (fault : ResolveFault) → IsToldUpTo all order (Some fault) → IsToldUpTo all further (Some fault)
+told-further all order further fault is = record { told = is.told }
+
 -- ---- what is declared twice
 
 pub told-twice : (all : List Declaration) (place : Place) → IsEarliest (Contains (twice all)) (Some place) → IsToldUpTo all 2 (Some (faults.DeclaredTwice place))

@@ -12,5 +12,6 @@ mod NameLemmas
 mod FirstLemmas
 mod TypeGraphLemmas
 mod RankLemmas
-mod CyclicLemmas
+mod ContainmentLemmas
+mod BelowLemmas
 mod Examples

@@ -64,7 +64,7 @@ length-type_graph all = length-each (types_at all) (length all)
 -- ---- steps of the graph
 
 -- a number that a list of paths names
-named-by : (f : AstPath → Option ℕ) (paths : List AstPath) (target : ℕ) → Contains (filter_map f paths) target → (path : AstPath) × Contains paths path × (f path ≡ Some target)
+pub named-by : (f : AstPath → Option ℕ) (paths : List AstPath) (target : ℕ) → Contains (filter_map f paths) target → (path : AstPath) × Contains paths path × (f path ≡ Some target)
 named-by f [] target there = absurd (Contains-nil target there)
 named-by f (x ∷ xs) target there = by (f x) refl there (named-by f xs target)
   where
@@ -87,7 +87,7 @@ named-by f (x ∷ xs) target there = by (f x) refl there (named-by f xs target)
         kept : f x ≡ Some y → filter_map f (x ∷ xs) ≡ y ∷ filter_map f xs
         kept some = rw some refl
 
-names-in : (f : AstPath → Option ℕ) (paths : List AstPath) (path : AstPath) (target : ℕ) → Contains paths path → f path ≡ Some target → Contains (filter_map f paths) target
+pub names-in : (f : AstPath → Option ℕ) (paths : List AstPath) (path : AstPath) (target : ℕ) → Contains paths path → f path ≡ Some target → Contains (filter_map f paths) target
 names-in f [] path target there is = absurd (Contains-nil path there)
 names-in f (x ∷ xs) path target there is =
     subst (λ (l : List ℕ). Contains l target) (sym (filter_map-append f (x ∷ []) xs)) (by (Contains-append_cases (x ∷ []) xs path there) (λ later. names-in f xs path target later is))
@@ -100,7 +100,7 @@ names-in f (x ∷ xs) path target there is =
         (subst (λ (l : List ℕ). Contains l target) (sym (ap (λ (y : AstPath). filter_map f (y ∷ [])) (Contains-one x path here) ∙ only)) (Contains-push [] target))
     by (inr later) rest = Contains-append_right (filter_map f (x ∷ [])) (filter_map f xs) target (rest later)
 
-past : {A : Type 0} (xs : List A) (k : ℕ) (d : A) → length xs ≤ k → get_or xs k d ≡ d
+pub past : {A : Type 0} (xs : List A) (k : ℕ) (d : A) → length xs ≤ k → get_or xs k d ≡ d
 past [] k d done = refl
 past (x ∷ xs) zero d done = absurd (omega (arith, done))
 past (x ∷ xs) (suc k) d done = past xs k d (omega arith)
@@ -125,12 +125,12 @@ Leads-NamesType all one other step = by (cases_lt one (length all))
     by (inr above) = absurd (Contains-nil step.path (subst (λ (d : Declaration). Contains (paths_of_alias d.kind) step.path) (past all one (declaration [] 0) above) step.written))
 
 -- what a path names is a declaration
-named-within : (all : List Declaration) (space : List (List ℕ)) (path : AstPath) (n : ℕ) → named_as is_type all space path ≡ Some n → n < length all
-named-within all space path n is = by (named all space path) (position-within (λ one. is_same_path (path_of one) (meant space path)) all) is
+pub named-within : (asks : Declaration → Bool) (all : List Declaration) (space : List (List ℕ)) (path : AstPath) (n : ℕ) → named_as asks all space path ≡ Some n → n < length all
+named-within asks all space path n is = by (named all space path) (position-within (λ one. is_same_path (path_of one) (meant space path)) all) is
   where
-    by : (o : Option ℕ) → IfSome o (λ k. k < length all) → kept_as is_type all o ≡ Some n → n < length all
+    by : (o : Option ℕ) → IfSome o (λ k. k < length all) → kept_as asks all o ≡ Some n → n < length all
     by None within same = cc
-    by (Some k) within same = tested (is_type (declaration all k)) same
+    by (Some k) within same = tested (asks (declaration all k)) same
       where
         tested : (b : Bool) → cond b (Some k) None ≡ Some n → n < length all
         tested true e = let same_number : k ≡ n = cc in subst (λ (i : ℕ). i < length all) same_number within
@@ -140,9 +140,9 @@ pub AreNumbers-type_graph : (all : List Declaration) → AreNumbers (type_graph 
 AreNumbers-type_graph all = record { within = λ one other step. within one other (NamesType-Leads all one other step) }
   where
     within : (one other : ℕ) → NamesType all one other → other < length (type_graph all (length all))
-    within one other step = omega (arith, length-type_graph all, named-within all (declaration all one).space step.path other step.names)
+    within one other step = omega (arith, length-type_graph all, named-within is_type all (declaration all one).space step.path other step.names)
 
-ByWay-map : {A : Type 0} (Step Other : A → A → Type 0) → ((x y : A) → Step x y → Other x y) → (from to : A) (way : List A) → ByWay Step from way to → ByWay Other from way to
+pub ByWay-map : {A : Type 0} (Step Other : A → A → Type 0) → ((x y : A) → Step x y → Other x y) → (from to : A) (way : List A) → ByWay Step from way to → ByWay Other from way to
 ByWay-map Step Other each from to [] step = each from to step
 ByWay-map Step Other each from to (next ∷ more) step = (each from next step.0, ByWay-map Step Other each next to more step.1)
 

@@ -1,12 +1,11 @@
 -- Types that lead to themselves, and streamlets that contain themselves. This project's own.
-use Rattle.std.specs.Prelude.{◌≡◌, ℕ, List, [], ◌∷◌, Contains, Some}
-use Rattle.til_parser.specs.declared.tree.AstBody.{AstBody}
+use Rattle.std.specs.Prelude.{◌≡◌, ◌<◌, ℕ, List, [], ◌∷◌, map, length, Contains, Some}
 use Rattle.til_parser.specs.declared.tree.AstKind.{AstKind}
 use Rattle.til_parser.specs.declared.tree.AstKind.TheVariants as decls
 use Rattle.til_parser.specs.declared.tree.AstPath.{AstPath}
 use Rattle.til_parser.specs.Tree.{plain}
 use Rattle.til_resolve.specs.Declarations.{Declaration, declaration, named_as, is_type, is_streamlet}
-use Rattle.til_resolve.specs.Names.{paths_in, WrittenInstance, instances_of}
+use Rattle.til_resolve.specs.Names.{paths_in, implements, instances_of}
 
 -- one leads to another by a way of steps: at once, or through those on the way
 abbrev pub ByWay : {A : Type 0} → (A → A → Type 0) → A → List A → A → Type 0
@@ -34,29 +33,19 @@ pub record NamesType (all : List Declaration) (one other : ℕ) : Type 0 where
 abbrev pub IsCyclicType : List Declaration → ℕ → Type 0
 IsCyclicType all one = LeadsTo (NamesType all) one one
 
--- an `impl` of the one streamlet has an instance of the other
-pub record HasInstance (all : List Declaration) (one other : ℕ) (implementation : Declaration) (target : AstPath) (body : AstBody) : Type 0 where
-  pub implements : named_as is_streamlet all implementation.space target ≡ Some one
-  pub instance : WrittenInstance
-  pub written : Contains (instances_of body) instance
-  pub names : named_as is_streamlet all implementation.space instance.streamlet ≡ Some other
+-- the paths after the instances of an `impl`
+abbrev pub paths_of_instances : AstKind → List AstPath
+paths_of_instances (decls.Alias ltype) = []
+paths_of_instances (decls.Interface listed) = []
+paths_of_instances (decls.Streamlet listed) = []
+paths_of_instances (decls.Impl target body) = map (λ one. one.streamlet) (instances_of body)
+paths_of_instances (decls.Test target port value plan) = []
 
--- a declaration is an `impl` of the one streamlet, with an instance of the other
-abbrev pub PutsInside : List Declaration → ℕ → ℕ → Declaration → Type 0
-PutsInside all one other implementation = of_kind implementation.kind
-  where
-    of_kind : AstKind → Type 0
-    of_kind (decls.Alias ltype) = ⊥
-    of_kind (decls.Interface listed) = ⊥
-    of_kind (decls.Streamlet listed) = ⊥
-    of_kind (decls.Impl target body) = HasInstance all one other implementation target body
-    of_kind (decls.Test target port value plan) = ⊥
-
--- a streamlet contains another as an instance
-abbrev pub ContainsStreamlet : List Declaration → ℕ → ℕ → Type 0
-ContainsStreamlet all one other = (implementation : Declaration) × Contains all implementation × PutsInside all one other implementation
-
--- an `impl` with this path after `of` is of a streamlet that contains itself
-abbrev pub IsCyclicImpl : List Declaration → Declaration → AstPath → Type 0
-IsCyclicImpl all implementation target =
-    (streamlet : ℕ) × (named_as is_streamlet all implementation.space target ≡ Some streamlet) × LeadsTo (ContainsStreamlet all) streamlet streamlet
+-- an `impl` of the one streamlet has an instance of the other; all by their numbers
+pub record ContainsStreamlet (all : List Declaration) (one other : ℕ) : Type 0 where
+  pub implementation : ℕ
+  pub within : implementation < length all
+  pub implements : implements all (declaration all implementation) ≡ Some one
+  pub path : AstPath
+  pub written : Contains (paths_of_instances (declaration all implementation).kind) path
+  pub names : named_as is_streamlet all (declaration all implementation).space path ≡ Some other

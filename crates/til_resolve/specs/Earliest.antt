@@ -1,5 +1,5 @@
 -- Of places in a text, the first. This project's own.
-use Rattle.std.specs.Prelude.{◌≤◌, nat_lt, nat_le, Bool, false, Option, Some, None, MatchOption, if◌then◌else◌}
+use Rattle.std.specs.Prelude.{ℕ, ◌<◌, ◌≤◌, nat_lt, nat_le, Bool, false, Option, Some, None, MatchOption, if◌then◌else◌}
 use Rattle.tydi_base.specs.declared.place.Place.{Place}
 
 -- a place is such a place, and none of the others stands before it
@@ -21,3 +21,9 @@ earlier (Some first) (Some second) = if nat_lt second.offset first.offset then S
 abbrev pub stands_first : Option Place → Place → Bool
 stands_first None place = false
 stands_first (Some found) place = nat_le found.offset place.offset
+
+-- such a place at one of the numbers below an end
+pub record IsBelow (At : ℕ → Place → Type 0) (end : ℕ) (place : Place) : Type 0 where
+  pub one : ℕ
+  pub within : one < end
+  pub at : At one place

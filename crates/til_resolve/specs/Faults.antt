@@ -10,10 +10,11 @@ use Rattle.logical_types.specs.Tree.{Ltype, null, bits, group, union, stream}
 use Rattle.logical_types.specs.Faults.{faults_of}
 use Rattle.til_resolve.specs.declared.fault.ResolveFault.{ResolveFault}
 use Rattle.til_resolve.specs.declared.fault.ResolveFault.TheVariants as faults
-use Rattle.til_resolve.specs.Declarations.{Declaration, PortOf, declaration, declarations, place_of, ports_in}
+use Rattle.til_resolve.specs.Declarations.{Declaration, PortOf, declaration, declarations, ports_in}
 use Rattle.til_resolve.specs.Types.{type_of, number_of_nodes, depth_of}
-use Rattle.til_resolve.specs.Names.{twice, unknown, wrong_kinds}
-use Rattle.til_resolve.specs.Cycles.{IsCyclicType, IsCyclicImpl}
+use Rattle.til_resolve.specs.Names.{implements, target_place, twice, unknown, wrong_kinds}
+use Rattle.til_resolve.specs.Cycles.{LeadsTo, IsCyclicType, ContainsStreamlet}
+use Rattle.til_resolve.specs.Earliest.{IsBelow}
 
 -- ---- the types that a tree writes: those of type declarations and of ports
 
@@ -58,27 +59,17 @@ is_stream (group parts) = false
 is_stream (union parts) = false
 is_stream (stream element user settings) = true
 
--- a type declaration before a number that leads to itself, at its name
-pub record IsCyclicBefore (all : List Declaration) (end : ℕ) (place : Place) : Type 0 where
-  pub one : ℕ
-  pub within : one < end
+-- a type declaration that leads to itself, at its name
+pub record IsCyclicAtName (all : List Declaration) (one : ℕ) (place : Place) : Type 0 where
   pub at : (declaration all one).name.place ≡ place
   pub leads : IsCyclicType all one
 
--- a type declaration that leads to itself, at its name
-abbrev pub IsCyclicAtName : List Declaration → Place → Type 0
-IsCyclicAtName all place = IsCyclicBefore all (length all) place
-
 -- an `impl` whose streamlet contains itself, at the path after `of`
-abbrev pub IsCyclicAt : List Declaration → Declaration → Place → Type 0
-IsCyclicAt all one place = of_kind one.kind
-  where
-    of_kind : AstKind → Type 0
-    of_kind (decls.Alias ltype) = ⊥
-    of_kind (decls.Interface listed) = ⊥
-    of_kind (decls.Streamlet listed) = ⊥
-    of_kind (decls.Impl target body) = (place_of target ≡ place) × IsCyclicImpl all one target
-    of_kind (decls.Test target port value plan) = ⊥
+pub record IsCyclicAtTarget (all : List Declaration) (one : ℕ) (place : Place) : Type 0 where
+  pub at : target_place (declaration all one).kind ≡ place
+  pub streamlet : ℕ
+  pub implements : implements all (declaration all one) ≡ Some streamlet
+  pub leads : LeadsTo (ContainsStreamlet all) streamlet streamlet
 
 -- ---- the faults of a tree, in the order in which they are looked for
 
@@ -87,11 +78,11 @@ abbrev pub HasFault : List Declaration → ResolveFault → Type 0
 HasFault all (faults.DeclaredTwice place) = Contains (twice all) place
 HasFault all (faults.UnknownName place) = Contains (unknown all) place
 HasFault all (faults.WrongKind place) = Contains (wrong_kinds all) place
-HasFault all (faults.CyclicType place) = IsCyclicAtName all place
+HasFault all (faults.CyclicType place) = IsBelow (IsCyclicAtName all) (length all) place
 HasFault all (faults.TypeTooLarge place) = (one : WrittenType) × Contains (written_types all) one × (one.place ≡ place) × IsTooLarge one.ltype
 HasFault all (faults.BadType place fault) = (one : WrittenType) × Contains (written_types all) one × (one.place ≡ place) × (slice_get (faults_of one.ltype) 0 ≡ Some fault)
 HasFault all (faults.PortNotStream place) = (one : WrittenType) × Contains (written_types all) one × (one.place ≡ place) × IsTrue one.in_port × IsTrue (not (is_stream one.ltype))
-HasFault all (faults.CyclicInstance place) = (one : Declaration) × Contains all one × IsCyclicAt all one place
+HasFault all (faults.CyclicInstance place) = IsBelow (IsCyclicAtTarget all) (length all) place
 HasFault all faults.Memory = ⊥
 
 -- the order in which faults are looked for; unknown names and wrong kinds together

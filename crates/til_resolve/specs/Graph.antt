@@ -1,9 +1,10 @@
 -- Things that lead to one another, by their numbers. It serves the search for cycles, and no public clause.
-use Rattle.std.specs.Prelude.{◌≡◌, ℕ, ◌+◌, ◌<◌, ◌≤◌, ◌⊎◌, Bool, false, true, not, List, [], ◌∷◌, length, slice_index_or, Contains}
+use Rattle.std.specs.Prelude.{◌≡◌, ℕ, ◌+◌, ◌<◌, ◌≤◌, ◌⊎◌, Bool, false, true, not, List, [], ◌∷◌, ◌++◌, length, slice_index_or, Contains, if◌then◌else◌}
 use Rattle.std.specs.List.{count_by, filter_map}
 use Rattle.til_parser.specs.declared.tree.AstPath.{AstPath}
-use Rattle.til_resolve.specs.Declarations.{Declaration, declaration, before, named_as, is_type}
-use Rattle.til_resolve.specs.Cycles.{LeadsTo, paths_of_alias}
+use Rattle.til_resolve.specs.Declarations.{Declaration, declaration, before, named_as, is_type, is_streamlet}
+use Rattle.til_resolve.specs.Cycles.{LeadsTo, paths_of_alias, paths_of_instances}
+use Rattle.til_resolve.specs.Names.{is_impl_of}
 
 -- the numbers to which a number leads at once
 abbrev pub targets_of : List (List ℕ) → ℕ → List ℕ
@@ -56,9 +57,12 @@ NeverRises ranks graph = (one other : ℕ) → Leads graph one other → rank_of
 
 -- ---- the graph of types
 
--- the types that paths in a namespace name, by their numbers
+-- the declarations of a kind that paths in a namespace name, by their numbers
+abbrev pub kinds_named : (Declaration → Bool) → List Declaration → List (List ℕ) → List AstPath → List ℕ
+kinds_named is all space paths = filter_map (named_as is all space) paths
+
 abbrev pub types_named : List Declaration → List (List ℕ) → List AstPath → List ℕ
-types_named all space paths = filter_map (named_as is_type all space) paths
+types_named all space paths = kinds_named is_type all space paths
 
 -- the types that a type declaration names
 abbrev pub types_at : List Declaration → ℕ → List ℕ
@@ -67,3 +71,23 @@ types_at all one = types_named all (declaration all one).space (paths_of_alias (
 -- the same of the declarations before a number
 abbrev pub type_graph : List Declaration → ℕ → List (List ℕ)
 type_graph all end = before (λ one. types_at all one ∷ []) end
+
+-- ---- the graph of streamlets
+
+-- the streamlets of which a declaration has instances
+abbrev pub streamlets_inside : List Declaration → Declaration → List ℕ
+streamlets_inside all one = kinds_named is_streamlet all one.space (paths_of_instances one.kind)
+
+-- the streamlets that a declaration puts inside a streamlet: its instances, if it is an `impl` of the streamlet
+abbrev pub put_inside : List Declaration → ℕ → ℕ → List ℕ
+put_inside all streamlet one = if is_impl_of all streamlet (declaration all one) then streamlets_inside all (declaration all one) else []
+
+-- a graph has for each streamlet what the declarations before a number put inside it
+pub record HasInside (all : List Declaration) (graph : List (List ℕ)) (end : ℕ) : Type 0 where
+  pub long : length graph ≡ length all
+  pub inside : (streamlet : ℕ) → streamlet < length all → targets_of graph streamlet ≡ before (put_inside all streamlet) end
+
+-- a graph with what a declaration puts inside each streamlet beside what was there
+pub record IsPutInside (all : List Declaration) (old : List (List ℕ)) (one : ℕ) (new : List (List ℕ)) : Type 0 where
+  pub long : length new ≡ length old
+  pub inside : (streamlet : ℕ) → streamlet < length all → targets_of new streamlet ≡ targets_of old streamlet ++ put_inside all streamlet one

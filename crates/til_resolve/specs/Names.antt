@@ -16,7 +16,7 @@ use Rattle.til_parser.specs.declared.tree.AstStmt.TheVariants as stmts
 use Rattle.til_parser.specs.Tree as tree
 use Rattle.til_parser.specs.Tree.{plain}
 use Rattle.til_resolve.specs.Paths.{is_same_path}
-use Rattle.til_resolve.specs.Declarations.{Declaration, PortOf, declaration, before, place_of, path_of, named, named_as, own_ports, ports_of, ports_of_streamlet, is_type, is_interface, is_streamlet}
+use Rattle.til_resolve.specs.Declarations.{Declaration, PortOf, declaration, before, nowhere, place_of, path_of, named, named_as, own_ports, ports_of, ports_of_streamlet, is_type, is_interface, is_streamlet}
 
 -- ---- what stands twice
 
@@ -91,13 +91,22 @@ implements all one = of_kind one.kind
     of_kind (decls.Impl target body) = named_as is_streamlet all one.space target
     of_kind (decls.Test target port value plan) = None
 
+-- where the path after `of` stands in an `impl`; nowhere in a declaration of another kind
+abbrev pub target_place : AstKind → Place
+target_place (decls.Alias ltype) = nowhere
+target_place (decls.Interface listed) = nowhere
+target_place (decls.Streamlet listed) = nowhere
+target_place (decls.Impl target body) = place_of target
+target_place (decls.Test target port value plan) = nowhere
+
+-- there is a number, and it is this one
+abbrev pub is_number : ℕ → Option ℕ → Bool
+is_number one None = false
+is_number one (Some number) = number == one
+
 -- a declaration implements the streamlet of this number
 abbrev pub is_impl_of : List Declaration → ℕ → Declaration → Bool
-is_impl_of all streamlet one = is_number (implements all one)
-  where
-    is_number : Option ℕ → Bool
-    is_number None = false
-    is_number (Some number) = number == streamlet
+is_impl_of all streamlet one = is_number streamlet (implements all one)
 
 -- an `impl` of a streamlet that one before it implements
 abbrev pub implemented_again : List Declaration → ℕ → List Place

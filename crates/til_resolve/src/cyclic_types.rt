@@ -1,8 +1,8 @@
 //! Type declarations that lead to themselves.
 
 ghost use Rattle.std.specs.Prelude.{◌≡◌, ◌+◌, ◌<◌, length, IfOk};
-ghost use Rattle.til_resolve.specs.Earliest.{IsEarliest};
-ghost use Rattle.til_resolve.specs.Faults.{IsCyclicAtName, IsCyclicBefore};
+ghost use Rattle.til_resolve.specs.Earliest.{IsEarliest, IsBelow};
+ghost use Rattle.til_resolve.specs.Faults.{IsCyclicAtName};
 ghost use Rattle.til_resolve.specs.Graph.{NeverRises, type_graph};
 ghost use Rattle.til_resolve.specs.Scope.{declarations_of};
 
@@ -15,7 +15,7 @@ use tydi_base::{List, Memory, Place};
 
 /// The first type declaration that leads to itself, at its name.
 pub fn first_cyclic_type(alloc: Global, scope: &Scope<'_>) -> Result<Option<Place>, Memory>
-    ensures { IfOk result (IsEarliest (IsCyclicAtName (declarations_of scope.now.declared))) }
+    ensures { IfOk result (IsEarliest (IsBelow (IsCyclicAtName (declarations_of scope.now.declared)) (length (declarations_of scope.now.declared)))) }
 {
     let graph = type_graph(alloc, scope)?;
     let ranks = ranks_of(alloc, graph.as_slice())?;
@@ -45,8 +45,8 @@ fn or_cyclic(
     requires within { number < length (declarations_of scope.now.declared) }
     requires graph { graph.now ≡ type_graph (declarations_of scope.now.declared) (length (declarations_of scope.now.declared)) }
     requires rises { NeverRises ranks.now graph.now }
-    ensures { IfOk result (λ first. IsEarliest (IsCyclicBefore (declarations_of scope.now.declared) number) found
-        → IsEarliest (IsCyclicBefore (declarations_of scope.now.declared) (number + 1)) first) }
+    ensures { IfOk result (λ first. IsEarliest (IsBelow (IsCyclicAtName (declarations_of scope.now.declared)) number) found
+        → IsEarliest (IsBelow (IsCyclicAtName (declarations_of scope.now.declared)) (number + 1)) first) }
 {
     let place = scope.get(number).name.place;
     if stands_first(found, place) {

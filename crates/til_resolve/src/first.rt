@@ -5,6 +5,7 @@ ghost use Rattle.til_resolve.specs.Faults.{IsToldUpTo};
 ghost use Rattle.til_resolve.specs.Scope.{declarations_of};
 ghost use Rattle.til_resolve.specs.Sought as spec;
 
+use crate::cyclic_types::first_cyclic_type;
 use crate::fault::ResolveFault;
 use crate::names::{Sought, first_refused};
 use crate::ports::all_ports;
@@ -13,8 +14,21 @@ use crate::twice::first_twice;
 use std::alloc::Global;
 use tydi_base::{Memory, Place};
 
-/// The first fault of names: what is declared twice, or else a path that names nothing, or another kind than its place asks.
-pub fn first_name_fault(alloc: Global, scope: &Scope<'_>) -> Result<Option<ResolveFault>, Memory>
+/// The first fault of names, or else the first type declaration that leads to itself.
+pub fn first_fault(alloc: Global, scope: &Scope<'_>) -> Result<Option<ResolveFault>, Memory>
+    ensures { IfOk result (IsToldUpTo (declarations_of scope.now.declared) 3) }
+{
+    if let Some(fault) = first_name_fault(alloc, scope)? {
+        return Ok(Some(fault));
+    }
+    match first_cyclic_type(alloc, scope)? {
+        Some(place) => Ok(Some(ResolveFault::CyclicType(place))),
+        None => Ok(None),
+    }
+}
+
+// The first fault of names: what is declared twice, or else a path that names nothing, or another kind than its place asks.
+fn first_name_fault(alloc: Global, scope: &Scope<'_>) -> Result<Option<ResolveFault>, Memory>
     ensures { IfOk result (IsToldUpTo (declarations_of scope.now.declared) 2) }
 {
     let ports = all_ports(alloc, scope)?;

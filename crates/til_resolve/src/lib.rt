@@ -5,6 +5,7 @@
 #![tactic(auto)]
 
 mod certificate;
+mod containment;
 mod cyclic_types;
 mod declared;
 mod earliest;
@@ -20,6 +21,8 @@ mod project;
 mod ranks;
 mod scope;
 mod search;
+#[cfg(test)]
+mod tests;
 mod twice;
 mod type_graph;
 

@@ -222,8 +222,8 @@ fn is_refused<'a>(
     }
 }
 
-// Where a path stands: at its first name.
-fn place_of(path: &AstPath) -> Place
+/// Where a path stands: at its first name.
+pub fn place_of(path: &AstPath) -> Place
     ensures { result ≡ place_of path.now }
 {
     match path.names.as_slice() {

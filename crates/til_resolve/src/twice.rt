@@ -242,10 +242,11 @@ fn implemented_again(
     Ok((!is_new).then_some(one.name.place))
 }
 
-// The streamlet that a declaration implements, if it is an `impl` whose path names a streamlet.
-fn implements(scope: &Scope<'_>, number: usize) -> Option<usize>
+/// The streamlet that a declaration implements, if it is an `impl` whose path names a streamlet.
+pub fn implements(scope: &Scope<'_>, number: usize) -> Option<usize>
     requires { number < length (declarations_of scope.now.declared) }
-    ensures { result ≡ spec.implements (declarations_of scope.now.declared) (declaration (declarations_of scope.now.declared) number) }
+    ensures value { result ≡ spec.implements (declarations_of scope.now.declared) (declaration (declarations_of scope.now.declared) number) }
+    ensures within { IfSome result (λ streamlet. streamlet < length (declarations_of scope.now.declared)) }
 {
     match scope.get(number).kind {
         AstKind::Impl { target, .. } => scope.named_as(number, target, Asked::Streamlet),

@@ -5,6 +5,7 @@ ghost use Rattle.til_parser.specs.Tree.{plain};
 ghost use Rattle.til_resolve.specs.Cycles.{paths_of_alias};
 ghost use Rattle.til_resolve.specs.Declarations.{declaration};
 ghost use Rattle.til_resolve.specs.Graph as spec;
+ghost use Rattle.til_resolve.specs.Kinds.{asks};
 ghost use Rattle.til_resolve.specs.Names.{paths_in};
 ghost use Rattle.til_resolve.specs.Scope.{declarations_of};
 ghost use Rattle.til_resolve.specs.Sought.{paths_in_list};
@@ -69,7 +70,7 @@ fn add_type<'a>(
             add_type(scope, number, &stream.element, targets)?;
             add_type(scope, number, &stream.user, targets)
         }
-        AstType::Path(path) => add_path(scope, number, path, targets),
+        AstType::Path(path) => add_path(scope, number, path, Asked::Type, targets),
     }
 }
 
@@ -89,16 +90,19 @@ fn add_parts<'a>(
     Ok(())
 }
 
-fn add_path<'a>(
+/// Adds the declaration that a path names, if it is of the kind that is asked.
+pub fn add_path<'a>(
     scope: &Scope<'a>,
     number: usize,
     path: &'a AstPath,
+    asked: Asked,
     targets: &mut List<usize>,
 ) -> Result<(), Memory>
     requires { number < length (declarations_of scope.now.declared) }
-    ensures { OnOk result (targets.new ≡ targets.old ++ spec.types_named (declarations_of scope.now.declared) (declaration (declarations_of scope.now.declared) number).space (path.now ∷ [])) }
+    ensures { OnOk result (targets.new ≡ targets.old
+        ++ spec.kinds_named (asks asked) (declarations_of scope.now.declared) (declaration (declarations_of scope.now.declared) number).space (path.now ∷ [])) }
 {
-    match scope.named_as(number, path, Asked::Type) {
+    match scope.named_as(number, path, asked) {
         Some(target) => targets.push(target),
         None => Ok(()),
     }

@@ -1,6 +1,6 @@
 use Rattle.std.proofs.Common.{◌≡◌, length, subst, arith}
-use Rattle.til_resolve.specs.Earliest.{IsEarliest}
-use Rattle.til_resolve.specs.Faults.{IsCyclicBefore}
+use Rattle.til_resolve.specs.Earliest.{IsEarliest, IsBelow}
+use Rattle.til_resolve.specs.Faults.{IsCyclicAtName}
 use Rattle.til_resolve.specs.Scope.{declarations_of}
 use Rattle.til_resolve.proofs.cyclic_types.first_cyclic_type.Goals as goal
 
@@ -8,4 +8,4 @@ pub returns : goal.returns
 returns c =
     let all = declarations_of c.args.scope.now.declared in
     let same : c.numbers.number ≡ length all = omega (arith, c.len-number-end.ensures) in
-    subst (λ n. IsEarliest (IsCyclicBefore all n) c.numbers.found) same c.numbers.invariant
+    subst (λ n. IsEarliest (IsBelow (IsCyclicAtName all) n) c.numbers.found) same c.numbers.invariant
