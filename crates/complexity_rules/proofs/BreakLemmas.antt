@@ -45,7 +45,7 @@ or_true_right : (a b : Bool) → b ≡ true → (a || b) ≡ true
 or_true_right false b holds = holds
 or_true_right true b holds = refl
 
-has_misplaced-there : (tail : Option Tail) (front rest : List Item) (dim : ℕ) → may_close (tail_over tail front) dim ≡ false →
+pub has_misplaced-there : (tail : Option Tail) (front rest : List Item) (dim : ℕ) → may_close (tail_over tail front) dim ≡ false →
     has_misplaced tail (front ++ items.Close dim ∷ rest) ≡ true
 has_misplaced-there tail front rest dim wrong =
     has_misplaced-append tail front (items.Close dim ∷ rest)

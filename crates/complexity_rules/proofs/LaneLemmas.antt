@@ -28,7 +28,7 @@ first_parts : (x y : Option ℕ) → first_of_two x y ≡ None → (x ≡ None) 
 first_parts None y none = (refl, none)
 first_parts (Some x) y none = cc
 
-abbrev closes : (ℕ → Bool) → ℕ → List Item
+abbrev pub closes : (ℕ → Bool) → ℕ → List Item
 closes bits dim = if bits dim then items.Close dim ∷ [] else []
 
 unmarked_close : (dim : ℕ) (bit : Bool) → first_close (if bit then items.Close dim ∷ [] else []) ≡ None → bit ≡ false

@@ -1,16 +1,16 @@
 -- What one level allows, every greater one allows: what is forbidden does not depend on the level, but for where rules bind.
-use Rattle.std.proofs.Common.{◌≡◌, ◌∙◌, ℕ, ◌<◌, ◌≤◌, List, length, get_or, take, slice_get, Option, Some, None, arith, ap, subst}
+use Rattle.std.proofs.Common.{◌≡◌, ◌∙◌, ℕ, ◌<◌, List, length, get_or, take, slice_get, Option, Some, None, arith, ap, subst}
 use Rattle.std.proofs.lemmas.Option.{slice_get-get_or, slice_get_within}
-use Rattle.tydi_base.specs.Level.{number_of}
 use Rattle.physical_stream.specs.Params.{Parameters}
 use Rattle.physical_stream.specs.Cycles.{Cycle, StreamTrace, items_done}
-use Rattle.physical_stream.specs.Breaks.{BreaksLaneLast, BreaksStrobe, BreaksEmpty, BreaksNest, OnShown, Forbids, BreaksAfter, Breaks}
+use Rattle.physical_stream.specs.Breaks.{BreaksLaneLast, BreaksStrobe, BreaksEmpty, BreaksNest, Breaking, BreaksAfter, BreaksBy, OnShown, Forbids}
 use Rattle.physical_stream.specs.Ending.{ending_of}
 use Rattle.physical_stream.specs.declared.item.Item.{Item}
 use Rattle.physical_stream.specs.declared.rule.Rule.{Rule}
 use Rattle.physical_stream.specs.declared.rule.Rule.TheVariants.{LaneLast, Strobe, Empty, Nest}
 use Rattle.physical_stream.specs.declared.transfer.Transfer.{Transfer}
-use Rattle.complexity_rules.specs.Levels.{at_level, IsRaised, OffencesFall, EndingStays}
+use Rattle.physical_stream.specs.Levels.{at_level}
+use Rattle.complexity_rules.specs.Levels.{BreaksBelow, RulesBreakBelow, IsRaised, OffencesFall, OffencesFallBy, EndingStays}
 
 -- a rule on the transfer that is shown, where one forbids no more than another
 on_shown : (P Q : Transfer → Type 0) → ((t : Transfer) → P t → Q t) → (shown : Option Transfer) → OnShown P shown → OnShown Q shown
@@ -47,25 +47,26 @@ forbids-at_level Nest level p before now broken =
 forbids-at_level other level p before now broken = broken
 
 -- a cycle that breaks a rule at the greater level breaks it at the lower one
-breaks_after-at_level : (rule : Rule) (level : ℕ) (p : Parameters) (before : List Cycle) (now : Cycle) → number_of p.level ≤ number_of level →
-    BreaksAfter rule (at_level level p) before now → BreaksAfter rule p before now
-breaks_after-at_level rule level p before now higher broken = (
+pub rules_break_below : RulesBreakBelow
+rules_break_below rule level p before now higher broken = (
   (let binds = broken.0 in omega arith),
   forbids-at_level rule level p before now broken.1,
 )
 
-breaks_fall : (rule : Rule) (number : ℕ) (low high : StreamTrace) → IsRaised low high → Breaks rule high.params high.cycles number → Breaks rule low.params low.cycles number
-breaks_fall rule number low high raised broken = record {
+breaks_fall : (Broken : Breaking) → BreaksBelow Broken → (rule : Rule) (number : ℕ) (low high : StreamTrace) → IsRaised low high →
+    BreaksBy Broken rule high.params high.cycles number → BreaksBy Broken rule low.params low.cycles number
+breaks_fall Broken below rule number low high raised broken = record {
   now = broken.now;
   stands = subst (λ (cycles : List Cycle). slice_get cycles number ≡ Some broken.now) raised.cycles broken.stands;
   broken =
-      breaks_after-at_level rule high.params.level low.params (take number low.cycles) broken.now raised.level
-      (subst (λ (p : Parameters). BreaksAfter rule p (take number low.cycles) broken.now) raised.params
-      (subst (λ (cycles : List Cycle). BreaksAfter rule high.params (take number cycles) broken.now) raised.cycles broken.broken));
+      below rule high.params.level low.params (take number low.cycles) broken.now raised.level
+      (subst (λ (p : Parameters). Broken rule p (take number low.cycles) broken.now) raised.params
+      (subst (λ (cycles : List Cycle). Broken rule high.params (take number cycles) broken.now) raised.cycles broken.broken));
 }
 
-pub offences_fall : OffencesFall
-offences_fall from to o raised offends =
+-- so it is by any rules that are broken at lower levels too
+pub offences_fall_by : (Broken : ℕ → Breaking) → ((stream : ℕ) → BreaksBelow (Broken stream)) → OffencesFallBy Broken
+offences_fall_by Broken below from to o raised offends =
     let low = get_or from o.stream offends.trace in
     let within : o.stream < length to = slice_get_within to o.stream offends.trace offends.stands in
     let many = raised.many in
@@ -73,8 +74,11 @@ offences_fall from to o raised offends =
     record {
       trace = low;
       stands = here;
-      breaks = breaks_fall o.rule o.cycle low offends.trace (raised.each o.stream low offends.trace here offends.stands) offends.breaks;
+      breaks = breaks_fall (Broken o.stream) (below o.stream) o.rule o.cycle low offends.trace (raised.each o.stream low offends.trace here offends.stands) offends.breaks;
     }
+
+pub offences_fall : OffencesFall
+offences_fall = offences_fall_by (λ stream. BreaksAfter) (λ stream. rules_break_below)
 
 pub ending_stays : EndingStays
 ending_stays from to raised = ap (ending_of to.params) raised.cycles ∙ ap (λ (p : Parameters). ending_of p from.cycles) raised.params

@@ -3,7 +3,10 @@ pub mod CheckerLemmas
 pub mod LaneLemmas
 pub mod LevelLemmas
 pub mod LowestLemmas
+pub mod NestingLemmas
 pub mod PauseLemmas
+pub mod RangeLemmas
 pub mod StrobeLemmas
 pub mod TableLemmas
+pub mod UnmarkedLemmas
 pub mod WalkLemmas

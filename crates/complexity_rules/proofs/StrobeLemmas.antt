@@ -1,14 +1,16 @@
 -- Strobe bits that are not all equal.
-use Rattle.std.proofs.Common.{◌≡◌, ◌∙◌, ◌↔◌, ℕ, zero, suc, ◌+◌, ◌-◌, ◌/◌, ◌%◌, ◌^◌, ◌<◌, ◌≤◌, inl, inr, ◌⊎◌, not, ◌==◌, IsTrue, eq-eqb, refl, sym, ap, arith}
+use Rattle.std.proofs.Common.{◌≡◌, ◌∙◌, ℕ, zero, suc, ◌+◌, ◌-◌, ◌/◌, ◌%◌, ◌^◌, ◌<◌, ◌≤◌, inl, inr, ◌⊎◌, refl, sym, ap, arith}
 use Rattle.std.specs.Int.{bit_at}
 use Rattle.std.proofs.Math.Nat.{pow-succ', div-add-mod, mod-lt}
-use Rattle.std.proofs.lemmas.Bool.{cases_lt, both_ways, not-true, not_from_false, false_from_ne_true, eqb-true}
+use Rattle.std.proofs.lemmas.Bool.{cases_lt}
+use Rattle.std.specs.Int.Count.{ones, ones-ones}
+use Rattle.std.proofs.lemmas.Nat.{div-add-mod', ones-le, ones_cat, zero_from_ones}
 use Rattle.std.proofs.lemmas.Nat.Bits.{bit_at_lowest, bit_at-suc, bit_at-zero, bit_at_ones}
 use Rattle.physical_stream.specs.Params.{Parameters}
 use Rattle.physical_stream.specs.Breaks.{BreaksStrobe}
 use Rattle.physical_stream.specs.declared.transfer.Transfer.{Transfer}
 
-low_bit : (n : ℕ) → (n % 2 ≡ 0) ⊎ (n % 2 ≡ 1)
+pub low_bit : (n : ℕ) → (n % 2 ≡ 0) ⊎ (n % 2 ≡ 1)
 low_bit n = by_cases (n % 2) (mod-lt n (omega arith))
   where
     by_cases : (b : ℕ) → b < 2 → (b ≡ 0) ⊎ (b ≡ 1)
@@ -47,6 +49,24 @@ has_zero n (suc lanes) below = by_low (low_bit n) (λ less. has_zero (n / 2) lan
     by_low (inl even) above = HasBit-here 0 n lanes even
     by_low (inr odd) above = HasBit-above 0 n lanes (above (omega (arith, pow-succ' 2 lanes, div-add-mod n 2)))
 
+-- a number that is not all ones has fewer ones than bits
+ones_fewer : (n lanes : ℕ) → n + 1 < 2 ^ lanes → ones n < lanes
+unfolding ones
+ones_fewer n zero below = absurd (omega arith)
+ones_fewer n (suc lanes) below = by_low (low_bit n) (λ less. ones_fewer (n / 2) lanes less)
+  where
+    parts : ones n ≡ ones (n / 2) + ones (n % 2)
+    parts = ap ones (sym (div-add-mod' n 2)) ∙ ones_cat 1 (n / 2) (n % 2) (mod-lt n (omega arith))
+
+    most : ones (n / 2) ≤ lanes
+    most = ones-le lanes (n / 2) (half_below n lanes (omega arith))
+
+    by_low : (n % 2 ≡ 0) ⊎ (n % 2 ≡ 1) → (n / 2 + 1 < 2 ^ lanes → ones (n / 2) < lanes) → ones n < suc lanes
+    by_low (inl even) above = let none : ones (n % 2) ≡ 0 = ap ones even in omega (arith, parts, none, most)
+    by_low (inr odd) above =
+        let one : ones (n % 2) ≡ 1 = ap ones odd in
+        let less = above (omega (arith, pow-succ' 2 lanes, div-add-mod n 2)) in omega (arith, parts, one, less)
+
 -- some bits differ exactly where the strobe is neither zero nor all ones
 pub BreaksStrobe-mixed : (p : Parameters) (t : Transfer) → t.strb < 2 ^ p.lanes → 0 < t.strb → t.strb + 1 < 2 ^ p.lanes → BreaksStrobe p t
 BreaksStrobe-mixed p t below some less =
@@ -68,16 +88,26 @@ mixed-BreaksStrobe p t below b = (not_zero t.strb refl, not_ones (cases_lt (t.st
         let ones : t.strb ≡ 2 ^ p.lanes - 1 = omega arith in
         let clash : ◌≡◌ {A = ℕ} 1 0 = sym (bit_at_ones p.lanes b.other b.other_within) ∙ ap (λ (n : ℕ). bit_at n b.other) (sym ones) ∙ b.other_clear in absurd (omega arith)
 
--- a strobe that is not zero is mixed exactly where it is not all ones
-pub BreaksStrobe-not_ones : (p : Parameters) (t : Transfer) (lanes ones : ℕ) → lanes ≡ p.lanes → ones ≡ 2 ^ lanes - 1 → t.strb < 2 ^ p.lanes → (t.strb ≡ 0 → ⊥) →
-    IsTrue (not (t.strb == ones)) ↔ BreaksStrobe p t
-BreaksStrobe-not_ones p t lanes ones same ones_are below some = (
-  λ holds.
-      let differs : t.strb ≡ ones → ⊥ = λ e. both_ways (t.strb == ones) (not-true (t.strb == ones) holds) (eq-eqb t.strb ones e) in
-      let power : 2 ^ lanes ≡ 2 ^ p.lanes = ap (λ (n : ℕ). 2 ^ n) same in
-      BreaksStrobe-mixed p t below (omega (arith, some)) (omega (arith, differs)),
-  λ b.
-      let mixed = mixed-BreaksStrobe p t below b in
-      let power : 2 ^ lanes ≡ 2 ^ p.lanes = ap (λ (n : ℕ). 2 ^ n) same in
-      not_from_false (t.strb == ones) (false_from_ne_true (t.strb == ones) (λ e. let is : t.strb ≡ ones = eqb-true t.strb ones e in omega (arith, mixed.1))),
-)
+-- the bits differ exactly where some of them are ones and not all
+pub BreaksStrobe-ones : (p : Parameters) (t : Transfer) → t.strb < 2 ^ p.lanes → 0 < ones t.strb → ones t.strb < p.lanes → BreaksStrobe p t
+unfolding ones
+BreaksStrobe-ones p t below some few = BreaksStrobe-mixed p t below (not_zero t.strb refl) (not_ones (cases_lt (t.strb + 1) (2 ^ p.lanes)))
+  where
+    not_zero : (n : ℕ) → t.strb ≡ n → 0 < t.strb
+    not_zero zero is = let none : ones t.strb ≡ 0 = ap ones is in absurd (omega (arith, some, none))
+    not_zero (suc n) is = omega arith
+
+    not_ones : (t.strb + 1 < 2 ^ p.lanes) ⊎ (2 ^ p.lanes ≤ t.strb + 1) → t.strb + 1 < 2 ^ p.lanes
+    not_ones (inl less) = less
+    not_ones (inr more) =
+        let all : t.strb ≡ 2 ^ p.lanes - 1 = omega arith in
+        let many : ones t.strb ≡ p.lanes = ap ones all ∙ ones-ones p.lanes in absurd (omega (arith, few, many))
+
+pub ones-BreaksStrobe : (p : Parameters) (t : Transfer) → t.strb < 2 ^ p.lanes → BreaksStrobe p t → (0 < ones t.strb) × (ones t.strb < p.lanes)
+ones-BreaksStrobe p t below b =
+    let mixed = mixed-BreaksStrobe p t below b in
+    (some (ones t.strb) refl mixed.0, ones_fewer t.strb p.lanes mixed.1)
+  where
+    some : (n : ℕ) → ones t.strb ≡ n → 0 < t.strb → 0 < ones t.strb
+    some zero is positive = let none : t.strb ≡ 0 = zero_from_ones t.strb is in absurd (omega (arith, positive, none))
+    some (suc n) is positive = omega arith

@@ -38,7 +38,7 @@ first_close-append (items.Close dim ∷ a) b = refl
 
 -- ---- the tail
 
-tail_of-over_none : (is : List Item) → tail_of is ≡ tail_over None is
+pub tail_of-over_none : (is : List Item) → tail_of is ≡ tail_over None is
 tail_of-over_none [] = refl
 tail_of-over_none (i ∷ []) = refl
 tail_of-over_none (i ∷ j ∷ more) = tail_of-over_none (j ∷ more)

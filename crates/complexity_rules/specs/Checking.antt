@@ -1,5 +1,5 @@
 -- What a checker stands for, and what it says of one cycle more (this project's own).
-use Rattle.std.specs.Prelude.{◌≡◌, ℕ, ◌≤◌, if◌then◌else◌, List, [], ◌∷◌, ◌++◌, length, Option, Some, None}
+use Rattle.std.specs.Prelude.{◌≡◌, ℕ, ◌+◌, ◌≤◌, if◌then◌else◌, List, [], ◌∷◌, ◌++◌, length, Option, Some, None, is_some, OnSome}
 use Rattle.physical_stream.specs.Params.{Parameters}
 use Rattle.physical_stream.specs.Cycles.{Cycle, items_done, waiting_of}
 use Rattle.physical_stream.specs.Shape.{tail_of}
@@ -47,3 +47,16 @@ StandsFor checker cycles = Keeps (params_in checker) cycles (seen_in checker) (w
 abbrev pub Steps : Checker → Checker → List Cycle → Cycle → Option Rule → Type 0
 Steps old new before now None = IsLowestBroken (params_in old) before now None × StandsFor new (before ++ now ∷ [])
 Steps old new before now (Some rule) = IsLowestBroken (params_in old) before now (Some rule) × (new ≡ old)
+
+-- a step from one checker to another: for all cycles that the first one stands for, with the stream and the number of cycles seen
+pub record IsStep (old new : Checker) (now : Cycle) (broken : Option Rule) : Type 0 where
+  pub params : params_in new ≡ params_in old
+  pub steps : (before : List Cycle) → StandsFor old before → Steps old new before now broken
+  pub kept : OnSome broken (new ≡ old)
+  pub seen : seen_in new ≡ (if is_some broken then seen_in old else seen_in old + 1)
+
+-- the second checker is the first one with this cycle seen
+pub record Sees (old new : Checker) (now : Cycle) : Type 0 where
+  pub params : params_in new ≡ params_in old
+  pub stands : (before : List Cycle) → StandsFor old before → StandsFor new (before ++ now ∷ [])
+  pub seen : seen_in new ≡ seen_in old + 1

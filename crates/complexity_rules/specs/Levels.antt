@@ -4,14 +4,12 @@ use Rattle.tydi_base.specs.Level.{number_of}
 use Rattle.physical_stream.specs.Params.{Parameters}
 use Rattle.physical_stream.specs.Items.{items_of_all}
 use Rattle.physical_stream.specs.Cycles.{Cycle, StreamTrace, done_in}
+use Rattle.physical_stream.specs.Breaks.{Breaking, BreaksAfter}
 use Rattle.physical_stream.specs.Ending.{ending_of}
-use Rattle.physical_stream.specs.First.{Offence, Offends}
+use Rattle.physical_stream.specs.First.{Offence, OffendsBy}
+use Rattle.physical_stream.specs.Levels.{at_level}
 use Rattle.physical_stream.specs.Rules.{Binds}
 use Rattle.physical_stream.specs.declared.rule.Rule.{Rule}
-
--- the same stream at another level
-abbrev pub at_level : ℕ → Parameters → Parameters
-at_level level p = record { lanes = p.lanes; dims = p.dims; level = level; element = p.element; user = p.user }
 
 -- a rule that binds at a level binds at every lower one
 abbrev pub RulesBindBelow : Type 0
@@ -28,9 +26,24 @@ pub record AreRaised (from to : List StreamTrace) : Type 0 where
   pub many : length to ≡ length from
   pub each : (stream : ℕ) (low high : StreamTrace) → slice_get from stream ≡ Some low → slice_get to stream ≡ Some high → IsRaised low high
 
--- what is an offence at the greater levels is one at the lower ones: a trace without offence there has none here
+-- what a cycle breaks at a level, it breaks at every lower one
+abbrev pub BreaksBelow : Breaking → Type 0
+BreaksBelow Broken =
+    (rule : Rule) (level : ℕ) (p : Parameters) (before : List Cycle) (now : Cycle) → number_of p.level ≤ number_of level →
+    Broken rule (at_level level p) before now → Broken rule p before now
+
+-- rules 1 to 10 are such
+abbrev pub RulesBreakBelow : Type 0
+RulesBreakBelow = BreaksBelow BreaksAfter
+
+-- what is an offence at the greater levels is one at the lower ones, by what breaks the rules of each stream: a trace without
+-- offence there has none here
+abbrev pub OffencesFallBy : (ℕ → Breaking) → Type 0
+OffencesFallBy Broken = (from to : List StreamTrace) (o : Offence) → AreRaised from to → OffendsBy Broken to o → OffendsBy Broken from o
+
+-- so it is by rules 1 to 10
 abbrev pub OffencesFall : Type 0
-OffencesFall = (from to : List StreamTrace) (o : Offence) → AreRaised from to → Offends to o → Offends from o
+OffencesFall = OffencesFallBy (λ stream. BreaksAfter)
 
 -- the items that are done in each cycle do not depend on the level
 abbrev pub ItemsStay : Type 0

@@ -1,7 +1,11 @@
 pub mod Checking
+pub mod Effect
 pub mod Levels
 pub mod Lowest
+pub mod Nesting
 pub mod Pauses
 pub mod Table
 pub mod Tails
+pub mod Unmarked
+pub mod Waiting
 pub mod Walk

@@ -1,9 +1,11 @@
 -- The lowest rule of those that are broken (this project's own).
-use Rattle.std.specs.Prelude.{◌≡◌, Bool, ◌&&◌, nat_le, ℕ, if◌then◌else◌, Option, Some}
+use Rattle.std.specs.Prelude.{Bool, ◌&&◌, nat_le, ℕ, ◌≤◌, if◌then◌else◌, List, Option, Some, None}
 use Rattle.tydi_base.specs.Level.{number_of}
-use Rattle.physical_stream.specs.Rules.{binds_up_to}
+use Rattle.physical_stream.specs.Params.{Parameters}
+use Rattle.physical_stream.specs.Cycles.{Cycle}
+use Rattle.physical_stream.specs.Breaks.{BreaksAfter}
+use Rattle.physical_stream.specs.Rules.{binds_up_to, number_of_rule}
 use Rattle.physical_stream.specs.declared.rule.Rule.{Rule}
-use Rattle.physical_stream.specs.declared.transfer.Transfer.{Transfer}
 
 -- a rule binds at this level, and what it forbids is there
 abbrev pub is_broken : ℕ → Rule → Bool → Bool
@@ -13,8 +15,8 @@ is_broken level rule forbidden = nat_le (number_of level) (binds_up_to rule) && 
 abbrev pub or_higher : ℕ → Rule → Bool → Option Rule → Option Rule
 or_higher level rule forbidden higher = if is_broken level rule forbidden then Some rule else higher
 
--- a transfer waits, and it is not this one
-pub record Changes (waiting shown : Option Transfer) : Type 0 where
-  pub offered : Transfer
-  pub waits : waiting ≡ Some offered
-  pub changed : shown ≡ Some offered → ⊥
+-- of the rules from this number on, the cycle breaks none, or this is the lowest one
+abbrev pub IsLowestFrom : Parameters → List Cycle → Cycle → ℕ → Option Rule → Type 0
+IsLowestFrom p before now n None = (rule : Rule) → n ≤ number_of_rule rule → BreaksAfter rule p before now → ⊥
+IsLowestFrom p before now n (Some lowest) =
+    BreaksAfter lowest p before now × ((rule : Rule) → n ≤ number_of_rule rule → BreaksAfter rule p before now → number_of_rule lowest ≤ number_of_rule rule)

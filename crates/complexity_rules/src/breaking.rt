@@ -1,22 +1,23 @@
-//! The lowest rule that a cycle breaks. All that the rules need of the cycles before is the transfer that waits to be taken,
-//! and the kind of the last item done.
+//! The lowest rule that a cycle breaks. Where a transfer waits it has to be shown again, and nothing else can be broken. Else all
+//! that the rules need of the cycles before is the kind of the last item done.
 
-ghost use Rattle.std.specs.Prelude.{◌≡◌, ◌↔◌, ◌&&◌, not, Some, None, List, Bool, Option, IsTrue};
-ghost use Rattle.std.specs.Option.{option_copied};
+ghost use Rattle.std.specs.Prelude.{◌≡◌, ◌↔◌, ◌&&◌, not, None, List, Bool, IsTrue};
 ghost use Rattle.physical_stream.specs.Breaks.{BreaksEnd, BreaksIndex, BreaksLaneLast, BreaksStart, BreaksStrobe};
 ghost use Rattle.physical_stream.specs.Cycles.{Cycle, items_done, waiting_of};
 ghost use Rattle.physical_stream.specs.Items.{items_of};
+ghost use Rattle.physical_stream.specs.Rules.{Binds};
 ghost use Rattle.physical_stream.specs.Shape.{closes_empty, tail_of};
 ghost use Rattle.physical_stream.specs.Signals.{Fits};
-ghost use Rattle.physical_stream.specs.declared.item.Tail.{Tail};
+ghost use Rattle.physical_stream.specs.declared.rule.Rule.TheVariants.{Hold};
 ghost use Rattle.complexity_rules.specs.Checking.{IsLowestBroken};
-ghost use Rattle.complexity_rules.specs.Lowest.{Changes, or_higher};
+ghost use Rattle.complexity_rules.specs.Lowest.{or_higher};
+ghost use Rattle.complexity_rules.specs.Waiting.{IsLowestShown};
 ghost use Rattle.complexity_rules.specs.Walk.{Finds, first_close, misses_empty};
 
 use crate::pauses::{breaks_inner_pause, breaks_outer_pause};
 use crate::table::binds;
 use crate::walk::{Shown, Walk};
-use physical_stream::{Params, Rule, Tail, Transfer, all_lanes};
+use physical_stream::{Params, Rule, Tail, Transfer};
 use tydi_base::Level;
 
 /// A row for each rule, in the order of their numbers: its name, and the condition under which a cycle does what it forbids. The
@@ -28,11 +29,10 @@ macro_rules! lowest_broken {
     };
 }
 
-/// The lowest rule that a cycle breaks that shows this transfer.
+/// The lowest rule, the one on waiting transfers aside, that a cycle breaks that shows this transfer.
 #[inline(always)]
 pub(crate) fn lowest_of_shown(
     p: &Params,
-    waiting: Option<&Transfer>,
     tail: Option<Tail>,
     transfer: &Transfer,
     items: &Shown,
@@ -40,11 +40,9 @@ pub(crate) fn lowest_of_shown(
     requires fits { Fits p.now transfer.now }
     requires found { Finds p.now.dims tail (items_of p.now transfer.now) items.now.walk }
     requires early { IsTrue items.now.early ↔ BreaksLaneLast p.now transfer.now }
-    ensures { (before : List Cycle) (ready : Bool) → option_copied waiting.entry ≡ waiting_of before → tail ≡ tail_of (items_done p.now before)
-        → IsLowestBroken p.now before (record { ready = ready; shown = Some transfer.now }) result }
+    ensures { IsLowestShown p.now tail transfer.now result }
 {
     lowest_broken! { p.level;
-        Hold if changes(waiting, Some(transfer)),
         Index if breaks_index(p, transfer),
         LaneLast if items.early,
         Strobe if breaks_strobe(p, transfer),
@@ -55,53 +53,41 @@ pub(crate) fn lowest_of_shown(
     }
 }
 
-/// The lowest rule that a cycle breaks that shows no transfer.
-pub(crate) fn lowest_of_pause(
-    p: &Params,
-    waiting: Option<&Transfer>,
-    tail: Option<Tail>,
-) -> Option<Rule>
-    ensures { (before : List Cycle) (ready : Bool) → option_copied waiting.entry ≡ waiting_of before → tail ≡ tail_of (items_done p.now before)
+/// The lowest rule that a cycle breaks that shows no transfer, where none waits.
+pub(crate) fn lowest_of_pause(p: &Params, tail: Option<Tail>) -> Option<Rule>
+    ensures { (before : List Cycle) (ready : Bool) → waiting_of before ≡ None → tail ≡ tail_of (items_done p.now before)
         → IsLowestBroken p.now before (record { ready = ready; shown = None }) result }
 {
     lowest_broken! { p.level;
-        Hold if changes(waiting, None),
         InnerPause if breaks_inner_pause(p, tail),
         OuterPause if breaks_outer_pause(p, tail),
     }
 }
 
+/// The rule on waiting transfers, which binds at every level.
+#[inline(always)]
+pub(crate) fn hold(level: Level) -> Rule
+    ensures rule { result ≡ Hold }
+    ensures binds { Binds Hold level }
+{
+    level.number();
+    Rule::Hold
+}
+
 /// The rule, where it binds at this level and the cycle does what it forbids; else what a rule of a greater number says.
 #[inline(always)]
-fn or_higher(level: Level, rule: Rule, forbidden: bool, higher: Option<Rule>) -> Option<Rule>
+pub(crate) fn or_higher(
+    level: Level,
+    rule: Rule,
+    forbidden: bool,
+    higher: Option<Rule>,
+) -> Option<Rule>
     ensures { result ≡ or_higher level rule forbidden higher }
 {
     if forbidden && binds(rule, level) {
         Some(rule)
     } else {
         higher
-    }
-}
-
-/// Whether a transfer waits, and is not shown again, the same in every signal.
-#[inline(always)]
-fn changes(waiting: Option<&Transfer>, shown: Option<&Transfer>) -> bool
-    ensures { IsTrue result ↔ Changes (option_copied waiting.entry) (option_copied shown.entry) }
-{
-    match waiting {
-        None => false,
-        Some(offered) => !shows(shown, offered),
-    }
-}
-
-/// Whether this transfer is shown.
-#[inline(always)]
-fn shows(shown: Option<&Transfer>, offered: &Transfer) -> bool
-    ensures { IsTrue result ↔ (option_copied shown.entry ≡ Some offered.now) }
-{
-    match shown {
-        None => false,
-        Some(transfer) => transfer.equals(offered),
     }
 }
 
@@ -117,7 +103,8 @@ fn breaks_strobe(p: &Params, transfer: &Transfer) -> bool
     requires { Fits p.now transfer.now }
     ensures { IsTrue result ↔ BreaksStrobe p.now transfer.now }
 {
-    transfer.strb != 0 && transfer.strb != all_lanes(p.lanes)
+    let ones = transfer.strb.count_ones();
+    ones > 0 && ones < u32::from(p.lanes)
 }
 
 /// Whether stai is not 0.
@@ -137,7 +124,8 @@ fn breaks_end(p: &Params, transfer: &Transfer, walk: &Walk) -> bool
 }
 
 /// Whether no lane is active, and nothing is closed or not an empty sequence first.
-fn breaks_empty(tail: Option<Tail>, walk: &Walk) -> bool
+#[inline(always)]
+pub(crate) fn breaks_empty(tail: Option<Tail>, walk: &Walk) -> bool
     ensures { result ≡ (not walk.now.active && misses_empty tail walk.now.first_close) }
 {
     !walk.active && misses_empty(tail, walk.first_close)

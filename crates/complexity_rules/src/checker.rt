@@ -3,7 +3,9 @@ ghost use Rattle.std.specs.Option.{option_copied};
 ghost use Rattle.physical_stream.specs.Cycles.{Cycle};
 ghost use Rattle.physical_stream.specs.Signals.{Fits};
 ghost use Rattle.complexity_rules.specs.Tails.{IsTailIn};
+ghost use Rattle.complexity_rules.specs.Waiting.{IsJudged};
 
+use crate::effect::Effect;
 use physical_stream::{Params, Tail, Transfer};
 use std::alloc::Global;
 use tydi_base::Memory;
@@ -17,6 +19,8 @@ pub struct Checker {
     pub(crate) waits: bool,
     /// The transfer that waits, where one does; else only the room for one.
     pub(crate) offered: Transfer,
+    /// What the transfer that waits changes when it is done.
+    pub(crate) effect: Effect,
     /// The kind of the last item done.
     pub(crate) tail: Option<Tail>,
     /// The cycles seen.
@@ -26,6 +30,7 @@ pub struct Checker {
     /// The packets done.
     pub(crate) packets: u64,
     ghost room: { Fits params offered },
+    ghost judged: { IsJudged params waits offered tail effect },
     ghost tail_in: { IsTailIn params.dims tail },
     ghost few_transfers: { transfers ≤ seen },
     ghost few_packets: { packets ≤ 4224 * seen },

@@ -1,31 +1,36 @@
 //! What a checker says, cycle by cycle.
 
-ghost use Rattle.std.specs.Prelude.{◌≡◌, ◌↔◌, ◌+◌, ◌-◌, ◌*◌, ◌^◌, ◌<◌, ◌≤◌, ◌∷◌, ◌++◌, [], List, Bool, true, false, Option, Some, None, IfOk, IfSome, IsSome, OnSome, is_some, if◌then◌else◌};
+ghost use Rattle.std.specs.Prelude.{◌≡◌, ◌↔◌, ◌+◌, ◌-◌, ◌*◌, ◌^◌, ◌<◌, ◌≤◌, ◌∷◌, ◌++◌, [], List, Bool, true, false, Option, Some, None, IfOk, IfSome, IsSome, IsTrue, OnSome, is_some, if◌then◌else◌};
 ghost use Rattle.std.specs.Option.{option_copied};
-ghost use Rattle.physical_stream.specs.Cycles.{Cycle, cycle_in, items_done};
+ghost use Rattle.physical_stream.specs.Cycles.{Cycle, cycle_in, items_done, waiting_of};
 ghost use Rattle.physical_stream.specs.Counts.{transfers_of, packets_of};
 ghost use Rattle.physical_stream.specs.Ending.{ending_of, ending_after, unclosed};
 ghost use Rattle.physical_stream.specs.Items.{items_of};
+ghost use Rattle.physical_stream.specs.Rules.{Binds};
 ghost use Rattle.physical_stream.specs.Shape.{is_whole, tail_of};
 ghost use Rattle.physical_stream.specs.Signals.{Fits};
-ghost use Rattle.complexity_rules.specs.Checking.{IsLowestBroken, StandsFor, Steps, params_in, seen_in, waiting_in};
-ghost use Rattle.complexity_rules.specs.Tails.{IsTailIn};
-ghost use Rattle.complexity_rules.specs.Walk.{Finds};
+ghost use Rattle.physical_stream.specs.declared.rule.Rule.TheVariants.{Hold};
+ghost use Rattle.physical_stream.specs.declared.transfer.Transfer.{Transfer};
+ghost use Rattle.complexity_rules.specs.Checking.{IsLowestBroken, IsStep, Sees, StandsFor, Steps, params_in, seen_in};
+ghost use Rattle.complexity_rules.specs.Effect.{IsEffect};
+ghost use Rattle.complexity_rules.specs.Waiting.{IsLowestShown};
 
-use crate::breaking::{lowest_of_pause, lowest_of_shown};
+use crate::breaking::{hold, lowest_of_pause, lowest_of_shown};
 use crate::checker::Checker;
-use crate::walk::{Walk, walk_over};
+use crate::effect::Effect;
+use crate::one_lane::{lowest_of_one, walk_over_one};
+use crate::walk::walk_over;
 use physical_stream::{End, Params, Row, Rule, Tail, Transfer};
 use std::alloc::Global;
 use tydi_base::Memory;
 
-/// What a cycle is that shows a transfer.
+/// What a cycle is that shows a transfer, where none waits.
 #[derive(Clone, Copy, Debug, PartialEq, Eq)]
 struct Judged {
     /// The lowest rule that it breaks.
     broken: Option<Rule>,
-    /// The walk over the items of the transfer.
-    walk: Walk,
+    /// What the transfer changes when it is done.
+    effect: Effect,
 }
 
 impl Checker {
@@ -39,6 +44,10 @@ impl Checker {
             params,
             waits: false,
             offered,
+            effect: Effect {
+                tail: None,
+                packets: 0,
+            },
             tail: None,
             seen: 0,
             transfers: 0,
@@ -72,14 +81,38 @@ impl Checker {
     fn step_shown(&mut self, transfer: &Transfer, ready: bool) -> Option<Rule>
         requires fits { Fits (params_in self.old) transfer.now }
         requires room { seen_in self.old < 2 ^ 32 - 1 }
-        ensures params { params_in self.new ≡ params_in self.old }
-        ensures steps { (cycles : List Cycle) → StandsFor self.old cycles → Steps self.old self.new cycles (record { ready = ready; shown = Some transfer.now }) result }
-        ensures kept { OnSome result (self.new ≡ self.old) }
-        ensures seen { seen_in self.new ≡ (if is_some result then seen_in self.old else seen_in self.old + 1) }
+        ensures { IsStep self.old self.new (record { ready = ready; shown = Some transfer.now }) result }
+    {
+        if self.has_waiting() {
+            self.step_again(transfer, ready)
+        } else {
+            self.step_first(transfer, ready)
+        }
+    }
+
+    /// One cycle more, which shows this transfer while one waits.
+    fn step_again(&mut self, transfer: &Transfer, ready: bool) -> Option<Rule>
+        requires waits { self.old.waits ≡ true }
+        requires room { seen_in self.old < 2 ^ 32 - 1 }
+        ensures { IsStep self.old self.new (record { ready = ready; shown = Some transfer.now }) result }
+    {
+        if !self.has_offered(transfer) {
+            return Some(self.hold());
+        }
+        self.see_again(ready);
+        None
+    }
+
+    /// One cycle more, which shows this transfer while none waits.
+    fn step_first(&mut self, transfer: &Transfer, ready: bool) -> Option<Rule>
+        requires free { self.old.waits ≡ false }
+        requires fits { Fits (params_in self.old) transfer.now }
+        requires room { seen_in self.old < 2 ^ 32 - 1 }
+        ensures { IsStep self.old self.new (record { ready = ready; shown = Some transfer.now }) result }
     {
         let judged = self.judge_shown(transfer);
         if judged.broken.is_none() {
-            self.see_shown(transfer, ready, judged.walk);
+            self.see_first(transfer, ready, judged.effect);
         }
         judged.broken
     }
@@ -87,11 +120,11 @@ impl Checker {
     /// One cycle more, which shows no transfer.
     fn step_pause(&mut self, _ready: bool) -> Option<Rule>
         requires room { seen_in self.old < 2 ^ 32 - 1 }
-        ensures params { params_in self.new ≡ params_in self.old }
-        ensures steps { (cycles : List Cycle) → StandsFor self.old cycles → Steps self.old self.new cycles (record { ready = _ready; shown = None }) result }
-        ensures kept { OnSome result (self.new ≡ self.old) }
-        ensures seen { seen_in self.new ≡ (if is_some result then seen_in self.old else seen_in self.old + 1) }
+        ensures { IsStep self.old self.new (record { ready = _ready; shown = None }) result }
     {
+        if self.has_waiting() {
+            return Some(self.hold());
+        }
         let broken = self.judge_pause();
         if broken.is_none() {
             self.see_pause();
@@ -99,92 +132,157 @@ impl Checker {
         broken
     }
 
-    /// What a cycle is that shows this transfer.
+    /// Whether a transfer waits.
+    #[inline(always)]
+    fn has_waiting(&self) -> bool
+        ensures { result ≡ self.now.waits }
+    {
+        self.waits
+    }
+
+    /// Whether this is the transfer that waits, where one does.
+    #[inline(always)]
+    fn has_offered(&self, transfer: &Transfer) -> bool
+        ensures { IsTrue result ↔ (transfer.now ≡ self.now.offered) }
+    {
+        transfer.equals(&self.offered)
+    }
+
+    /// The rule on waiting transfers.
+    fn hold(&self) -> Rule
+        ensures rule { result ≡ Hold }
+        ensures binds { Binds Hold (params_in self.now).level }
+    {
+        hold(self.params.level)
+    }
+
+    /// What a cycle is that shows this transfer, where none waits.
+    #[inline(always)]
     fn judge_shown(&self, transfer: &Transfer) -> Judged
         requires { Fits (params_in self.now) transfer.now }
-        ensures lowest { (cycles : List Cycle) (ready : Bool) → StandsFor self.now cycles → IsLowestBroken (params_in self.now) cycles (record { ready = ready; shown = Some transfer.now }) result.broken }
-        ensures found { Finds (params_in self.now).dims self.now.tail (items_of (params_in self.now) transfer.now) result.walk }
-        ensures few { result.walk.packets ≤ 4224 }
+        ensures lowest { IsLowestShown (params_in self.now) self.now.tail transfer.now result.broken }
+        ensures changes { IsEffect (params_in self.now).dims self.now.tail (items_of (params_in self.now) transfer.now) result.effect }
+        ensures few { result.effect.packets ≤ 4224 }
+    {
+        if self.has_one_lane() {
+            self.judge_one(transfer)
+        } else {
+            self.judge_lanes(transfer)
+        }
+    }
+
+    /// Whether the stream has one lane alone.
+    #[inline(always)]
+    fn has_one_lane(&self) -> bool
+        ensures { IsTrue result ↔ ((params_in self.now).lanes ≡ 1) }
+    {
+        self.params.lanes == 1
+    }
+
+    /// The same for any stream.
+    #[inline(always)]
+    fn judge_lanes(&self, transfer: &Transfer) -> Judged
+        requires { Fits (params_in self.now) transfer.now }
+        ensures lowest { IsLowestShown (params_in self.now) self.now.tail transfer.now result.broken }
+        ensures changes { IsEffect (params_in self.now).dims self.now.tail (items_of (params_in self.now) transfer.now) result.effect }
+        ensures few { result.effect.packets ≤ 4224 }
     {
         let items = walk_over(&self.params, transfer, self.tail);
-        let broken = lowest_of_shown(&self.params, self.waiting(), self.tail, transfer, &items);
         Judged {
-            broken,
-            walk: items.walk,
+            broken: lowest_of_shown(&self.params, self.tail, transfer, &items),
+            effect: items.walk.effect(),
         }
     }
 
-    /// The lowest rule that a cycle breaks that shows no transfer.
+    /// The same for a stream of one lane.
+    #[inline(always)]
+    fn judge_one(&self, transfer: &Transfer) -> Judged
+        requires one { (params_in self.now).lanes ≡ 1 }
+        requires fits { Fits (params_in self.now) transfer.now }
+        ensures lowest { IsLowestShown (params_in self.now) self.now.tail transfer.now result.broken }
+        ensures changes { IsEffect (params_in self.now).dims self.now.tail (items_of (params_in self.now) transfer.now) result.effect }
+        ensures few { result.effect.packets ≤ 4224 }
+    {
+        let walk = walk_over_one(&self.params, transfer, self.tail);
+        Judged {
+            broken: lowest_of_one(&self.params, self.tail, &walk),
+            effect: walk.effect(),
+        }
+    }
+
+    /// The lowest rule that a cycle breaks that shows no transfer, where none waits.
     fn judge_pause(&self) -> Option<Rule>
-        ensures { (cycles : List Cycle) (ready : Bool) → StandsFor self.now cycles → IsLowestBroken (params_in self.now) cycles (record { ready = ready; shown = None }) result }
+        ensures { (cycles : List Cycle) (ready : Bool) → waiting_of cycles ≡ None → self.now.tail ≡ tail_of (items_done (params_in self.now) cycles)
+            → IsLowestBroken (params_in self.now) cycles (record { ready = ready; shown = None }) result }
     {
-        lowest_of_pause(&self.params, self.waiting(), self.tail)
-    }
-
-    /// The transfer that waits to be taken.
-    fn waiting(&self) -> Option<&Transfer>
-        ensures { option_copied result ≡ waiting_in self.now }
-    {
-        if self.waits {
-            Some(&self.offered)
-        } else {
-            None
-        }
+        lowest_of_pause(&self.params, self.tail)
     }
 
     /// Sees a cycle that shows no transfer.
     fn see_pause(&mut self)
+        requires free { self.old.waits ≡ false }
         requires room { seen_in self.old < 2 ^ 32 - 1 }
-        ensures params { params_in self.new ≡ params_in self.old }
-        ensures stands { (cycles : List Cycle) (ready : Bool) → StandsFor self.old cycles → StandsFor self.new (cycles ++ record { ready = ready; shown = None } ∷ []) }
-        ensures seen { seen_in self.new ≡ seen_in self.old + 1 }
+        ensures { (ready : Bool) → Sees self.old self.new (record { ready = ready; shown = None }) }
     {
-        self.waits = false;
         self.seen += 1;
     }
 
-    /// Sees a cycle that shows this transfer.
-    fn see_shown(&mut self, transfer: &Transfer, ready: bool, walk: Walk)
+    /// Sees a cycle that shows this transfer, which breaks no rule, where none waits.
+    fn see_first(&mut self, transfer: &Transfer, ready: bool, effect: Effect)
         requires fits { Fits (params_in self.old) transfer.now }
         requires room { seen_in self.old < 2 ^ 32 - 1 }
-        requires found { Finds (params_in self.old).dims self.old.tail (items_of (params_in self.old) transfer.now) walk }
-        requires few { walk.packets ≤ 4224 }
-        ensures params { params_in self.new ≡ params_in self.old }
-        ensures stands { (cycles : List Cycle) → StandsFor self.old cycles → StandsFor self.new (cycles ++ record { ready = ready; shown = Some transfer.now } ∷ []) }
-        ensures seen { seen_in self.new ≡ seen_in self.old + 1 }
+        requires changes { IsEffect (params_in self.old).dims self.old.tail (items_of (params_in self.old) transfer.now) effect }
+        requires few { effect.packets ≤ 4224 }
+        requires kept { IsLowestShown (params_in self.old) self.old.tail transfer.now None }
+        ensures { Sees self.old self.new (record { ready = ready; shown = Some transfer.now }) }
     {
         if ready {
-            self.see_done(transfer, walk);
+            self.see_done(effect);
         } else {
-            self.see_offered(transfer);
+            self.see_offered(transfer, effect);
         }
     }
 
-    /// Sees a cycle in which this transfer is done.
-    fn see_done(&mut self, _transfer: &Transfer, walk: Walk)
+    /// Sees a cycle that shows the transfer that waits.
+    fn see_again(&mut self, ready: bool)
+        requires waits { self.old.waits ≡ true }
         requires room { seen_in self.old < 2 ^ 32 - 1 }
-        requires found { Finds (params_in self.old).dims self.old.tail (items_of (params_in self.old) _transfer.now) walk }
-        requires few { walk.packets ≤ 4224 }
-        ensures params { params_in self.new ≡ params_in self.old }
-        ensures stands { (cycles : List Cycle) → StandsFor self.old cycles → StandsFor self.new (cycles ++ record { ready = true; shown = Some _transfer.now } ∷ []) }
-        ensures seen { seen_in self.new ≡ seen_in self.old + 1 }
+        ensures { Sees self.old self.new (record { ready = ready; shown = Some self.old.offered }) }
     {
-        self.waits = false;
-        self.tail = walk.tail;
-        self.seen += 1;
-        self.transfers += 1;
-        self.packets += walk.packets;
+        if ready {
+            let effect = self.effect;
+            self.see_done(effect);
+        } else {
+            self.seen += 1;
+        }
     }
 
-    /// Sees a cycle that offers this transfer, which is not taken.
-    fn see_offered(&mut self, transfer: &Transfer)
+    /// Sees a cycle in which a transfer is done that changes this.
+    fn see_done(&mut self, effect: Effect)
+        requires room { seen_in self.old < 2 ^ 32 - 1 }
+        requires changes { (t : Transfer) × IsEffect (params_in self.old).dims self.old.tail (items_of (params_in self.old) t) effect }
+        requires few { effect.packets ≤ 4224 }
+        ensures { (t : Transfer) → IsEffect (params_in self.old).dims self.old.tail (items_of (params_in self.old) t) effect
+            → Sees self.old self.new (record { ready = true; shown = Some t }) }
+    {
+        self.waits = false;
+        self.tail = effect.tail;
+        self.seen += 1;
+        self.transfers += 1;
+        self.packets += effect.packets;
+    }
+
+    /// Sees a cycle that offers this transfer, which is not taken and changes this when it is done.
+    fn see_offered(&mut self, transfer: &Transfer, effect: Effect)
         requires fits { Fits (params_in self.old) transfer.now }
         requires room { seen_in self.old < 2 ^ 32 - 1 }
-        ensures params { params_in self.new ≡ params_in self.old }
-        ensures stands { (cycles : List Cycle) → StandsFor self.old cycles → StandsFor self.new (cycles ++ record { ready = false; shown = Some transfer.now } ∷ []) }
-        ensures seen { seen_in self.new ≡ seen_in self.old + 1 }
+        requires changes { IsEffect (params_in self.old).dims self.old.tail (items_of (params_in self.old) transfer.now) effect }
+        requires few { effect.packets ≤ 4224 }
+        requires kept { IsLowestShown (params_in self.old) self.old.tail transfer.now None }
+        ensures { Sees self.old self.new (record { ready = false; shown = Some transfer.now }) }
     {
         self.offered.copy_from(transfer);
+        self.effect = effect;
         self.waits = true;
         self.seen += 1;
     }

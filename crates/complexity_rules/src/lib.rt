@@ -6,22 +6,21 @@
 mod breaking;
 mod checker;
 mod checking;
+mod effect;
 mod levels;
+mod nesting;
+mod one_lane;
 mod pauses;
-#[cfg(test)]
-mod reference_rules;
-#[cfg(test)]
-mod sweep_tests;
 mod table;
-#[cfg(test)]
-mod table_tests;
-#[cfg(test)]
-mod test_cycles;
+mod tails;
 #[cfg(test)]
 mod tests;
+mod unmarked;
 mod walk;
 
 pub use checker::Checker;
 pub use levels::levels_are_kept;
+pub use nesting::items_are_nested;
 pub use pauses::may_pause;
 pub use table::{BINDS, RuleTable, binds, table_is_monotone};
+pub use tails::tail_after;

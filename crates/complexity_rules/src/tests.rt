@@ -1,11 +1,27 @@
 //! What a checker says, by cases worked out by hand.
 
 use super::*;
-use crate::test_cycles::{Cycle, Payload, checker_after, params_of, step_by, told_by};
-use physical_stream::{End, Rule};
+use physical_stream::{End, Params, Row, Rule, Tail, Transfer};
 use std::alloc::Global;
 use std::test::Fail;
-use tydi_base::Memory;
+use tydi_base::{Bits, Level, Memory};
+
+/// What a cycle shows, by numbers.
+#[derive(Clone, Copy)]
+struct Payload {
+    content: u128,
+    last: u128,
+    stai: u16,
+    endi: u16,
+    strb: u128,
+}
+
+/// A cycle, by numbers.
+#[derive(Clone, Copy)]
+struct Cycle {
+    ready: bool,
+    shown: Option<Payload>,
+}
 
 /// A cycle that shows this.
 macro_rules! shown {
@@ -189,80 +205,141 @@ const CASES: [Case; 13] = [
     },
 ];
 
-/// What a checker says of the cycle of a case, of the same once more, and then of the one in its place; whether what it tells
-/// was the same before the last; and the transfers done at the end.
-#[derive(Clone, Copy, Debug, PartialEq, Eq)]
-struct Answers {
-    first: Option<Rule>,
-    again: Option<Rule>,
-    kept: bool,
-    instead: Option<Rule>,
-    transfers: u64,
+fn word_of(alloc: Global, width: usize, number: u128) -> Result<Bits, Memory> {
+    Bits::from_number(alloc, width, number)?.ok_or(Memory)
 }
 
-fn answers_of(alloc: Global, case: &Case) -> Result<Answers, Memory> {
-    let p = params_of(case.lanes, case.dims, case.level, 8)?;
-    let mut checker = checker_after(alloc, &p, case.before)?;
-    let before = told_by(&checker);
-    let first = step_by(alloc, &mut checker, &case.now)?;
-    let again = step_by(alloc, &mut checker, &case.now)?;
-    let kept = told_by(&checker) == before;
-    let instead = step_by(alloc, &mut checker, &case.instead)?;
-    Ok(Answers {
-        first,
-        again,
-        kept,
-        instead,
-        transfers: checker.transfers(),
+fn transfer_of(alloc: Global, p: &Params, payload: &Payload) -> Result<Transfer, Memory> {
+    let lanes = usize::from(p.lanes);
+    Ok(Transfer {
+        content: word_of(alloc, lanes * p.element as usize, payload.content)?,
+        last: word_of(alloc, lanes * usize::from(p.dims), payload.last)?,
+        stai: payload.stai,
+        endi: payload.endi,
+        strb: payload.strb,
+        user: word_of(alloc, p.user as usize, 0)?,
     })
 }
 
-fn wanted_of(case: &Case) -> Answers {
-    Answers {
-        first: Some(case.broken),
-        again: Some(case.broken),
-        kept: true,
-        instead: None,
-        transfers: case.transfers,
+/// One cycle more. A transfer that does not fit is an error of the test.
+fn step(alloc: Global, checker: &mut Checker, cycle: &Cycle) -> Result<Option<Rule>, Memory> {
+    if checker.seen == u32::MAX {
+        return Err(Memory);
     }
+    let ready = cycle.ready;
+    let Some(payload) = &cycle.shown else {
+        return Ok(checker.step(Row { ready, shown: None }));
+    };
+    let transfer = transfer_of(alloc, checker.params(), payload)?;
+    if !transfer.fits(checker.params()) {
+        return Err(Memory);
+    }
+    Ok(checker.step(Row {
+        ready,
+        shown: Some(&transfer),
+    }))
 }
 
-/// The level, and what is broken there by a transfer on lanes 1 and 2 of three.
-const STARTS: [(u8, Option<Rule>); 8] = [
-    (1, Some(Rule::Start)),
-    (2, Some(Rule::Start)),
-    (3, Some(Rule::Start)),
-    (4, Some(Rule::Start)),
-    (5, Some(Rule::Start)),
-    (6, None),
-    (7, None),
-    (8, None),
-];
+fn params_of(lanes: u16, dims: u8, level: u8) -> Result<Params, Memory> {
+    let level = Level::new(level).ok_or(Memory)?;
+    Params::new(lanes, dims, level, 8, 0).ok_or(Memory)
+}
 
-fn start_at(alloc: Global, level: u8) -> Result<Option<Rule>, Memory> {
-    let p = params_of(3, 0, level, 8)?;
+/// The rule that the cycle of a case breaks, what the one in its place does, and the transfers done at the end.
+fn answer_of(alloc: Global, case: &Case) -> Result<(Option<Rule>, Option<Rule>, u64), Memory> {
+    let p = params_of(case.lanes, case.dims, case.level)?;
     let mut checker = Checker::new(alloc, p)?;
-    step_by(alloc, &mut checker, &done!(0, 0, 1, 2, 7))
-}
-
-#[test]
-fn a_checker_begins_with_no_cycle(rt: HostRuntime) -> Result<(), Fail> {
-    let p = params_of(3, 2, 8, 8)?;
-    let checker = Checker::new(rt.alloc(), p)?;
-    assert_eq!(rt; checker.end(), End::Whole);
-    assert_eq!(rt; checker.tail(), None);
-    assert_eq!(rt; (checker.transfers(), checker.packets()), (0, 0));
-    assert_eq!(rt; *checker.params(), p);
-    Ok(())
+    for cycle in case.before {
+        step(alloc, &mut checker, cycle)?;
+    }
+    let broken = step(alloc, &mut checker, &case.now)?;
+    let instead = step(alloc, &mut checker, &case.instead)?;
+    Ok((broken, instead, checker.transfers()))
 }
 
 #[test]
 fn each_rule_is_named_and_forgotten(rt: HostRuntime) -> Result<(), Fail> {
     for case in &CASES {
-        assert_eq!(rt; answers_of(rt.alloc(), case)?, wanted_of(case));
+        assert_eq!(rt;
+            answer_of(rt.alloc(), case)?,
+            (Some(case.broken), None, case.transfers)
+        );
     }
-    for (level, broken) in STARTS {
-        assert_eq!(rt; start_at(rt.alloc(), level)?, broken, "at level {level}");
+    Ok(())
+}
+
+// The level, the kind of the last item in a stream of two dimensions, and whether a pause may follow.
+const PAUSES: [(u8, Option<Tail>, bool); 7] = [
+    (1, None, true),
+    (1, Some(Tail::Close(1)), true),
+    (1, Some(Tail::Close(0)), false),
+    (2, Some(Tail::Close(0)), true),
+    (1, Some(Tail::Elem), false),
+    (2, Some(Tail::Elem), false),
+    (3, Some(Tail::Elem), true),
+];
+
+/// What a checker tells after a transfer, and the kind of the last item where another one follows.
+#[derive(Clone, Copy, Debug, PartialEq, Eq)]
+struct Told {
+    end: End,
+    tail: Option<Tail>,
+    transfers: u64,
+    packets: u64,
+    next: Option<Tail>,
+}
+
+fn next_tail(
+    alloc: Global,
+    p: &Params,
+    tail: Option<Tail>,
+    payload: &Payload,
+) -> Result<Option<Tail>, Memory> {
+    let transfer = transfer_of(alloc, p, payload)?;
+    if transfer.fits(p) {
+        Ok(tail_after(p, tail, &transfer))
+    } else {
+        Err(Memory)
     }
+}
+
+fn told_after(alloc: Global, cycle: &Cycle, next: &Payload) -> Result<Told, Memory> {
+    let p = params_of(2, 1, 8)?;
+    let mut checker = Checker::new(alloc, p)?;
+    step(alloc, &mut checker, cycle)?;
+    Ok(Told {
+        end: checker.end(),
+        tail: checker.tail(),
+        transfers: checker.transfers(),
+        packets: checker.packets(),
+        next: next_tail(alloc, &p, checker.tail(), next)?,
+    })
+}
+
+const CLOSING: Payload = Payload {
+    content: 0,
+    last: 2,
+    stai: 0,
+    endi: 1,
+    strb: 0,
+};
+
+#[test]
+fn what_is_done_is_told(rt: HostRuntime) -> Result<(), Fail> {
+    let told = told_after(rt.alloc(), &done!(0, 1, 0, 1, 3), &CLOSING)?;
+    let wanted = Told {
+        end: End::Unclosed(0),
+        tail: Some(Tail::Elem),
+        transfers: 1,
+        packets: 1,
+        next: Some(Tail::Close(0)),
+    };
+    assert_eq!(rt; told, wanted);
+    for (level, tail, may) in PAUSES {
+        assert_eq!(rt; may_pause(&params_of(1, 2, level)?, tail), may);
+    }
+    table_is_monotone();
+    levels_are_kept();
+    items_are_nested();
     Ok(())
 }

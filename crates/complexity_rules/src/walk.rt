@@ -1,6 +1,6 @@
 //! A walk over the items of a transfer, lane by lane. It makes no list of them.
 
-ghost use Rattle.std.specs.Prelude.{◌≡◌, ◌↔◌, ℕ, ◌+◌, ◌*◌, ◌<◌, ◌≤◌, ◌++◌, ◌∷◌, [], List, Bool, ◌||◌, not, ◌==◌, cond, Option, Some, if◌then◌else◌, IsTrue};
+ghost use Rattle.std.specs.Prelude.{◌≡◌, ◌↔◌, ℕ, ◌+◌, ◌*◌, ◌<◌, ◌≤◌, ◌++◌, ◌∷◌, [], List, Bool, ◌||◌, not, ◌==◌, cond, count_ones, Option, Some, if◌then◌else◌, IsTrue};
 ghost use Rattle.physical_stream.specs.Breaks.{BreaksLaneLast};
 ghost use Rattle.physical_stream.specs.Items.{is_active, items_of, lane_closes, lane_items, lane_word, last_bit, parts_below};
 ghost use Rattle.physical_stream.specs.Shape.{may_close};
@@ -8,8 +8,12 @@ ghost use Rattle.physical_stream.specs.Signals.{Fits};
 ghost use Rattle.physical_stream.specs.declared.item.Item.{Item};
 ghost use Rattle.physical_stream.specs.declared.item.Item.TheVariants as items;
 ghost use Rattle.physical_stream.specs.declared.item.Tail.{Tail};
+ghost use Rattle.complexity_rules.specs.Effect.{IsEffect};
+ghost use Rattle.complexity_rules.specs.Unmarked.{AreUnmarked};
 ghost use Rattle.complexity_rules.specs.Walk.{Finds, first_of_two};
 
+use crate::effect::Effect;
+use crate::unmarked::{active_between, marks_of, next_marked};
 use physical_stream::{Params, Tail, Transfer, is_active, is_last};
 
 /// What a walk over items has found so far.
@@ -40,6 +44,18 @@ impl Walk {
             first_close: None,
             misplaced: false,
             packets: 0,
+        }
+    }
+
+    /// What the items change when they are done.
+    #[inline(always)]
+    pub(crate) fn effect(self) -> Effect
+        ensures effect { (dims : ℕ) (begins : Option Tail) (over : List Item) → Finds dims begins over self → IsEffect dims begins over result }
+        ensures packets { result.packets ≡ self.packets }
+    {
+        Effect {
+            tail: self.tail,
+            packets: self.packets,
         }
     }
 
@@ -127,7 +143,7 @@ impl Walk {
 
     /// The walk goes over the items of this lane.
     #[inline(always)]
-    fn over_lane(self, p: &Params, transfer: &Transfer, lane: u16) -> Walk
+    pub(crate) fn over_lane(self, p: &Params, transfer: &Transfer, lane: u16) -> Walk
         requires fits { Fits p.now transfer.now }
         requires within { lane < p.now.lanes }
         requires numbered { lane < 128 }
@@ -137,6 +153,29 @@ impl Walk {
     {
         self.over_lane_element(p, transfer, lane)
             .over_marks(p, transfer, lane)
+    }
+
+    /// The walk goes over the items of the lanes from one up to another, none of which marks an end.
+    #[inline(always)]
+    fn over_unmarked(self, p: &Params, transfer: &Transfer, from: u16, to: u16) -> Walk
+        requires order { from ≤ to }
+        requires numbered { to ≤ 128 }
+        requires unmarked { AreUnmarked p.now transfer.now from to }
+        requires room { self.packets ≤ 33 * from }
+        ensures found { (begins : Option Tail) → Finds p.now.dims begins (parts_below (lane_items p.now transfer.now) from) self
+            → Finds p.now.dims begins (parts_below (lane_items p.now transfer.now) to) result }
+        ensures few { result.packets ≤ 33 * to }
+    {
+        let elements = active_between(transfer, from, to);
+        if elements == 0 {
+            return self;
+        }
+        Walk {
+            tail: Some(Tail::Elem),
+            active: true,
+            packets: self.packets + packets_among(p, elements),
+            ..self
+        }
     }
 
     /// The walk goes over the items of the first lanes, so many of them.
@@ -149,9 +188,20 @@ impl Walk {
         ensures found { (begins : Option Tail) → Finds p.now.dims begins [] self → Finds p.now.dims begins (parts_below (lane_items p.now transfer.now) count) result }
         ensures few { result.packets ≤ 33 * count }
     {
+        if count == 0 {
+            return self;
+        }
+        let marks = marks_of(transfer);
         let mut walk = self;
-        'lanes: for lane in 0..count {
-            walk = walk.over_lane(p, transfer, lane);
+        let mut lane = 0;
+        'lanes: while lane < count {
+            let marked = next_marked(p, marks, lane, count);
+            walk = walk.over_unmarked(p, transfer, lane, marked);
+            lane = marked;
+            if lane < count {
+                walk = walk.over_lane(p, transfer, lane);
+                lane += 1;
+            }
         }
         walk
     }
@@ -188,6 +238,19 @@ fn is_outermost(p: &Params, dim: u8) -> bool
     ensures { result ≡ (dim + 1 == p.now.dims) }
 {
     u16::from(dim) + 1 == u16::from(p.dims)
+}
+
+/// How many packets so many elements are, each of them a one of the number.
+#[inline(always)]
+fn packets_among(p: &Params, elements: u128) -> u64
+    ensures packets { result ≡ cond (p.now.dims == 0) (count_ones elements) 0 }
+    ensures few { result ≤ count_ones elements }
+{
+    if p.dims == 0 {
+        u64::from(elements.count_ones())
+    } else {
+        0
+    }
 }
 
 /// 1 for true.

@@ -1,6 +1,6 @@
 -- What is known of every text that begins so, line by line.
-use Rattle.std.proofs.Common.{◌≡◌, ◌∙◌, ℕ, suc, ◌+◌, ◌*◌, ◌<◌, ◌≤◌, true, false, List, [], ◌∷◌, ◌++◌, length, drop, get_or, nat_le, Option, Some, None, Result, Ok, Err, MatchOption, append_assoc, length-append, refl, sym, ap, subst, arith}
-use Rattle.std.specs.List.{slice_get}
+use Rattle.std.proofs.Common.{◌≡◌, ◌∙◌, ℕ, suc, ◌+◌, ◌*◌, ◌<◌, ◌≤◌, Bool, true, false, if◌then◌else◌, List, [], ◌∷◌, ◌++◌, length, drop, get_or, nat_le, Option, Some, None, Result, Ok, Err, MatchOption, append_assoc, length-append, refl, sym, ap, subst, arith}
+use Rattle.std.specs.List.{join_with_byte, slice_get}
 use Rattle.std.specs.BTreeSet.{BTreeSet}
 use Rattle.std.specs.declared.vec.Vec.{Vec}
 use Rattle.std.proofs.Math.ListN.{drop_of_length-le}
@@ -9,27 +9,29 @@ use Rattle.std.proofs.lemmas.Bool.Decides.{nat_tests}
 use Rattle.std.proofs.lemmas.List.{append-nil}
 use Rattle.std.proofs.lemmas.Option.{slice_get_within, slice_get-get_or, get_or_from_slice_get}
 use Rattle.tydi_base.specs.Path.{path_text}
-use Rattle.tydi_base.specs.Pieces.{Lacks, lines_of}
+use Rattle.tydi_base.specs.Pieces.{Lacks, lines_of, words_of}
 use Rattle.tydi_base.specs.Reading.{◌>>=◌}
-use Rattle.tydi_base.proofs.PieceLaws.{pieces_of-append, pieces_of-lacks}
+use Rattle.tydi_base.proofs.PieceLaws.{join-pieces_of, pieces_of-append, pieces_of-lacks}
+use Rattle.tydi_base.proofs.ReadingLaws.{ok_is}
 use Rattle.physical_stream.specs.Params.{Parameters}
 use Rattle.physical_stream.specs.Cycles.{Cycle}
 use Rattle.physical_stream.specs.declared.head.Head.{Head}
 use Rattle.cycle_trace.specs.declared.fault.TraceFault.{TraceFault}
-use Rattle.cycle_trace.specs.declared.fault.TraceFault.TheVariants.{BadHeader, TooManyCycles, RowsLeft}
+use Rattle.cycle_trace.specs.declared.fault.TraceFault.TheVariants.{BadHeader, BadRow, TooManyCycles, RowsLeft, WrongSignals}
 use Rattle.cycle_trace.specs.Beginnings.{Fails, GoesOn, GoesOnLine, IsFault, Opens, OpensWith, begun, heads_on, rows_on}
 use Rattle.cycle_trace.specs.Faults.{fault_in}
 use Rattle.cycle_trace.specs.HeaderText.{HeaderStart, count_of_cycles, head_after, heads_from, in_header, is_head_line, header_start_after, header_start_of, title_of}
 use Rattle.cycle_trace.specs.RowSink.{with_row}
-use Rattle.cycle_trace.specs.RowText.{row_at}
+use Rattle.cycle_trace.specs.ReaderView.{EndsInHeader, HoldsHeader}
+use Rattle.cycle_trace.specs.RowText.{has_form, row_at, row_fault}
 use Rattle.cycle_trace.specs.RowsText.{cut_row}
 use Rattle.cycle_trace.specs.TextSet.{AddsText, HasTexts}
 use Rattle.cycle_trace.specs.Trace.{TraceText, are_heads, most_cycles, owed, params_of_heads}
 use Rattle.cycle_trace.specs.TraceText.{rows_from, trace_from, trace_of}
-use Rattle.cycle_trace.proofs.HeaderLemmas.{after_cycles, heads_from-head, heads_from-other, of_title, header_start_after-one, header_start_of-one, some_lines}
+use Rattle.cycle_trace.proofs.HeaderLemmas.{after_cycles, heads_from-head, heads_from-other, of_title, header_start_after-one, header_start_of-one}
 use Rattle.cycle_trace.proofs.KeepLemmas.{length-owed_heads}
 use Rattle.cycle_trace.proofs.RowsLemmas.{rows_from-cons, rows_from-cut, rows_from-left, some_line}
-use Rattle.cycle_trace.proofs.StreamsLemmas.{header_start_of-are_heads}
+use Rattle.cycle_trace.proofs.TraceSpelling.{header_start_of-are_heads}
 use Rattle.cycle_trace.proofs.TextSetLemmas.{HasTexts-more}
 
 -- ---- bytes and lines
@@ -91,30 +93,30 @@ module _ (bytes line : List ℕ) (plain : Lacks 10 line) where
       (λ f is. ap (λ (o : Result HeaderStart TraceFault). o >>= trace_from) (opens_line gives opens more ∙ is)) (wrong more)
 
   -- the first line
-  pub title-ok : Opens bytes line header_start_of → in_header 1 (title_of line) ≡ Ok tt → Opens (bytes ++ 10 ∷ []) [] header_start_after
+  pub title-ok : Opens bytes line header_start_of → title_of line ≡ Ok tt → Opens (bytes ++ 10 ∷ []) [] header_start_after
   title-ok opens right more =
-      opens_line header_start_of opens more ∙ of_title line (lines_of more) (some_lines more) ∙ ap (λ (o : Result (Unit {0}) TraceFault). o >>= λ fine. header_start_after (lines_of more)) right
+      opens_line header_start_of opens more ∙ of_title line (lines_of more) (some_line more) ∙ ap (λ (o : Result (Unit {0}) (Unit {0})). in_header 1 o >>= λ fine. header_start_after (lines_of more)) right
 
-  pub title-fails : (e : TraceFault) → Opens bytes line header_start_of → IsFault (in_header 1 (title_of line)) e → Fails (bytes ++ 10 ∷ []) e
-  title-fails e opens wrong = fails_line header_start_of e opens (λ more. fault_by (in_header 1 (title_of line)) (header_start_of (line ∷ lines_of more)) e
-      (λ f is. of_title line (lines_of more) (some_lines more) ∙ ap (λ (o : Result (Unit {0}) TraceFault). o >>= λ fine. header_start_after (lines_of more)) is) wrong)
+  pub title-fails : (e : Unit {0}) → Opens bytes line header_start_of → title_of line ≡ Err e → Fails (bytes ++ 10 ∷ []) (BadHeader 1)
+  title-fails e opens wrong = fails_line header_start_of (BadHeader 1) opens (λ more.
+      of_title line (lines_of more) (some_line more) ∙ ap (λ (o : Result (Unit {0}) (Unit {0})). in_header 1 o >>= λ fine. header_start_after (lines_of more)) wrong)
 
   -- the second line
-  pub cycles-ok : {Y : Type 0} (cycles : ℕ) (set : BTreeSet (Vec ℕ Y)) → Opens bytes line header_start_after → in_header 2 (count_of_cycles line) ≡ Ok cycles → HasTexts set [] → OpensWith (bytes ++ 10 ∷ []) [] cycles [] set
+  pub cycles-ok : {Y : Type 0} (cycles : ℕ) (set : BTreeSet (Vec ℕ Y)) → Opens bytes line header_start_after → count_of_cycles line ≡ Ok cycles → HasTexts set [] → OpensWith (bytes ++ 10 ∷ []) [] cycles [] set
   cycles-ok cycles set opens right none = record {
     paths = [];
     many = refl;
     few = omega arith;
     told = none;
     opens = λ more.
-        opens_line header_start_after opens more ∙ after_cycles line (lines_of more) (some_lines more)
-        ∙ ap (λ (o : Result ℕ TraceFault). o >>= λ n. heads_from 3 [] (lines_of more) >>= λ found. Ok (record { cycles = n; heads = found.0; lines = found.1 })) right;
+        opens_line header_start_after opens more ∙ after_cycles line (lines_of more) (some_line more)
+        ∙ ap (λ (o : Result ℕ (Unit {0})). in_header 2 o >>= λ n. heads_from 3 [] (lines_of more) >>= λ found. Ok (record { cycles = n; heads = found.0; lines = found.1 })) right;
   }
 
-  pub cycles-fails : (e : TraceFault) → Opens bytes line header_start_after → IsFault (in_header 2 (count_of_cycles line)) e → Fails (bytes ++ 10 ∷ []) e
-  cycles-fails e opens wrong = fails_line header_start_after e opens (λ more. fault_by (in_header 2 (count_of_cycles line)) (header_start_after (line ∷ lines_of more)) e
-      (λ f is. after_cycles line (lines_of more) (some_lines more)
-      ∙ ap (λ (o : Result ℕ TraceFault). o >>= λ n. heads_from 3 [] (lines_of more) >>= λ found. Ok (record { cycles = n; heads = found.0; lines = found.1 })) is) wrong)
+  pub cycles-fails : (e : Unit {0}) → Opens bytes line header_start_after → count_of_cycles line ≡ Err e → Fails (bytes ++ 10 ∷ []) (BadHeader 2)
+  cycles-fails e opens wrong = fails_line header_start_after (BadHeader 2) opens (λ more.
+      after_cycles line (lines_of more) (some_line more)
+      ∙ ap (λ (o : Result ℕ (Unit {0})). in_header 2 o >>= λ n. heads_from 3 [] (lines_of more) >>= λ found. Ok (record { cycles = n; heads = found.0; lines = found.1 })) wrong)
 
   pub title-end : Opens bytes line header_start_of → trace_of bytes ≡ Err (BadHeader 1)
   unfolding trace_of
@@ -123,6 +125,13 @@ module _ (bytes line : List ℕ) (plain : Lacks 10 line) where
   pub cycles-end : Opens bytes line header_start_after → trace_of bytes ≡ Err (BadHeader 2)
   unfolding trace_of
   cycles-end opens = ap (λ (o : Result HeaderStart TraceFault). o >>= trace_from) (opens_last header_start_after opens ∙ header_start_after-one line)
+
+  -- a header that is read ends before the line that is begun
+  pub past-Title : Opens bytes line header_start_of → HoldsHeader bytes → ⊥
+  past-Title opens h = let cut = sym (h.read) ∙ opens_last header_start_of opens ∙ header_start_of-one line in cc
+
+  pub past-Cycles : Opens bytes line header_start_after → HoldsHeader bytes → ⊥
+  past-Cycles opens h = let cut = sym (h.read) ∙ opens_last header_start_after opens ∙ header_start_after-one line in cc
 
 -- one head more in front
 front-more : (cycles : ℕ) (heads : List Head) (head : Head) (read : Result (List Head × List (List ℕ)) TraceFault)
@@ -181,16 +190,16 @@ module _ {Y : Type 0} (bytes line : List ℕ) (plain : Lacks 10 line) (cycles : 
     many = omega (arith, h.many, length-append heads (head ∷ []));
     few = omega (arith, length-append heads (head ∷ []));
     told = HasTexts-more set new (path_text head.path) h.paths h.told adds;
-    opens = λ more. opens_line bytes line plain (heads_on cycles heads h.paths) h.opens more ∙ heads_on-head cycles heads h.paths line (lines_of more) head (some_lines more) is read;
+    opens = λ more. opens_line bytes line plain (heads_on cycles heads h.paths) h.opens more ∙ heads_on-head cycles heads h.paths line (lines_of more) head (some_line more) is read;
   }
 
   pub head-fails : (e : TraceFault) → is_head_line line ≡ true → IsFault (in_header (3 + length heads) (head_after h.paths line)) e → Fails (bytes ++ 10 ∷ []) e
   head-fails e is wrong = fails_line bytes line plain (heads_on cycles heads h.paths) e h.opens (λ more.
-      fault_by (in_header (3 + length heads) (head_after h.paths line)) (heads_on cycles heads h.paths (line ∷ lines_of more)) e (λ f read. heads_on-fails cycles heads h.paths line (lines_of more) f (some_lines more) is read) wrong)
+      fault_by (in_header (3 + length heads) (head_after h.paths line)) (heads_on cycles heads h.paths (line ∷ lines_of more)) e (λ f read. heads_on-fails cycles heads h.paths line (lines_of more) f (some_line more) is read) wrong)
 
   module _ (other : is_head_line line ≡ false) where
     opened : (more : List ℕ) → header_start_of (lines_of ((bytes ++ 10 ∷ []) ++ more)) ≡ Ok (record { cycles = cycles; heads = heads; lines = line ∷ lines_of more })
-    opened more = opens_line bytes line plain (heads_on cycles heads h.paths) h.opens more ∙ heads_on-other cycles heads h.paths line (lines_of more) (some_lines more) other
+    opened more = opens_line bytes line plain (heads_on cycles heads h.paths) h.opens more ∙ heads_on-other cycles heads h.paths line (lines_of more) (some_line more) other
 
     -- the heads of the header may stand together
     pub heads-stand : are_heads heads ≡ true
@@ -208,6 +217,14 @@ module _ {Y : Type 0} (bytes line : List ℕ) (plain : Lacks 10 line) (cycles : 
     opened_last : header_start_of (lines_of bytes) ≡ Ok (record { cycles = cycles; heads = heads; lines = line ∷ [] })
     opened_last = opens_last bytes line plain (heads_on cycles heads h.paths) h.opens ∙ heads_on-last cycles heads h.paths line other
 
+    pub ends-in_header : line ≡ [] → cycles * length heads ≡ 0 → EndsInHeader bytes
+    ends-in_header none no_rows = record {
+      start = record { cycles = cycles; heads = heads; lines = line ∷ [] };
+      read = opened_last;
+      ends = ap (λ (l : List ℕ). l ∷ []) none;
+      no_rows = no_rows;
+    }
+
     pub heads-stand_last : are_heads heads ≡ true
     heads-stand_last = header_start_of-are_heads (lines_of bytes) (record { cycles = cycles; heads = heads; lines = line ∷ [] }) opened_last
 
@@ -223,12 +240,19 @@ module _ {Y : Type 0} (bytes line : List ℕ) (plain : Lacks 10 line) (cycles : 
   unfolding trace_of
   header-cut is = ap (λ (o : Result HeaderStart TraceFault). o >>= trace_from) (opens_last bytes line plain (heads_on cycles heads h.paths) h.opens ∙ heads_on-cut cycles heads h.paths line is)
 
+  pub past-Heads : HoldsHeader bytes → ⊥
+  past-Heads held = by_line (is_head_line line) refl
+    where
+      by_line : (test : Bool) → is_head_line line ≡ test → ⊥
+      by_line true is = let cut = sym (held.read) ∙ opens_last bytes line plain (heads_on cycles heads h.paths) h.opens ∙ heads_on-cut cycles heads h.paths line is in cc
+      by_line false other =
+          let start : HeaderStart = record { cycles = cycles; heads = heads; lines = line ∷ [] } in
+          let same : held.start ≡ start = ok_is held.start start (sym (held.read) ∙ opened_last other) in
+          omega (arith, held.line, ap (λ (s : HeaderStart). length s.lines) same)
+
 -- ---- the rows
 
 module _ (t : TraceText) where
-  owed_rows : List Parameters
-  owed_rows = owed (params_of_heads t.heads) t.cycles
-
   front-row : (cycle : Cycle) (read : Result (List Cycle) TraceFault)
       → ◌≡◌ {A = Result TraceText TraceFault} ((read >>= λ cycles. Ok (cycle ∷ cycles)) >>= λ rows. Ok (record { cycles = t.cycles; heads = t.heads; rows = t.rows ++ rows }))
       (read >>= λ rows. Ok (record { cycles = t.cycles; heads = t.heads; rows = (t.rows ++ cycle ∷ []) ++ rows }))
@@ -305,6 +329,14 @@ module _ (t : TraceText) where
     pub left-fails : (bytes line : List ℕ) → GoesOnLine bytes line t → Fails (bytes ++ 10 ∷ []) (RowsLeft (3 + length t.heads + length t.rows))
     left-fails bytes line goes more = goes more ∙ rows_on-left (line ∷ lines_of more) (omega arith) (two_lines line (lines_of more) (some_line more))
 
+    -- bytes after the last row, whatever follows
+    pub left-more : (bytes line rest : List ℕ) → GoesOn bytes line t → 0 < length rest → Fails (bytes ++ rest) (RowsLeft (3 + length t.heads + length t.rows))
+    left-more bytes line rest goes some more =
+        ap trace_of (append_assoc bytes rest more) ∙ goes (rest ++ more)
+        ∙ rows_on-left (lines_of (line ++ (rest ++ more))) (some_line (line ++ (rest ++ more))) (λ same.
+        let none : line ++ (rest ++ more) ≡ [] = sym (join-pieces_of 10 (line ++ (rest ++ more))) ∙ ap (join_with_byte 10) same in
+        omega (arith, ap length none, length-append line (rest ++ more), length-append rest more))
+
     pub rows_on-rest : (line : List ℕ) → (line ≡ [] → ⊥) → rows_on t (line ∷ []) ≡ Err (RowsLeft (3 + length t.heads + length t.rows))
     rows_on-rest line other = rows_on-left (line ∷ []) (omega arith) (λ same. let first : line ≡ [] = cc in other first)
 
@@ -333,6 +365,14 @@ IsFault-cut read e line want got number same is = subst (λ (f : TraceFault). Is
     by_line : (line : List ℕ) → read ≡ Err (cut_row line want got number) → IsFault read (cut_row line want got number)
     by_line [] h = h
     by_line (byte ∷ more) h = h
+
+-- the fault of a line that is no row
+pub IsFault-row : {A : Type 0} (read : Result A TraceFault) (number : ℕ) (line : List ℕ) → read ≡ Err (row_fault number line) → IsFault read (row_fault number line)
+IsFault-row read number line is = by_form (has_form (words_of line)) is
+  where
+    by_form : (form : Bool) → read ≡ Err (if form then WrongSignals number else BadRow number) → IsFault read (if form then WrongSignals number else BadRow number)
+    by_form true h = h
+    by_form false h = h
 
 -- a whole line of a row
 pub GoesOn-line : (bytes line : List ℕ) (t : TraceText) → Lacks 10 line → GoesOn bytes line t → GoesOnLine bytes line t

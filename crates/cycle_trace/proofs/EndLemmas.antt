@@ -1,23 +1,21 @@
 -- What the checkers of a trace say before its first row and after its last one.
-use Rattle.std.proofs.Common.{◌≡◌, ◌≢◌, ◌∙◌, ℕ, suc, ◌+◌, ◌*◌, ◌<◌, ◌≤◌, inl, inr, List, [], ◌∷◌, ◌++◌, length, map, take, drop, get_or, slice_get, None, Some, Result, Ok, Err, refl, sym, ap, subst, arith}
+use Rattle.std.proofs.Common.{◌≡◌, ◌≢◌, ◌∙◌, ℕ, suc, ◌+◌, ◌*◌, ◌<◌, ◌≤◌, inl, inr, List, [], ◌∷◌, ◌++◌, length, map, take, drop, get_or, slice_get, Option, None, Some, refl, sym, ap, subst, arith}
 use Rattle.std.proofs.lemmas.Bool.{cases_lt}
 use Rattle.std.proofs.lemmas.List.{length_push, drop_more, drop_all, map_more, take_all}
 use Rattle.std.proofs.lemmas.Option.{slice_get_cases, slice_get_read, slice_get_within, get_or_from_slice_get}
 use Rattle.physical_stream.specs.Cycles.{Cycle, StreamTrace}
 use Rattle.physical_stream.specs.Counts.{transfers_of, packets_of}
 use Rattle.physical_stream.specs.Ending.{ending_of}
-use Rattle.physical_stream.specs.First.{Offends, IsFirst}
+use Rattle.physical_stream.specs.First.{IsFirst}
 use Rattle.physical_stream.specs.declared.end.End.{End}
 use Rattle.physical_stream.specs.declared.end.End.TheVariants as ends
 use Rattle.physical_stream.specs.declared.head.Head.{Head}
 use Rattle.complexity_rules.specs.Checking.{StandsFor, params_in}
 use Rattle.complexity_rules.specs.declared.checker.Checker.{Checker}
 use Rattle.cycle_trace.specs.declared.counts.Counts.{Counts}
-use Rattle.cycle_trace.specs.declared.counts.SurveyFault.{SurveyFault}
-use Rattle.cycle_trace.specs.declared.counts.SurveyFault.TheVariants as faults
 use Rattle.cycle_trace.specs.Trace.{TraceText, cycles_of_stream, row_in, streams_of}
-use Rattle.cycle_trace.specs.Survey.{Answers, Surveys, counts_of, first_unfinished, or_unfinished}
-use Rattle.cycle_trace.specs.Surveying.{AreChecked, HaveCheckers}
+use Rattle.cycle_trace.specs.Survey.{Surveys, UnfinishedStream, counts_of, first_unfinished, or_unfinished, survey_of}
+use Rattle.cycle_trace.specs.Surveying.{AreChecked, HaveCheckers, offends_in}
 use Rattle.std.specs.Option.{option_to_list}
 use Rattle.physical_stream.specs.Items.{parts_below}
 use Rattle.cycle_trace.proofs.PartsLemmas.{slice_get-front, slice_get-next, parts_below-tail}
@@ -59,7 +57,7 @@ AreChecked-none t checkers none have = record {
       record { params = found.0; stands = subst (λ (cycles : List Cycle). StandsFor checker cycles) (sym (cycles-none t stream none)) found.1 };
 }
 
-pub IsFirst-none_yet : (t : TraceText) → t.rows ≡ [] → IsFirst (Offends (streams_of t)) None
+pub IsFirst-none_yet : (t : TraceText) → t.rows ≡ [] → IsFirst (offends_in t) None
 IsFirst-none_yet t none o b =
     let found = breaks_in t o b in
     let stands = ap (λ (cycles : List Cycle). slice_get cycles o.cycle) (sym (cycles-none t o.stream none)) ∙ found.1.1.stands in
@@ -93,51 +91,40 @@ checks_stream t checkers stream checker at within is = elim (slice_get_cases t.h
 many_streams : (t : TraceText) (checkers : List Checker) → AreChecked t checkers → length (streams_of t) ≡ length checkers
 many_streams t checkers at = length-streams t 0 t.heads ∙ sym at.many
 
--- the streams from one on that ends so
-first-here : (streams : List StreamTrace) (i : ℕ) (trace : StreamTrace) (found : Result Counts SurveyFault) → slice_get streams i ≡ Some trace →
-    first_unfinished i (drop i streams) found ≡ or_unfinished i (ending_of trace.params trace.cycles) (first_unfinished (i + 1) (drop (i + 1) streams) found)
-first-here streams i trace found is =
-    let within = slice_get_within streams i trace is in
-    let parts = drop_more streams i trace within in
-    let same = get_or_from_slice_get streams i trace trace is in
-    let next : suc i ≡ i + 1 = omega arith in
-    ap (λ (rest : List StreamTrace). first_unfinished i rest found) (parts ∙ ap (λ (s : StreamTrace). s ∷ drop (i + 1) streams) same)
-    ∙ ap (λ (k : ℕ). or_unfinished i (ending_of trace.params trace.cycles) (first_unfinished k (drop (i + 1) streams) found)) next
+not_whole : (i : ℕ) (end : End) (later : Option UnfinishedStream) → end ≢ ends.Whole → or_unfinished i end later ≡ Some (record { stream = i; end = end })
+not_whole i ends.Whole later unlike = absurd (unlike refl)
+not_whole i ends.Pending later unlike = refl
+not_whole i (ends.Unclosed k) later unlike = refl
 
--- what is found from the first stream on is what is found from this one on
+-- the first stream of all that does not end whole is the first one from this number on
 abbrev pub GoesOn : TraceText → ℕ → Type 0
-GoesOn t i = (found : Result Counts SurveyFault) → first_unfinished 0 (streams_of t) found ≡ first_unfinished i (drop i (streams_of t)) found
+GoesOn t i = first_unfinished 0 (streams_of t) ≡ first_unfinished i (drop i (streams_of t))
 
 -- a checker tells how its stream ends
 abbrev pub TellsEnd : Checker → End → Type 0
 TellsEnd checker end = (cycles : List Cycle) → StandsFor checker cycles → end ≡ ending_of (params_in checker) cycles
 
-ends_here : (t : TraceText) (checkers : List Checker) (i : ℕ) (checker : Checker) (end : End) → AreChecked t checkers → i < length checkers → checker ≡ get_or checkers i checker → TellsEnd checker end → GoesOn t i →
-    (found : Result Counts SurveyFault) → first_unfinished 0 (streams_of t) found ≡ or_unfinished i end (first_unfinished (i + 1) (drop (i + 1) (streams_of t)) found)
-ends_here t checkers i checker end at within is tells goes found =
-    let h = checks_stream t checkers i checker at within is in
-    let end_is : ending_of h.trace.params h.trace.cycles ≡ end = sym (tells h.trace.cycles h.seen ∙ ap (λ p. ending_of p h.trace.cycles) h.params) in
-    goes found ∙ first-here (streams_of t) i h.trace found h.stands
-    ∙ ap (λ (e : End). or_unfinished i e (first_unfinished (i + 1) (drop (i + 1) (streams_of t)) found)) end_is
+module _ (t : TraceText) (checkers : List Checker) (i : ℕ) (at : AreChecked t checkers) (goes : GoesOn t i) where
+  module _ (checker : Checker) (end : End) (within : i < length checkers) (is : checker ≡ get_or checkers i checker) (tells : TellsEnd checker end) where
+    ends_here : first_unfinished 0 (streams_of t) ≡ or_unfinished i end (first_unfinished (i + 1) (drop (i + 1) (streams_of t)))
+    ends_here =
+        let h = checks_stream t checkers i checker at within is in
+        let end_is : ending_of h.trace.params h.trace.cycles ≡ end = sym (tells h.trace.cycles h.seen ∙ ap (λ p. ending_of p h.trace.cycles) h.params) in
+        let same = get_or_from_slice_get (streams_of t) i h.trace h.trace h.stands in
+        let parts = drop_more (streams_of t) i h.trace (slice_get_within (streams_of t) i h.trace h.stands) in
+        let next : suc i ≡ i + 1 = omega arith in
+        goes ∙ ap (first_unfinished i) (parts ∙ ap (λ (s : StreamTrace). s ∷ drop (i + 1) (streams_of t)) same)
+        ∙ ap (λ (k : ℕ). or_unfinished i (ending_of h.trace.params h.trace.cycles) (first_unfinished k (drop (i + 1) (streams_of t)))) next
+        ∙ ap (λ (e : End). or_unfinished i e (first_unfinished (i + 1) (drop (i + 1) (streams_of t)))) end_is
 
-pub GoesOn-more : (t : TraceText) (checkers : List Checker) (i : ℕ) (checker : Checker) (end : End) → AreChecked t checkers → i < length checkers → checker ≡ get_or checkers i checker → TellsEnd checker end → GoesOn t i →
-    end ≡ ends.Whole → GoesOn t (i + 1)
-GoesOn-more t checkers i checker end at within is tells goes whole found =
-    ends_here t checkers i checker end at within is tells goes found ∙ ap (λ (e : End). or_unfinished i e (first_unfinished (i + 1) (drop (i + 1) (streams_of t)) found)) whole
+    pub GoesOn-more : end ≡ ends.Whole → GoesOn t (i + 1)
+    GoesOn-more whole = ends_here ∙ ap (λ (e : End). or_unfinished i e (first_unfinished (i + 1) (drop (i + 1) (streams_of t)))) whole
 
-not_whole : (i : ℕ) (end : End) (found : Result Counts SurveyFault) → end ≢ ends.Whole → or_unfinished i end found ≡ Err (faults.Unfinished i end)
-not_whole i ends.Whole found unlike = absurd (unlike refl)
-not_whole i ends.Pending found unlike = refl
-not_whole i (ends.Unclosed k) found unlike = refl
+    pub GoesOn-ends : end ≢ ends.Whole → Some (record { stream = i; end = end }) ≡ first_unfinished 0 (streams_of t)
+    GoesOn-ends unlike = sym (ends_here ∙ not_whole i end (first_unfinished (i + 1) (drop (i + 1) (streams_of t))) unlike)
 
-pub GoesOn-ends : (t : TraceText) (checkers : List Checker) (i : ℕ) (checker : Checker) (end : End) → AreChecked t checkers → i < length checkers → checker ≡ get_or checkers i checker → TellsEnd checker end → GoesOn t i →
-    end ≢ ends.Whole → (found : Result Counts SurveyFault) → first_unfinished 0 (streams_of t) found ≡ Err (faults.Unfinished i end)
-GoesOn-ends t checkers i checker end at within is tells goes unlike found =
-    ends_here t checkers i checker end at within is tells goes found ∙ not_whole i end (first_unfinished (i + 1) (drop (i + 1) (streams_of t)) found) unlike
-
-pub GoesOn-all : (t : TraceText) (checkers : List Checker) (i : ℕ) → AreChecked t checkers → length checkers ≤ i → GoesOn t i → (found : Result Counts SurveyFault) → first_unfinished 0 (streams_of t) found ≡ found
-GoesOn-all t checkers i at past goes found =
-    goes found ∙ ap (λ (rest : List StreamTrace). first_unfinished i rest found) (drop_all i (streams_of t) (omega (arith, many_streams t checkers at)))
+  pub GoesOn-all : length checkers ≤ i → None ≡ first_unfinished 0 (streams_of t)
+  GoesOn-all past = sym (goes ∙ ap (first_unfinished i) (drop_all i (streams_of t) (omega (arith, many_streams t checkers at))))
 
 -- ---- counts
 
@@ -165,17 +152,10 @@ counts_in-all t checkers i at past = ap (λ (streams : List StreamTrace). map co
 
 -- ---- the whole survey
 
-pub answers_fault : (t : TraceText) (fault : SurveyFault) → IsFirst (Offends (streams_of t)) None → ((found : Result Counts SurveyFault) → first_unfinished 0 (streams_of t) found ≡ Err fault) → Answers (streams_of t) (Err fault)
-answers_fault t fault legal is = by_fault fault (record { first = None; is_first = legal; says = sym (is (Ok (counts_of (streams_of t)))) })
-  where
-    by_fault : (f : SurveyFault) → Surveys (streams_of t) (Err f) → Answers (streams_of t) (Err f)
-    by_fault (faults.Offence cycle stream rule) h = h
-    by_fault (faults.Unfinished stream end) h = h
-    by_fault faults.Memory h = tt
-
-pub surveys_counts : (t : TraceText) (counts : Counts) → IsFirst (Offends (streams_of t)) None → ((found : Result Counts SurveyFault) → first_unfinished 0 (streams_of t) found ≡ found) → counts ≡ counts_of (streams_of t) → Surveys (streams_of t) (Ok counts)
-surveys_counts t counts legal is same = record {
+pub surveys_legal : (t : TraceText) (unfinished : Option UnfinishedStream) (counts : Counts) → IsFirst (offends_in t) None → unfinished ≡ first_unfinished 0 (streams_of t) → counts ≡ counts_of (streams_of t)
+    → Surveys (offends_in t) (streams_of t) (survey_of None unfinished counts)
+surveys_legal t unfinished counts legal ends counted = record {
   first = None;
   is_first = legal;
-  says = ap (λ (c : Counts). Ok c) same ∙ sym (is (Ok (counts_of (streams_of t))));
+  says = ap (λ (u : Option UnfinishedStream). survey_of None u counts) ends ∙ ap (survey_of None (first_unfinished 0 (streams_of t))) counted;
 }

@@ -1,70 +1,54 @@
 -- The header of a trace, read.
-use Rattle.std.proofs.Common.{◌≡◌, ℕ, suc, ◌^◌, ◌<◌, ◌≤◌, Bool, true, false, not, ◌&&◌, List, [], ◌∷◌, length, eqb, Option, Some, None, Result, Ok, Err, IfOk, nat_le, nat_lt, MatchOption, refl, sym, ap, ◌∙◌, arith, if◌then◌else◌}
+use Rattle.std.proofs.Common.{◌≡◌, ℕ, suc, ◌^◌, ◌<◌, ◌≤◌, Bool, true, false, not, ◌&&◌, List, [], ◌∷◌, length, Option, Some, None, Result, Ok, Err, IfOk, nat_le, nat_lt, MatchOption, refl, sym, ap, ◌∙◌, arith, if◌then◌else◌}
 use Rattle.std.proofs.Math.Bool.{and-false}
 use Rattle.std.proofs.lemmas.Bool.Decides.{nat_tests}
-use Rattle.std.proofs.lemmas.Option.{cond_some}
-use Rattle.std.proofs.lemmas.Str.Parse.{digits_value_short}
-use Rattle.std.proofs.lemmas.List.Splits.{length-slice_split}
 use Rattle.std.specs.List.{list_any}
 use Rattle.std.specs.Str.{bytes_eq}
 use Rattle.std.specs.Option.{ok_or}
 use Rattle.std.specs.BTreeSet.{BTreeSet}
 use Rattle.std.specs.declared.vec.Vec.{Vec}
-use Rattle.tydi_base.specs.Decimal.{read_on, is_decimal, decimal_of, below}
+use Rattle.tydi_base.specs.Decimal.{decimal_of, below}
 use Rattle.tydi_base.specs.Reading.{◌>>=◌, or_fault, Gives}
 use Rattle.tydi_base.specs.Path.{path_text}
-use Rattle.tydi_base.specs.Pieces.{lines_of}
 use Rattle.tydi_base.proofs.ReadingLaws.{fails_then, bind_ok}
-use Rattle.tydi_base.proofs.DecimalLaws.{own, is_decimal-to}
 use Rattle.physical_stream.specs.declared.head.Head.{Head}
 use Rattle.cycle_trace.specs.declared.fault.TraceFault.TheVariants.{BadHeader}
-use Rattle.cycle_trace.specs.declared.fault.Misspelling.{Misspelling}
-use Rattle.cycle_trace.specs.declared.fault.Misspelling.TheVariants as misspellings
-use Rattle.cycle_trace.specs.Faults.{misspelling_in}
+use Rattle.cycle_trace.specs.declared.fault.NotForm.{NotForm}
+use Rattle.cycle_trace.specs.Faults.{not_form_in}
 use Rattle.cycle_trace.specs.HeaderText.{header_number, head_of, head_after, is_head_line, in_header, heads_from, title_of, count_of_cycles, header_start_after, header_start_of}
 use Rattle.cycle_trace.specs.TextSet.{has_text, HasTexts}
-
--- a number of at most ten digits
-pub decimal_of-short : (digits : List ℕ) (n : ℕ) → length digits ≤ 10 → decimal_of digits ≡ Some n → n < 10 ^ 10
-decimal_of-short digits n short e =
-    let parts = cond_some (is_decimal digits) (read_on 0 digits) n e in
-    let h = is_decimal-to digits parts.0 in
-    let lt : read_on 0 digits < 10 ^ 10 = digits_value_short own digits 10 h.each short in
-    omega (arith, parts.1)
+use Rattle.cycle_trace.proofs.SignalSpelling.{decimal_of-below}
 
 below-all : (o : Option ℕ) → ((n : ℕ) → o ≡ Some n → n < 10 ^ 10) → below (2 ^ 64) o ≡ o
 below-all None h = refl
 below-all (Some n) h = let lt = h n refl in let fits : n < 2 ^ 64 = omega arith in grind (arith, nat_tests)
 
--- so it is below every limit that is larger
+-- a number of at most ten digits is below every limit that is larger
 pub below-short : (digits : List ℕ) → length digits ≤ 10 → below (2 ^ 64) (decimal_of digits) ≡ decimal_of digits
-below-short digits short = below-all (decimal_of digits) (λ n e. decimal_of-short digits n short e)
+below-short digits short = below-all (decimal_of digits) (λ n e. decimal_of-below digits n 10 short e)
 
-ok_or-gives : (o : Option ℕ) → Gives misspelling_in (λ n. n) (ok_or o misspellings.NotForm) (or_fault tt o)
-ok_or-gives None = refl
-ok_or-gives (Some n) = refl
+ok_or-gives : (o : Option ℕ) (e : NotForm) → Gives not_form_in (λ n. n) (ok_or o e) (or_fault tt o)
+ok_or-gives None e = refl
+ok_or-gives (Some n) e = refl
 
-pub header_number-gives : (digits : List ℕ) (found : Option ℕ) (result : Result ℕ Misspelling) → length digits ≤ 10 → found ≡ below (2 ^ 64) (decimal_of digits) → result ≡ ok_or found misspellings.NotForm
-    → Gives misspelling_in (λ n. n) result (header_number digits)
-unfolding header_number
-header_number-gives digits found result short e f =
-    let within : nat_le (length digits) 10 ≡ true = grind (arith, nat_tests) in
-    let same : found ≡ decimal_of digits = e ∙ below-short digits short in
-    rw (f, same, within) (ok_or-gives (decimal_of digits))
+ok_or-below : (o : Option ℕ) (e : NotForm) → ((n : ℕ) → o ≡ Some n → n < 10 ^ 10) → IfOk (ok_or o e) (λ n. n < 10 ^ 10)
+ok_or-below None e h = tt
+ok_or-below (Some n) e h = h n refl
 
-ok_or-below : (o : Option ℕ) → ((n : ℕ) → o ≡ Some n → n < 10 ^ 10) → IfOk (ok_or o misspellings.NotForm) (λ n. n < 10 ^ 10)
-ok_or-below None h = tt
-ok_or-below (Some n) h = h n refl
+module _ (digits : List ℕ) (found : Option ℕ) (result : Result ℕ NotForm) (e : NotForm) (short : length digits ≤ 10) (read : found ≡ below (2 ^ 64) (decimal_of digits)) (is : result ≡ ok_or found e) where
+  pub header_number-gives : Gives not_form_in (λ n. n) result (header_number digits)
+  unfolding header_number
+  header_number-gives =
+      let within : nat_le (length digits) 10 ≡ true = grind (arith, nat_tests) in
+      let same : found ≡ decimal_of digits = read ∙ below-short digits short in
+      rw (is, same, within) (ok_or-gives (decimal_of digits) e)
 
-pub header_number-below : (digits : List ℕ) (found : Option ℕ) (result : Result ℕ Misspelling) → length digits ≤ 10 → found ≡ below (2 ^ 64) (decimal_of digits) → result ≡ ok_or found misspellings.NotForm → IfOk result (λ n. n < 10 ^ 10)
-header_number-below digits found result short e f =
-    let same : found ≡ decimal_of digits = e ∙ below-short digits short in
-    rw (f, same) (ok_or-below (decimal_of digits) (λ n g. decimal_of-short digits n short g))
+  pub header_number-below : IfOk result (λ n. n < 10 ^ 10)
+  header_number-below =
+      let same : found ≡ decimal_of digits = read ∙ below-short digits short in
+      rw (is, same) (ok_or-below (decimal_of digits) e (λ n g. decimal_of-below digits n 10 short g))
 
 -- ---- the lines of the heads
-
-pub some_lines : (text : List ℕ) → 0 < length (lines_of text)
-some_lines text = omega (arith, length-slice_split (λ byte. eqb byte 10) text)
 
 -- a line with others after it
 pub heads_from-head : (number : ℕ) (paths : List (List ℕ)) (line : List ℕ) (lines : List (List ℕ)) → 0 < length lines → is_head_line line ≡ true
@@ -77,9 +61,6 @@ heads_from-other number paths line [] some e = absurd (omega arith)
 heads_from-other number paths line (next ∷ lines) some e = rw e refl
 
 -- ---- one stream line
-
-can_stand : (few met : Bool) (head : Head) → few ≡ true → met ≡ false → ◌≡◌ {A = Result Head (Unit {0})} (if few && not met then Ok head else Err tt) (Ok head)
-can_stand few met head e f = rw (e, f) refl
 
 module _ (texts : List (List ℕ)) (line : List ℕ) where
   pub head_after-fails : (fault : Option (Unit {0})) → MatchOption fault (Unit {0}) (λ d. head_of line ≡ Err d) → MatchOption fault (Unit {0}) (λ d. head_after texts line ≡ Err d)

@@ -1,5 +1,5 @@
 -- The stream lines of a trace text: what is spelled is read, and what is read is spelled so.
-use Rattle.std.proofs.Common.{◌≡◌, ℕ, suc, ◌+◌, ◌<◌, ◌≤◌, Bool, true, false, not, ◌&&◌, ◌||◌, List, [], ◌∷◌, ◌++◌, length, map, Result, Ok, Err, cond, append_assoc, All, refl, sym, ap, ◌∙◌, inl, inr, arith}
+use Rattle.std.proofs.Common.{◌≡◌, ℕ, suc, ◌+◌, ◌<◌, ◌≤◌, Bool, true, false, not, ◌&&◌, ◌||◌, List, [], ◌∷◌, ◌++◌, length, map, Result, Ok, Err, append_assoc, All, refl, sym, ap, ◌∙◌, inl, inr, arith}
 use Rattle.std.specs.List.{list_all, list_any, flat_map, join_with_byte}
 use Rattle.std.specs.Str.{bytes_eq}
 use Rattle.std.proofs.lemmas.List.Elements.{All-nil, All-cons, All-head, All-tail}
@@ -16,7 +16,8 @@ use Rattle.cycle_trace.specs.Spelling.{IsHead, head_words, head_text, words_text
 use Rattle.cycle_trace.specs.Trace.{all_distinct}
 use Rattle.cycle_trace.proofs.PlainWords.{and_parts, both, lines_of-plain}
 use Rattle.cycle_trace.proofs.HeadSpelling.{head_words-plain, head_after-spelled, head_after-some}
-use Rattle.cycle_trace.proofs.RowsSpelling.{some_line}
+use Rattle.cycle_trace.proofs.HeaderLemmas.{heads_from-head}
+use Rattle.cycle_trace.proofs.RowsLemmas.{some_line}
 
 -- the texts of the paths
 abbrev pub paths_of : List Head → List (List ℕ)
@@ -54,18 +55,6 @@ are_new-more known path [] = refl
 are_new-more known path (text ∷ texts) =
     rw (bytes_eq-swap text path, are_new-more known path texts)
     (four_tests (bytes_eq path text) (list_any (bytes_eq text) known) (list_any (bytes_eq path) texts) (are_new known texts))
-
--- ---- a line and the lines after it
-
-heads_from-cons : (number : ℕ) (paths : List (List ℕ)) (line : List ℕ) (lines : List (List ℕ)) → 0 < length lines
-    → heads_from number paths (line ∷ lines)
-    ≡ cond (is_head_line line) (in_header number (head_after paths line) >>= λ head. heads_from (suc number) (path_text head.path ∷ paths) lines >>= λ rest. Ok (head ∷ rest.0, rest.1)) (Ok ([], line ∷ lines))
-heads_from-cons number paths line [] some = absurd (omega arith)
-heads_from-cons number paths line (next ∷ lines) some = refl
-
--- a line that is no stream line ends the heads
-pub heads_from-end : (number : ℕ) (paths : List (List ℕ)) (line : List ℕ) (lines : List (List ℕ)) → 0 < length lines → is_head_line line ≡ false → heads_from number paths (line ∷ lines) ≡ Ok ([], line ∷ lines)
-heads_from-end number paths line lines some other = heads_from-cons number paths line lines some ∙ rw other refl
 
 pub in_header-some : {A : Type 0} (number : ℕ) (read : Result A (Unit {0})) (x : A) → in_header number read ≡ Ok x → read ≡ Ok x
 in_header-some number (Ok y) x e = ap Ok (ok_is y x e)
@@ -124,7 +113,7 @@ heads_from-spelled number paths (head ∷ heads) rest may end =
     let later = heads_from-spelled (suc number) (path_text head.path ∷ paths) heads rest (MayFollow-rest paths head heads may) end in
     ap (λ (text : List ℕ). heads_from number paths (lines_of text)) (line_then line (flat_map head_text heads) rest)
     ∙ ap (heads_from number paths) (lines_of-plain (head_words head) after (head_words-plain head first))
-    ∙ heads_from-cons number paths line (lines_of after) (some_line after)
+    ∙ heads_from-head number paths line (lines_of after) (some_line after) refl
     ∙ rw (head_after-spelled paths head first (omega arith) new.0, later) refl
 
 -- what was read of the lines of heads

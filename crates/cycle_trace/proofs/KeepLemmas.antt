@@ -1,5 +1,5 @@
 -- A trace that is kept, row by row.
-use Rattle.std.proofs.Common.{◌≡◌, ◌∙◌, ℕ, zero, suc, take, get_or, ◌+◌, ◌*◌, ◌<◌, ◌≤◌, inl, inr, ◌⊎◌, List, [], ◌∷◌, ◌++◌, length, Option, Some, None, IfSome, Result, Ok, Err, OnOk, refl, sym, ap, subst, arith}
+use Rattle.std.proofs.Common.{◌≡◌, ◌∙◌, ℕ, take, get_or, ◌+◌, ◌*◌, ◌<◌, ◌≤◌, inl, inr, ◌⊎◌, List, [], ◌∷◌, ◌++◌, length, Option, Some, None, IfSome, Result, Ok, Err, OnOk, refl, sym, ap, subst, arith}
 use Rattle.std.specs.List.{slice_get}
 use Rattle.std.specs.Option.{option_map}
 use Rattle.std.proofs.lemmas.Bool.{cases_lt}
@@ -13,17 +13,14 @@ use Rattle.physical_stream.specs.declared.head.Head.{Head}
 use Rattle.physical_stream.specs.declared.head.Header.{Header}
 use Rattle.cycle_trace.specs.Trace.{TraceText, IsTrace, cycle_of, cycles_of, owed, params_of_heads, text_of}
 use Rattle.cycle_trace.specs.KeepView.{IsBegun}
-use Rattle.cycle_trace.specs.RowSink.{CanTake, IsHeader, begun_by, with_row}
+use Rattle.cycle_trace.specs.RowSink.{CanTake, with_row}
 use Rattle.cycle_trace.specs.declared.own_row.OwnRow.{OwnRow}
-use Rattle.cycle_trace.proofs.PartsLemmas.{slice_get-front, slice_get-next}
+use Rattle.cycle_trace.proofs.PartsLemmas.{slice_get-front, slice_get-next, slice_get-there}
 use Rattle.cycle_trace.proofs.RowsLemmas.{length-owed}
 
 -- how many rows a header asks for
 pub length-owed_heads : (t : TraceText) → length (owed (params_of_heads t.heads) t.cycles) ≡ t.cycles * length t.heads
 length-owed_heads t = length-owed (params_of_heads t.heads) t.cycles ∙ ap (λ (n : ℕ). t.cycles * n) (length-map t.heads (λ (head : Head). head.params))
-
-pub IsBegun-none : (header : Header) → IsHeader header → IsBegun (begun_by header)
-IsBegun-none header h = record { few_cycles = h.few_cycles; streams = h.streams; within = omega arith; each = λ i p row shown turn here is. absurd cc }
 
 pub IsBegun-more : (t : TraceText) (row : Cycle) → IsBegun t → CanTake t row → IsBegun (with_row t row)
 IsBegun-more t row h can = record {
@@ -70,11 +67,6 @@ on_ok (Err e) P Q f h = tt
 
 -- ---- a trace, row by row
 
-there : {A : Type 0} (xs : List A) (i : ℕ) → i < length xs → (x : A) × (slice_get xs i ≡ Some x)
-there [] i within = absurd (omega arith)
-there (x ∷ xs) zero within = (x, refl)
-there (x ∷ xs) (suc i) within = there xs i (omega arith)
-
 -- the header and the first rows, so many
 abbrev pub first_rows : Header → List OwnRow → ℕ → TraceText
 first_rows header rows i = record { cycles = header.cycles; heads = header.heads; rows = cycles_of (take i rows) }
@@ -90,7 +82,7 @@ module _ (header : Header) (rows : List OwnRow) (whole : IsTrace (text_of header
   replay_can =
       let long : length (cycles_of (take i rows)) ≡ i = length-map (take i rows) cycle_of ∙ length-take-le i rows (omega arith) in
       let inside : i < length (owed (params_of_heads header.heads) header.cycles) = omega (arith, whole.shown.many, length-map rows cycle_of) in
-      let turn = there (owed (params_of_heads header.heads) header.cycles) i inside in
+      let turn = slice_get-there (owed (params_of_heads header.heads) header.cycles) i inside in
       record { params = turn.0; turn = ap (slice_get (owed (params_of_heads header.heads) header.cycles)) long ∙ turn.1; shown = shown_by turn.0 turn.1 row.shown refl }
 
   pub replay_next : with_row (first_rows header rows i) (cycle_of row) ≡ first_rows header rows (i + 1)

@@ -1,8 +1,5 @@
 -- What reading a row knows of its stream.
-use Rattle.std.proofs.Common.{Bool, true, false, is_some, ◌≡◌, ℕ, suc, ◌-◌, ◌*◌, ◌^◌, ◌%◌, ◌<◌, ◌≤◌, refl, sym, ap, ◌∙◌, arith}
-use Rattle.std.proofs.Math.Nat.{mod-eq_of_lt, pow-succ'}
-use Rattle.std.proofs.Math.Pow.{pow_mono}
-use Rattle.std.proofs.lemmas.Nat.{pow_pos}
+use Rattle.std.proofs.Common.{Bool, true, false, is_some, ◌≡◌, ℕ, refl, ap, ◌∙◌}
 use Rattle.physical_stream.specs.Params.{Parameters}
 use Rattle.physical_stream.specs.Signals.{has_content, has_last, has_stai, has_endi, has_strb, has_user}
 use Rattle.signal_layout.specs.declared.signal.Signal.{Signal}
@@ -11,30 +8,6 @@ use Rattle.signal_layout.specs.declared.layout.Signals.{Signals}
 use Rattle.signal_layout.specs.Layout.{is_present, bits_of_signal, where_present, width_of, width_in}
 use Rattle.cycle_trace.specs.RowText.{has_payload}
 use Rattle.cycle_trace.specs.RowLayout.{has_payload_in}
-
--- the highest of so many ones
-pub record IsTop (count top : ℕ) : Type 0 where
-  pub small : top ≤ 2 ^ 127
-  pub some : 0 < top
-  pub twice : 2 ^ count ≡ 2 * top
-
-pub top_bit : (count : ℕ) → 1 ≤ count → count ≤ 128 → IsTop count (1 * 2 ^ (count - 1) % 2 ^ 128)
-top_bit count some most =
-    let small : 2 ^ (count - 1) ≤ 2 ^ 127 = pow_mono {j = 127} (omega arith) in
-    let below : 1 * 2 ^ (count - 1) < 2 ^ 128 = omega arith in
-    let same : 1 * 2 ^ (count - 1) % 2 ^ 128 ≡ 1 * 2 ^ (count - 1) = mod-eq_of_lt below in
-    let next : 2 ^ suc (count - 1) ≡ 2 * 2 ^ (count - 1) = pow-succ' 2 (count - 1) in
-    let whole : suc (count - 1) ≡ count = omega arith in
-    let twice : 2 ^ count ≡ 2 * 2 ^ (count - 1) = ap (λ (n : ℕ). 2 ^ n) (sym whole) ∙ next in
-    rw same (record { small = omega arith; some = omega (arith, pow_pos (count - 1)); twice = omega (arith, twice) })
-
--- a shift by the bits that number the lanes
-pub limit_is : (width : ℕ) → width ≤ 16 → (1 * 2 ^ width % 2 ^ 32 ≡ 2 ^ width) × (2 ^ width ≤ 2 ^ 16)
-limit_is width small =
-    let most : 2 ^ width ≤ 2 ^ 16 = pow_mono {j = 16} small in
-    let below : 1 * 2 ^ width < 2 ^ 32 = omega arith in
-    let same : 1 * 2 ^ width % 2 ^ 32 ≡ 1 * 2 ^ width = mod-eq_of_lt below in
-    (omega (arith, same), most)
 
 some_where : (present : Bool) (width : ℕ) → is_some (where_present present width) ≡ present
 some_where true width = refl

@@ -1,6 +1,7 @@
 -- Lists for each number below a bound, one after another.
-use Rattle.std.proofs.Common.{◌≡◌, ◌∙◌, ℕ, zero, suc, ◌+◌, ◌<◌, ◌≤◌, List, [], ◌∷◌, ◌++◌, length, Some, refl, ap, arith}
+use Rattle.std.proofs.Common.{◌≡◌, ◌∙◌, ℕ, zero, suc, ◌+◌, ◌<◌, ◌≤◌, ◌⊎◌, inl, inr, Bool, true, false, eqb, List, [], ◌∷◌, ◌++◌, length, Some, refl, ap, arith}
 use Rattle.std.specs.List.{slice_get}
+use Rattle.std.proofs.lemmas.Bool.{eqb-true, eq-eqb}
 use Rattle.std.proofs.lemmas.List.{length-append, append-nil}
 use Rattle.physical_stream.specs.Items.{parts_below}
 
@@ -16,6 +17,18 @@ slice_get-next [] x zero is = refl
 slice_get-next [] x (suc c) is = absurd (omega arith)
 slice_get-next (y ∷ a) x zero is = absurd (omega arith)
 slice_get-next (y ∷ a) x (suc c) is = slice_get-next a x c (omega arith)
+
+pub slice_get-there : {A : Type 0} (xs : List A) (i : ℕ) → i < length xs → (x : A) × (slice_get xs i ≡ Some x)
+slice_get-there [] i within = absurd (omega arith)
+slice_get-there (x ∷ xs) zero within = (x, refl)
+slice_get-there (x ∷ xs) (suc i) within = slice_get-there xs i (omega arith)
+
+pub same_or_other : (i j : ℕ) → (i ≡ j) ⊎ (i ≡ j → ⊥)
+same_or_other i j = by_test (eqb i j) refl
+  where
+    by_test : (test : Bool) → eqb i j ≡ test → (i ≡ j) ⊎ (i ≡ j → ⊥)
+    by_test true is = inl (eqb-true i j is)
+    by_test false other = inr (λ same. let yes_so = eq-eqb i j same in cc)
 
 -- ---- parts
 

@@ -1,19 +1,23 @@
 -- A reader of traces, line by line and piece by piece.
-use Rattle.std.proofs.Common.{◌≡◌, ◌≢◌, ◌∙◌, ℕ, ◌==◌, true, List, [], ◌∷◌, ◌++◌, length, Option, Result, Ok, Err, append_assoc, refl, sym, ap, subst, arith}
-use Rattle.std.proofs.lemmas.Bool.{eqb-true}
+use Rattle.std.proofs.Common.{◌≡◌, ◌≢◌, ◌∙◌, ◌⊎◌, inl, inr, ℕ, Bool, true, List, [], ◌∷◌, ◌++◌, Option, Some, None, Result, Ok, Err, IfErr, OnOk, is_ok, IsSome, append_assoc, refl, sym, ap, subst, arith}
 use Rattle.std.proofs.lemmas.List.{append-nil}
 use Rattle.std.proofs.lemmas.List.Elements.{All-append, All-head, All-nil}
 use Rattle.std.specs.List.{All}
 use Rattle.tydi_base.proofs.PieceLaws.{pieces_of-each_lacks}
 use Rattle.tydi_base.specs.Pieces.{Lacks, lines_of}
 use Rattle.cycle_trace.specs.HeaderText.{header_start_of, header_start_after}
-use Rattle.cycle_trace.specs.ReaderView.{AfterLine, AfterRow, StandsAt, StaysFailed}
+use Rattle.cycle_trace.specs.Faults.{fault_in}
+use Rattle.cycle_trace.specs.LineBegun.{Begins, IsSoFar}
+use Rattle.cycle_trace.specs.ReaderView.{AfterLine, AfterRow, HoldsHeader, HoldsLine, IsInHeader, StandsAt, StaysCalm, StaysFailed, is_past_header}
 use Rattle.cycle_trace.specs.Trace.{TraceText}
 use Rattle.cycle_trace.specs.declared.fault.TraceFault.{TraceFault}
+use Rattle.cycle_trace.specs.declared.fault.TraceFault.TheVariants.{BadHeader, BadRow, Memory, RowsLeft, RowsMissing, TooManyCycles, WrongSignals}
+use Rattle.cycle_trace.specs.declared.line_begun.LineBegun.{LineBegun}
+use Rattle.cycle_trace.specs.declared.row_form.RowForm.{RowForm}
 use Rattle.cycle_trace.specs.declared.text_read.Stage.{Stage}
 use Rattle.cycle_trace.specs.declared.text_read.Stage.TheVariants as stages
 use Rattle.cycle_trace.specs.declared.text_read.TextRead.{TextRead}
-use Rattle.cycle_trace.proofs.BeginningLemmas.{Fails-more, Opens-more, OpensWith-more, GoesOn-more}
+use Rattle.cycle_trace.proofs.BeginningLemmas.{Fails-more, Opens-more, OpensWith-more, GoesOn-more, past-Cycles, past-Heads, past-Title}
 
 -- no line is begun
 pub plain-none : Lacks 10 []
@@ -52,16 +56,78 @@ FedSoFar-more piece rest front after Old Now New h parts step = record {
 pub FedSoFar-all : (piece rest : List ℕ) (Old Now New : List ℕ → Type 0) → FedSoFar piece rest Old Now → ((bytes : List ℕ) → Now bytes → New (bytes ++ rest)) → (bytes : List ℕ) → Old bytes → New (bytes ++ piece)
 FedSoFar-all piece rest Old Now New h last bytes old = subst New (append_assoc bytes h.fed rest ∙ ap (λ (xs : List ℕ). bytes ++ xs) (sym h.whole)) (last (bytes ++ h.fed) (h.stands bytes old))
 
--- an empty line
-pub no_line : (line : List ℕ) (len : ℕ) → len ≡ length line → (len == 0) ≡ true → line ≡ []
-no_line [] len long none = refl
-no_line (byte ∷ line) len long none = let zero_long : len ≡ 0 = eqb-true len 0 none in absurd (omega arith)
-
 -- a line has no LF
 pub plain-first : (text front : List ℕ) (others : List (List ℕ)) → lines_of text ≡ front ∷ others → Lacks 10 front
 plain-first text front others is = All-head (Lacks 10) front others (subst (λ (lines : List (List ℕ)). All (Lacks 10) lines) is (pieces_of-each_lacks 10 text))
 
--- what is known within a piece
-pub record Feeds (old new : Stage) (So : Type 0) : Type 0 where
+-- what is known within a piece, where the sink is fixed or not as it was
+pub record Feeds (old new : Stage) (was is : Bool) (So : Type 0) : Type 0 where
   pub so_far : So
   pub spent : StaysFailed old new
+  pub fixed : is ≡ was
+  pub calm : StaysCalm was old new
+
+-- ---- the line that is begun
+
+-- a line of the header is whole
+pub header_line : (stage : Stage) (room : ℕ) (begun : LineBegun) (line : List ℕ) → IsInHeader stage → HoldsLine stage room begun line → Begins begun line × (begun.long ≡ None)
+header_line stages.Title room begun line is h = h
+header_line stages.Cycles room begun line is h = h
+header_line stages.Heads room begun line is h = h
+header_line stages.Rows room begun line is h = absurd is
+header_line (stages.Failed fault) room begun line is h = absurd is
+
+-- no line is begun
+pub holds_none : (stage : Stage) (room : ℕ) (begun : LineBegun) → Begins begun [] → begun.long ≡ None → (stage ≡ stages.Rows → begun.room ≡ room) → HoldsLine stage room begun []
+holds_none stages.Title room begun begins whole same = (begins, whole)
+holds_none stages.Cycles room begun begins whole same = (begins, whole)
+holds_none stages.Heads room begun begins whole same = (begins, whole)
+holds_none stages.Rows room begun begins whole same = (begins, same refl)
+holds_none (stages.Failed fault) room begun begins whole same = tt
+
+-- a line that is not begun is not long
+pub not_long : (begun : LineBegun) → Begins begun [] → begun.long ≡ None
+not_long begun h = by_long begun.long h.so_far
+  where
+    by_long : (long : Option RowForm) → IsSoFar long begun.room begun.kept.items [] → long ≡ None
+    by_long None is = refl
+    by_long (Some form) is = absurd (let past = is.long in omega arith)
+
+-- ---- memory
+
+pub on_ok_is : {A E : Type 0} (r : Result A E) (P : Type 0) → is_ok r ≡ true → OnOk r P → P
+on_ok_is (Ok x) P is h = h
+on_ok_is (Err e) P is h = absurd cc
+
+-- a fault of the text is no want of memory
+pub not_memory : {A : Type 0} (result : Result A TraceFault) → IfErr result (λ e. IsSome (fault_in e)) → result ≡ Err Memory → ⊥
+not_memory (Ok x) calm is = absurd cc
+not_memory (Err e) calm is =
+    let same : e ≡ Memory = cc in
+    let some : IsSome (fault_in Memory) = subst (λ (f : TraceFault). IsSome (fault_in f)) same calm in
+    absurd cc
+
+spent_or_past : (fault : TraceFault) → (stages.Failed fault ≡ stages.Failed Memory) ⊎ (is_past_header (stages.Failed fault) ≡ true)
+spent_or_past (BadHeader line) = inr refl
+spent_or_past TooManyCycles = inr refl
+spent_or_past (BadRow line) = inr refl
+spent_or_past (WrongSignals line) = inr refl
+spent_or_past (RowsMissing want got) = inr refl
+spent_or_past (RowsLeft line) = inr refl
+spent_or_past Memory = inl refl
+
+-- where the bytes hold a header and a line after it, the header is read
+pub past_header : {K : Type 0} (stands : K → Option TraceText → Type 0) (sink : K) (text : TextRead) (stage : Stage) (line bytes : List ℕ) → StandsAt stands sink text stage line bytes → HoldsHeader bytes
+    → (stage ≡ stages.Failed Memory) ⊎ (is_past_header stage ≡ true)
+past_header stands sink text stages.Title line bytes h held = absurd (past-Title bytes line h.1 h.3 held)
+past_header stands sink text stages.Cycles line bytes h held = absurd (past-Cycles bytes line h.1 h.3 held)
+past_header stands sink text stages.Heads line bytes h held = absurd (past-Heads bytes line h.1 text.cycles text.heads text.paths h.2 held)
+past_header stands sink text stages.Rows line bytes h held = inr refl
+past_header stands sink text (stages.Failed fault) line bytes h held = spent_or_past fault
+
+-- memory that runs out where the header is read ran out before
+pub spent_before : (old new : Stage) → (old ≡ stages.Failed Memory) ⊎ (is_past_header old ≡ true) → (is_past_header old ≡ true → is_past_header new ≡ true) → new ≡ stages.Failed Memory → old ≡ stages.Failed Memory
+spent_before old new (inl spent) calm is = spent
+spent_before old new (inr past) calm is =
+    let now : is_past_header (stages.Failed Memory) ≡ true = subst (λ (s : Stage). is_past_header s ≡ true) is (calm past) in
+    absurd cc

@@ -11,13 +11,14 @@ use Rattle.physical_stream.specs.Params.{Parameters}
 use Rattle.physical_stream.specs.Cycles.{Cycle, StreamTrace}
 use Rattle.physical_stream.specs.Items.{parts_below}
 use Rattle.physical_stream.specs.Breaks.{Breaks, BreaksAfter}
-use Rattle.physical_stream.specs.First.{Offence, Offends, IsFirst, IsNotAfter}
+use Rattle.physical_stream.specs.First.{Offence, IsFirst, IsNotAfter}
 use Rattle.physical_stream.specs.Rules.{number_of_rule}
 use Rattle.physical_stream.specs.declared.head.Head.{Head}
 use Rattle.physical_stream.specs.declared.rule.Rule.{Rule}
-use Rattle.cycle_trace.specs.Trace.{TraceText, cycles_of_stream, row_in, streams_of}
+use Rattle.cycle_trace.specs.Trace.{TraceText, cycles_of_stream, row_in}
 use Rattle.cycle_trace.specs.RowSink.{with_row}
-use Rattle.cycle_trace.proofs.PartsLemmas.{slice_get-front, slice_get-next, parts_below-same, parts_below-tail, length-parts_below}
+use Rattle.cycle_trace.specs.Surveying.{offends_in}
+use Rattle.cycle_trace.proofs.PartsLemmas.{slice_get-front, slice_get-next, slice_get-there, same_or_other, parts_below-same, parts_below-tail, length-parts_below}
 use Rattle.cycle_trace.proofs.StreamLemmas.{stream_with, stream_at, head_at}
 
 -- ---- lists with one element more
@@ -30,6 +31,46 @@ slice_get-other (y ∷ xs) x (suc i) other = slice_get-other xs x i (λ same. ot
 
 take-front : {A : Type 0} (xs : List A) (x : A) (n : ℕ) → n ≤ length xs → take n (xs ++ x ∷ []) ≡ take n xs
 take-front xs x n within = take-append-le n xs (x ∷ []) within
+
+-- the next row of a stream breaks this rule
+abbrev pub BreaksNext : TraceText → (stream : ℕ) → Parameters → Cycle → Rule → Type 0
+BreaksNext t stream p row rule = BreaksAfter rule p (cycles_of_stream t stream) row
+
+-- ---- the first offence where there are more of them
+
+-- what offends now is what offended before, and each rule that is broken at this place, after which none of them stands
+pub record AddsOffences (Old New : Offence → Type 0) (cycle at : ℕ) (Broken : Rule → Type 0) : Type 0 where
+  pub stays : (o : Offence) → Old o → New o
+  pub earlier : (o : Offence) → Old o → (o.cycle < cycle) ⊎ ((o.cycle ≡ cycle) × (o.stream < at))
+  pub cases : (o : Offence) → New o → Old o ⊎ ((o.cycle ≡ cycle) × ((o.stream ≡ at) × Broken o.rule))
+  pub here : (rule : Rule) → Broken rule → New (record { cycle = cycle; stream = at; rule = rule })
+
+module _ (Old New : Offence → Type 0) (cycle at : ℕ) (Broken : Rule → Type 0) (h : AddsOffences Old New cycle at Broken) where
+  -- the first offence stays the first
+  pub IsFirst-stays : (first : Offence) → IsFirst Old (Some first) → IsFirst New (Some first)
+  IsFirst-stays first is = (h.stays first is.0, λ o b. by_cases o (h.cases o b) (h.earlier first is.0))
+    where
+      by_cases : (o : Offence) → Old o ⊎ ((o.cycle ≡ cycle) × ((o.stream ≡ at) × Broken o.rule)) → (first.cycle < cycle) ⊎ ((first.cycle ≡ cycle) × (first.stream < at)) → IsNotAfter first o
+      by_cases o (inl before) place = is.1 o before
+      by_cases o (inr now) (inl less) = inl (omega (arith, now.0))
+      by_cases o (inr now) (inr same) = inr (same.0 ∙ sym now.0, inl (omega (arith, same.1, now.1.0)))
+
+  module _ (none : IsFirst Old None) where
+    -- no offence, and none at this place
+    pub IsFirst-none : ((rule : Rule) → Broken rule → ⊥) → IsFirst New None
+    IsFirst-none unbroken o b = by_cases (h.cases o b)
+      where
+        by_cases : Old o ⊎ ((o.cycle ≡ cycle) × ((o.stream ≡ at) × Broken o.rule)) → ⊥
+        by_cases (inl before) = none o before
+        by_cases (inr now) = unbroken o.rule now.1.1
+
+    -- the lowest rule that is broken at this place is the first offence
+    pub IsFirst-here : (lowest : Rule) → Broken lowest → ((rule : Rule) → Broken rule → number_of_rule lowest ≤ number_of_rule rule) → IsFirst New (Some (record { cycle = cycle; stream = at; rule = lowest }))
+    IsFirst-here lowest broken least = (h.here lowest broken, λ o b. by_cases o (h.cases o b))
+      where
+        by_cases : (o : Offence) → Old o ⊎ ((o.cycle ≡ cycle) × ((o.stream ≡ at) × Broken o.rule)) → IsNotAfter (record { cycle = cycle; stream = at; rule = lowest }) o
+        by_cases o (inl before) = absurd (none o before)
+        by_cases o (inr now) = inr (sym now.0, inr (sym now.1.0, least o.rule now.1.1))
 
 -- ---- the cycles of one stream
 
@@ -68,13 +109,13 @@ Breaks-last rule p cycles row c last broken = record {
 -- ---- the offences of a stream
 
 -- an offence is one of the cycles of its stream
-pub breaks_in : (t : TraceText) (o : Offence) → Offends (streams_of t) o → (head : Head) × ((slice_get t.heads o.stream ≡ Some head) × Breaks o.rule head.params (cycles_of_stream t o.stream) o.cycle)
+pub breaks_in : (t : TraceText) (o : Offence) → offends_in t o → (head : Head) × ((slice_get t.heads o.stream ≡ Some head) × Breaks o.rule head.params (cycles_of_stream t o.stream) o.cycle)
 breaks_in t o b =
     let found = head_at t 0 t.heads o.stream b.trace b.stands in
     let here : 0 + o.stream ≡ o.stream = omega arith in
     (found.0, (found.1, subst (λ (s : StreamTrace). Breaks o.rule s.params s.cycles o.cycle) (found.2 ∙ ap (λ (n : ℕ). stream_with t n found.0) here) b.breaks))
 
-pub offends_by : (t : TraceText) (o : Offence) (head : Head) → slice_get t.heads o.stream ≡ Some head → Breaks o.rule head.params (cycles_of_stream t o.stream) o.cycle → Offends (streams_of t) o
+pub offends_by : (t : TraceText) (o : Offence) (head : Head) → slice_get t.heads o.stream ≡ Some head → Breaks o.rule head.params (cycles_of_stream t o.stream) o.cycle → offends_in t o
 offends_by t o head there b =
     let here : 0 + o.stream ≡ o.stream = omega arith in
     record {
@@ -92,11 +133,6 @@ single_at_most : {A : Type 0} (o : Option A) → length (option_to_list o) ≤ 1
 single_at_most None = omega arith
 single_at_most (Some x) = omega arith
 
-row_there : {A : Type 0} (xs : List A) (i : ℕ) → i < length xs → (x : A) × (slice_get xs i ≡ Some x)
-row_there [] i within = absurd (omega arith)
-row_there (x ∷ xs) zero within = (x, refl)
-row_there (x ∷ xs) (suc i) within = row_there xs i (omega arith)
-
 module _ (t : TraceText) (cycle at : ℕ) (place : length t.rows ≡ cycle * length t.heads + at) (within : at < length t.heads) (some : cycle < t.cycles) where
   cycles_end : (s n : ℕ) → n ≤ t.cycles → ((i : ℕ) → n ≤ i → length t.rows ≤ i * length t.heads + s) → cycles_of_stream t s ≡ parts_below (row_in t s) n
   cycles_end s n few past =
@@ -111,13 +147,13 @@ module _ (t : TraceText) (cycle at : ℕ) (place : length t.rows ≡ cycle * len
       let next : suc cycle ≤ i = omega arith in
       omega (arith, place, within, suc-mul cycle (length t.heads), mul-le-mul_right (length t.heads) next)
 
-  pub cycles_here : cycles_of_stream t at ≡ parts_below (row_in t at) cycle
+  cycles_here : cycles_of_stream t at ≡ parts_below (row_in t at) cycle
   cycles_here = cycles_end at cycle (omega arith) (λ i more. past_here at i (omega arith) more)
 
   -- the stream whose turn it is has had so many rows
   pub length-cycles_here : length (cycles_of_stream t at) ≡ cycle
   length-cycles_here = ap length cycles_here ∙ length-parts_below (row_in t at) cycle (λ i less.
-      ap length (ap option_to_list (row_there t.rows (i * length t.heads + at) (omega (arith, place, mul-add-lt i (length t.heads) at cycle less within))).1))
+      ap length (ap option_to_list (slice_get-there t.rows (i * length t.heads + at) (omega (arith, place, mul-add-lt i (length t.heads) at cycle less within))).1))
 
   few_cycles : (s : ℕ) → (length (cycles_of_stream t s) ≤ cycle) ⊎ ((s < at) × (length (cycles_of_stream t s) ≤ cycle + 1))
   few_cycles s = by_cases (cases_lt s at)
@@ -131,7 +167,7 @@ module _ (t : TraceText) (cycle at : ℕ) (place : length t.rows ≡ cycle * len
       by_cases (inr more) = inl (subst (λ (xs : List Cycle). length xs ≤ cycle) (sym (cycles_end s cycle (omega arith) (λ i above. past_here s i more above))) (most s cycle))
 
   -- an offence so far stands before the next row
-  pub earlier : (o : Offence) → Offends (streams_of t) o → (o.cycle < cycle) ⊎ ((o.cycle ≡ cycle) × (o.stream < at))
+  earlier : (o : Offence) → offends_in t o → (o.cycle < cycle) ⊎ ((o.cycle ≡ cycle) × (o.stream < at))
   earlier o b = by_cases (few_cycles o.stream) (cases_lt o.cycle cycle)
     where
       less : o.cycle < length (cycles_of_stream t o.stream)
@@ -170,98 +206,47 @@ module _ (t : TraceText) (cycle at : ℕ) (place : length t.rows ≡ cycle * len
             by_cases (inr more) (inl after) = omega (arith, place, mul-add-lt cycle (length t.heads) at i after within)
             by_cases (inr more) (inr most) = let same_cycle : i ≡ cycle = omega arith in other (omega (arith, place, ap (λ (n : ℕ). n * length t.heads) same_cycle))
 
-    -- an offence is one of those before, or it is of the row
-    pub Offends-cases : (o : Offence) → Offends (streams_of (with_row t row)) o → Offends (streams_of t) o
-        ⊎ ((o.cycle ≡ cycle) × ((o.stream ≡ at) × ((head : Head) → slice_get t.heads at ≡ Some head → BreaksAfter o.rule head.params (cycles_of_stream t at) row)))
-    Offends-cases o b = by_cases (cases_lt o.stream at) (cases_lt at o.stream)
-      where
-        found : (head : Head) × ((slice_get t.heads o.stream ≡ Some head) × Breaks o.rule head.params (cycles_of_stream (with_row t row) o.stream) o.cycle)
-        found = breaks_in (with_row t row) o b
-
-        other_stream : (o.stream ≡ at → ⊥) → Offends (streams_of t) o
-        other_stream other =
-            offends_by t o found.0 found.1.0
-            (subst (λ (xs : List Cycle). Breaks o.rule found.0.params xs o.cycle) (cycles_of_stream-other o.stream (slice_get_within t.heads o.stream found.0 found.1.0) other) found.1.1)
-
-        turn_stream : o.stream ≡ at → Offends (streams_of t) o
-            ⊎ ((o.cycle ≡ cycle) × ((o.stream ≡ at) × ((head : Head) → slice_get t.heads at ≡ Some head → BreaksAfter o.rule head.params (cycles_of_stream t at) row)))
-        turn_stream same =
-            let cycles : cycles_of_stream (with_row t row) o.stream ≡ cycles_of_stream t at ++ row ∷ [] = ap (cycles_of_stream (with_row t row)) same ∙ cycles_of_stream-turn in
-            split (Breaks-cases o.rule found.0.params (cycles_of_stream t at) row o.cycle (subst (λ (xs : List Cycle). Breaks o.rule found.0.params xs o.cycle) cycles found.1.1))
-          where
-            split : Breaks o.rule found.0.params (cycles_of_stream t at) o.cycle ⊎ ((o.cycle ≡ length (cycles_of_stream t at)) × BreaksAfter o.rule found.0.params (cycles_of_stream t at) row) → Offends (streams_of t) o
-                ⊎ ((o.cycle ≡ cycle) × ((o.stream ≡ at) × ((head : Head) → slice_get t.heads at ≡ Some head → BreaksAfter o.rule head.params (cycles_of_stream t at) row)))
-            split (inl before) = inl (offends_by t o found.0 found.1.0 (subst (λ (n : ℕ). Breaks o.rule found.0.params (cycles_of_stream t n) o.cycle) (sym same) before))
-            split (inr last) = inr (
-              last.0 ∙ length-cycles_here,
-              (
-                same,
-                λ head there.
-                    let one : found.0 ≡ head = let e = sym found.1.0 ∙ ap (slice_get t.heads) same ∙ there in cc in
-                    subst (λ (h : Head). BreaksAfter o.rule h.params (cycles_of_stream t at) row) one last.1,
-              ),
-            )
-
-        by_cases : (o.stream < at) ⊎ (at ≤ o.stream) → (at < o.stream) ⊎ (o.stream ≤ at) → Offends (streams_of t) o
-            ⊎ ((o.cycle ≡ cycle) × ((o.stream ≡ at) × ((head : Head) → slice_get t.heads at ≡ Some head → BreaksAfter o.rule head.params (cycles_of_stream t at) row)))
-        by_cases (inl less) after = inl (other_stream (λ same. omega arith))
-        by_cases (inr more) (inl after) = inl (other_stream (λ same. omega arith))
-        by_cases (inr more) (inr most) = turn_stream (omega arith)
-
-    -- what offended offends still
-    pub Offends-stays : (o : Offence) → Offends (streams_of t) o → Offends (streams_of (with_row t row)) o
-    Offends-stays o b = by_cases (cases_lt o.stream at) (cases_lt at o.stream)
-      where
-        found : (head : Head) × ((slice_get t.heads o.stream ≡ Some head) × Breaks o.rule head.params (cycles_of_stream t o.stream) o.cycle)
-        found = breaks_in t o b
-
-        other_stream : (o.stream ≡ at → ⊥) → Offends (streams_of (with_row t row)) o
-        other_stream other =
-            offends_by (with_row t row) o found.0 found.1.0
-            (subst (λ (xs : List Cycle). Breaks o.rule found.0.params xs o.cycle) (sym (cycles_of_stream-other o.stream (slice_get_within t.heads o.stream found.0 found.1.0) other)) found.1.1)
-
-        by_cases : (o.stream < at) ⊎ (at ≤ o.stream) → (at < o.stream) ⊎ (o.stream ≤ at) → Offends (streams_of (with_row t row)) o
-        by_cases (inl less) after = other_stream (λ same. omega arith)
-        by_cases (inr more) (inl after) = other_stream (λ same. omega arith)
-        by_cases (inr more) (inr most) =
-            let same : o.stream ≡ at = omega arith in
-            let cycles : cycles_of_stream t o.stream ++ row ∷ [] ≡ cycles_of_stream (with_row t row) o.stream = ap (λ (n : ℕ). cycles_of_stream t n ++ row ∷ []) same ∙ sym cycles_of_stream-turn ∙ ap (cycles_of_stream (with_row t row)) (sym same) in
-            offends_by (with_row t row) o found.0 found.1.0 (subst (λ (xs : List Cycle). Breaks o.rule found.0.params xs o.cycle) cycles (Breaks-front o.rule found.0.params (cycles_of_stream t o.stream) row o.cycle found.1.1))
-
-    -- what the row breaks offends
-    pub Offends-turn : (rule : Rule) (head : Head) → slice_get t.heads at ≡ Some head → BreaksAfter rule head.params (cycles_of_stream t at) row → Offends (streams_of (with_row t row)) (record { cycle = cycle; stream = at; rule = rule })
-    Offends-turn rule head there broken =
-        offends_by (with_row t row) (record { cycle = cycle; stream = at; rule = rule }) head there
-        (subst (λ (xs : List Cycle). Breaks rule head.params xs cycle) (sym cycles_of_stream-turn) (Breaks-last rule head.params (cycles_of_stream t at) row cycle (sym length-cycles_here) broken))
-
-    -- ---- the first offence
-
-    -- the first offence stays the first
-    pub IsFirst-stays : (first : Offence) → IsFirst (Offends (streams_of t)) (Some first) → IsFirst (Offends (streams_of (with_row t row))) (Some first)
-    IsFirst-stays first is = (Offends-stays first is.0, λ o b. by_cases o (Offends-cases o b))
-      where
-        by_cases : (o : Offence) → Offends (streams_of t) o ⊎ ((o.cycle ≡ cycle) × ((o.stream ≡ at) × ((head : Head) → slice_get t.heads at ≡ Some head → BreaksAfter o.rule head.params (cycles_of_stream t at) row))) → IsNotAfter first o
-        by_cases o (inl before) = is.1 o before
-        by_cases o (inr here) = by_place (earlier first is.0)
-          where
-            by_place : (first.cycle < cycle) ⊎ ((first.cycle ≡ cycle) × (first.stream < at)) → IsNotAfter first o
-            by_place (inl less) = inl (omega (arith, here.0))
-            by_place (inr now) = inr (now.0 ∙ sym here.0, inl (omega (arith, now.1, here.1.0)))
-
-    module _ (head : Head) (there : slice_get t.heads at ≡ Some head) (none : IsFirst (Offends (streams_of t)) None) where
-      -- no offence, and none in the row
-      pub IsFirst-none : ((rule : Rule) → BreaksAfter rule head.params (cycles_of_stream t at) row → ⊥) → IsFirst (Offends (streams_of (with_row t row))) None
-      IsFirst-none unbroken o b = by_cases (Offends-cases o b)
+    module _ (head : Head) (there : slice_get t.heads at ≡ Some head) where
+      cases : (o : Offence) → offends_in (with_row t row) o → offends_in t o ⊎ ((o.cycle ≡ cycle) × ((o.stream ≡ at) × BreaksAfter o.rule head.params (cycles_of_stream t at) row))
+      cases o b = by_stream (same_or_other o.stream at)
         where
-          by_cases : Offends (streams_of t) o ⊎ ((o.cycle ≡ cycle) × ((o.stream ≡ at) × ((h : Head) → slice_get t.heads at ≡ Some h → BreaksAfter o.rule h.params (cycles_of_stream t at) row))) → ⊥
-          by_cases (inl before) = none o before
-          by_cases (inr here) = unbroken o.rule (here.1.1 head there)
+          found : (h : Head) × ((slice_get t.heads o.stream ≡ Some h) × Breaks o.rule h.params (cycles_of_stream (with_row t row) o.stream) o.cycle)
+          found = breaks_in (with_row t row) o b
 
-      -- the lowest rule that the row breaks is the first offence
-      pub IsFirst-turn : (lowest : Rule) → BreaksAfter lowest head.params (cycles_of_stream t at) row → ((rule : Rule) → BreaksAfter rule head.params (cycles_of_stream t at) row → number_of_rule lowest ≤ number_of_rule rule)
-          → IsFirst (Offends (streams_of (with_row t row))) (Some (record { cycle = cycle; stream = at; rule = lowest }))
-      IsFirst-turn lowest broken least = (Offends-turn lowest head there broken, λ o b. by_cases o (Offends-cases o b))
+          by_row : o.stream ≡ at → Breaks o.rule head.params (cycles_of_stream t at) o.cycle ⊎ ((o.cycle ≡ length (cycles_of_stream t at)) × BreaksAfter o.rule head.params (cycles_of_stream t at) row)
+              → offends_in t o ⊎ ((o.cycle ≡ cycle) × ((o.stream ≡ at) × BreaksAfter o.rule head.params (cycles_of_stream t at) row))
+          by_row same (inl before) = inl (offends_by t o head (ap (slice_get t.heads) same ∙ there) (subst (λ (n : ℕ). Breaks o.rule head.params (cycles_of_stream t n) o.cycle) (sym same) before))
+          by_row same (inr last) = inr (last.0 ∙ length-cycles_here, (same, last.1))
+
+          by_stream : (o.stream ≡ at) ⊎ (o.stream ≡ at → ⊥) → offends_in t o ⊎ ((o.cycle ≡ cycle) × ((o.stream ≡ at) × BreaksAfter o.rule head.params (cycles_of_stream t at) row))
+          by_stream (inr other) = inl (offends_by t o found.0 found.1.0
+              (subst (λ (xs : List Cycle). Breaks o.rule found.0.params xs o.cycle) (cycles_of_stream-other o.stream (slice_get_within t.heads o.stream found.0 found.1.0) other) found.1.1))
+          by_stream (inl same) =
+              let is_head : found.0 ≡ head = let e = sym found.1.0 ∙ ap (slice_get t.heads) same ∙ there in cc in
+              let cycles : cycles_of_stream (with_row t row) o.stream ≡ cycles_of_stream t at ++ row ∷ [] = ap (cycles_of_stream (with_row t row)) same ∙ cycles_of_stream-turn in
+              let broken = subst (λ (xs : List Cycle). Breaks o.rule found.0.params xs o.cycle) cycles found.1.1 in
+              by_row same (Breaks-cases o.rule head.params (cycles_of_stream t at) row o.cycle (subst (λ (h : Head). Breaks o.rule h.params (cycles_of_stream t at ++ row ∷ []) o.cycle) is_head broken))
+
+      -- what offended offends still
+      stays : (o : Offence) → offends_in t o → offends_in (with_row t row) o
+      stays o b = by_stream (same_or_other o.stream at)
         where
-          by_cases : (o : Offence) → Offends (streams_of t) o ⊎ ((o.cycle ≡ cycle) × ((o.stream ≡ at) × ((h : Head) → slice_get t.heads at ≡ Some h → BreaksAfter o.rule h.params (cycles_of_stream t at) row))) → IsNotAfter (record { cycle = cycle; stream = at; rule = lowest }) o
-          by_cases o (inl before) = absurd (none o before)
-          by_cases o (inr here) = inr (sym here.0, inr (sym here.1.0, least o.rule (here.1.1 head there)))
+          found : (h : Head) × ((slice_get t.heads o.stream ≡ Some h) × Breaks o.rule h.params (cycles_of_stream t o.stream) o.cycle)
+          found = breaks_in t o b
+
+          by_stream : (o.stream ≡ at) ⊎ (o.stream ≡ at → ⊥) → offends_in (with_row t row) o
+          by_stream (inr other) =
+              offends_by (with_row t row) o found.0 found.1.0
+              (subst (λ (xs : List Cycle). Breaks o.rule found.0.params xs o.cycle) (sym (cycles_of_stream-other o.stream (slice_get_within t.heads o.stream found.0 found.1.0) other)) found.1.1)
+          by_stream (inl same) =
+              let cycles : cycles_of_stream t o.stream ++ row ∷ [] ≡ cycles_of_stream (with_row t row) o.stream = ap (λ (n : ℕ). cycles_of_stream t n ++ row ∷ []) same ∙ sym cycles_of_stream-turn ∙ ap (cycles_of_stream (with_row t row)) (sym same) in
+              offends_by (with_row t row) o found.0 found.1.0 (subst (λ (xs : List Cycle). Breaks o.rule found.0.params xs o.cycle) cycles (Breaks-front o.rule found.0.params (cycles_of_stream t o.stream) row o.cycle found.1.1))
+
+      -- what the row breaks offends
+      here : (rule : Rule) → BreaksAfter rule head.params (cycles_of_stream t at) row → offends_in (with_row t row) (record { cycle = cycle; stream = at; rule = rule })
+      here rule broken =
+          offends_by (with_row t row) (record { cycle = cycle; stream = at; rule = rule }) head there
+          (subst (λ (xs : List Cycle). Breaks rule head.params xs cycle) (sym cycles_of_stream-turn) (Breaks-last rule head.params (cycles_of_stream t at) row cycle (sym length-cycles_here) broken))
+
+      pub adds : AddsOffences (offends_in t) (offends_in (with_row t row)) cycle at (BreaksNext t at head.params row)
+      adds = record { stays = stays; earlier = earlier; cases = cases; here = here }

@@ -1,25 +1,9 @@
 -- The rows of a trace text: the values of their signals.
-use Rattle.std.proofs.Common.{◌≡◌, ℕ, ◌^◌, ◌<◌, ◌≤◌, Bool, true, false, nat_le, nat_lt, List, length, Option, Some, None, Ok, Err, refl, sym, ◌∙◌, arith}
+use Rattle.std.proofs.Common.{◌≡◌, ℕ, ◌^◌, ◌<◌, ◌≤◌, true, false, nat_le, nat_lt, List, length, Option, Some, None, Ok, Err, refl, sym, ◌∙◌, arith}
 use Rattle.std.proofs.lemmas.Bool.Decides.{nat_tests}
-use Rattle.std.proofs.lemmas.List.{length-replicate}
-use Rattle.tydi_base.specs.Reading.{or_fault}
-use Rattle.tydi_base.specs.Bits.{zero_bits}
 use Rattle.tydi_base.specs.Decimal.{decimal_of, below}
-use Rattle.tydi_base.specs.Hex.{word_at}
-use Rattle.tydi_base.proofs.ReadingLaws.{bind_ok, or_fault_ok, ok_is}
-use Rattle.tydi_base.proofs.HexLemmas.{hex_of-word_at}
-use Rattle.cycle_trace.specs.RowText.{value_of, word_field, index_of}
+use Rattle.cycle_trace.specs.RowText.{index_of}
 use Rattle.cycle_trace.proofs.HeaderLemmas.{below-short}
-
--- a word of bits has its width
-pub word_field-length : (present : Bool) (key width : ℕ) (words : List (List ℕ)) (x : List Bool × List (List ℕ)) → word_field present key width words ≡ Ok x → length x.0 ≡ width
-unfolding word_field
-word_field-length false key width words x e = rw (← ok_is (zero_bits width, words) x e) (length-replicate width false)
-word_field-length true key width words x e =
-    let a = bind_ok (value_of key words) _ x e in
-    let b = bind_ok (or_fault tt (word_at width a.0.0)) _ x a.2 in
-    let same = ok_is (b.0, a.0.1) x b.2 in
-    rw (← same) (hex_of-word_at width a.0.0 b.0 (or_fault_ok tt (word_at width a.0.0) b.0 b.1)).1
 
 -- ---- numbers of lanes
 

@@ -15,10 +15,11 @@ use Rattle.tydi_base.specs.Reading.{◌>>=◌}
 use Rattle.tydi_base.proofs.PieceLaws.{join-pieces_of}
 use Rattle.tydi_base.proofs.ReadingLaws.{bind_ok, chosen, ok_is}
 use Rattle.physical_stream.specs.Params.{Parameters}
-use Rattle.physical_stream.specs.Signals.{has_content, has_last, has_stai, has_endi, has_strb, has_user, index_width, Shows}
+use Rattle.physical_stream.specs.Signals.{has_content, has_last, has_stai, has_endi, has_strb, has_user, Shows}
 use Rattle.physical_stream.specs.Cycles.{Cycle}
 use Rattle.physical_stream.specs.declared.transfer.Transfer.{Transfer}
-use Rattle.physical_stream.proofs.WidthLemmas.{index_width-enough}
+use Rattle.tydi_base.specs.Width.{index_width}
+use Rattle.tydi_base.proofs.WidthLaws.{index_width-enough}
 use Rattle.std.specs.Fmt.{decimal}
 use Rattle.cycle_trace.specs.RowText.{word_field, index_field, strobe_field, no_more, transfer_of, has_payload, is_dash, payload_of, shown_of, bit_of, cycle_of_words, row_of, row_at}
 use Rattle.cycle_trace.specs.Spelling.{signal_words, transfer_words, or_dash, payload_words, bit_text, row_line}
@@ -93,9 +94,9 @@ pub record TransferRead (p : Parameters) (words : List (List ℕ)) (t : Transfer
   pub spelled : words ≡ transfer_words p t
   pub shows : Shows p t
 
-pub transfer_of-some : (p : Parameters) (words : List (List ℕ)) (t : Transfer) → 1 ≤ p.lanes → transfer_of p words ≡ Ok t → TransferRead p words t
+pub transfer_of-some : (p : Parameters) (words : List (List ℕ)) (t : Transfer) → transfer_of p words ≡ Ok t → TransferRead p words t
 unfolding transfer_of
-transfer_of-some p words t some e =
+transfer_of-some p words t e =
     let content = bind_ok (word_field (has_content p) 100 (p.lanes * p.element) words) _ t e in
     let last = bind_ok (word_field (has_last p) 108 (p.lanes * p.dims) content.0.1) _ t content.2 in
     let stai = bind_ok (index_field (has_stai p) 115 (index_width p.lanes) 0 last.0.1) _ t last.2 in
@@ -106,7 +107,7 @@ transfer_of-some p words t some e =
     let found = with_user user.0.0 in
     let nothing = bind_ok (no_more user.0.1) (λ nothing. Ok found) t user.2 in
     let same = ok_is found t nothing.2 in
-    let fits : p.lanes - 1 < 2 ^ index_width p.lanes = omega (arith, index_width-enough p.lanes) in
+    let fits : p.lanes - 1 < 2 ^ index_width p.lanes = omega (arith, index_width-enough p.lanes, pow_pos (index_width p.lanes)) in
     let content_read = word_field-some (has_content p) 100 (p.lanes * p.element) words content.0 content.1 in
     let last_read = word_field-some (has_last p) 108 (p.lanes * p.dims) content.0.1 last.0 last.1 in
     let stai_read = index_field-some (has_stai p) 115 (index_width p.lanes) 0 last.0.1 stai.0 (pow_pos (index_width p.lanes)) stai.1 in
@@ -185,17 +186,17 @@ pub record ShownRead (p : Parameters) (valid : Bool) (words : List (List ℕ)) (
   pub valid_is : is_some shown ≡ valid
   pub shows : (t : Transfer) → shown ≡ Some t → Shows p t
 
-pub shown_of-some : (p : Parameters) (valid : Bool) (words : List (List ℕ)) (shown : Option Transfer) → 1 ≤ p.lanes → shown_of p valid words ≡ Ok shown → ShownRead p valid words shown
+pub shown_of-some : (p : Parameters) (valid : Bool) (words : List (List ℕ)) (shown : Option Transfer) → shown_of p valid words ≡ Ok shown → ShownRead p valid words shown
 unfolding shown_of
-shown_of-some p false words shown some e = elim (chosen (is_dash words) (Ok None) (Err tt) (Ok shown) e) [
+shown_of-some p false words shown e = elim (chosen (is_dash words) (Ok None) (Err tt) (Ok shown) e) [
   | inl h ↦ (let same = ok_is None shown h.1 in rw (← same) (record { spelled = is_dash-some words h.0; valid_is = refl; shows = λ t none. absurd cc }))
   | inr h ↦ absurd (cc (h.1))
 ]
-shown_of-some p true words shown some e =
+shown_of-some p true words shown e =
     let payload = bind_ok (payload_of p words) _ shown e in
     let read = bind_ok (transfer_of p payload.0) _ shown payload.2 in
     let same = ok_is (Some read.0) shown read.2 in
-    let found = transfer_of-some p payload.0 read.0 some read.1 in
+    let found = transfer_of-some p payload.0 read.0 read.1 in
     rw (← same) (record {
       spelled = payload_of-none p words payload.0 read.0 (has_payload p) refl payload.1 found.spelled;
       valid_is = refl;
@@ -235,16 +236,16 @@ pub record RowRead (p : Parameters) (words : List (List ℕ)) (cycle : Cycle) : 
 three : (a b x y : List ℕ) (c z : List (List ℕ)) → a ≡ x → b ≡ y → c ≡ z → a ∷ b ∷ c ≡ x ∷ y ∷ z
 three a b x y c z p q r = cc
 
-cycle_of_words-some : (p : Parameters) (words : List (List ℕ)) (cycle : Cycle) → 1 ≤ p.lanes → cycle_of_words p words ≡ Ok cycle → RowRead p words cycle
+cycle_of_words-some : (p : Parameters) (words : List (List ℕ)) (cycle : Cycle) → cycle_of_words p words ≡ Ok cycle → RowRead p words cycle
 unfolding cycle_of_words
-cycle_of_words-some p [] cycle some e = absurd cc
-cycle_of_words-some p (valid ∷ []) cycle some e = absurd cc
-cycle_of_words-some p (valid ∷ ready ∷ payload) cycle some e =
+cycle_of_words-some p [] cycle e = absurd cc
+cycle_of_words-some p (valid ∷ []) cycle e = absurd cc
+cycle_of_words-some p (valid ∷ ready ∷ payload) cycle e =
     let v = bind_ok (bit_of valid) _ cycle e in
     let r = bind_ok (bit_of ready) _ cycle v.2 in
     let shown = bind_ok (shown_of p v.0 payload) _ cycle r.2 in
     let same = ok_is (record { ready = r.0; shown = shown.0 }) cycle shown.2 in
-    let read = shown_of-some p v.0 payload shown.0 some shown.1 in
+    let read = shown_of-some p v.0 payload shown.0 shown.1 in
     let valid_is : valid ≡ bit_text (is_some shown.0) = bit_of-some valid v.0 v.1 ∙ ap bit_text (sym (read.valid_is)) in
     rw (← same) (record {
       spelled = three valid ready _ _ payload _ valid_is (bit_of-some ready r.0 r.1) read.spelled;
@@ -303,10 +304,10 @@ unfolding row_at
 row_read number p line cycle (Ok found) is e = is ∙ ap Ok (ok_is found cycle (rw is at e))
 row_read number p line cycle (Err d) is e = absurd (cc (rw is at e))
 
-pub row_at-some : (number : ℕ) (p : Parameters) (line : List ℕ) (cycle : Cycle) → 1 ≤ p.lanes → row_at number p line ≡ Ok cycle → LineRead p line cycle
+pub row_at-some : (number : ℕ) (p : Parameters) (line : List ℕ) (cycle : Cycle) → row_at number p line ≡ Ok cycle → LineRead p line cycle
 unfolding row_of
-row_at-some number p line cycle some e =
-    let read = cycle_of_words-some p (words_of line) cycle some (row_read number p line cycle (row_of p line) refl e) in
+row_at-some number p line cycle e =
+    let read = cycle_of_words-some p (words_of line) cycle (row_read number p line cycle (row_of p line) refl e) in
     record {
       spelled = sym (join-pieces_of 32 line) ∙ ap (join_with_byte 32) (read.spelled);
       shows = read.shows;

@@ -1,5 +1,5 @@
 -- All rows of a trace text, read in their order.
-use Rattle.std.proofs.Common.{◌≡◌, ℕ, zero, suc, ◌+◌, ◌*◌, ◌<◌, ◌≤◌, true, false, List, [], ◌∷◌, length, get_or, eqb, Some, Ok, Err, length-append, refl, sym, ◌∙◌, arith}
+use Rattle.std.proofs.Common.{◌≡◌, ℕ, zero, suc, ◌+◌, ◌*◌, ◌<◌, ◌≤◌, Bool, true, false, ◌↔◌, IsTrue, List, [], ◌∷◌, length, get_or, eqb, Ok, Err, length-append, refl, sym, ◌∙◌, arith}
 use Rattle.std.proofs.Math.Nat.{suc-mul, zero-mul, mul-le-mul_right, lt_of_not-le}
 use Rattle.std.proofs.lemmas.Bool.Decides.{nat_tests}
 use Rattle.std.proofs.lemmas.List.{get_or_append_left, get_or-append-add}
@@ -8,7 +8,6 @@ use Rattle.tydi_base.specs.Reading.{◌>>=◌}
 use Rattle.tydi_base.specs.Pieces.{lines_of}
 use Rattle.physical_stream.specs.Params.{Parameters}
 use Rattle.cycle_trace.specs.declared.fault.TraceFault.TheVariants.{RowsLeft}
-use Rattle.cycle_trace.specs.Faults.{fault_in}
 use Rattle.cycle_trace.specs.RowText.{row_at}
 use Rattle.cycle_trace.specs.RowsText.{cut_row}
 use Rattle.cycle_trace.specs.Trace.{owed}
@@ -54,7 +53,7 @@ rows_from-left want got number ((byte ∷ line) ∷ []) some other = refl
 rows_from-left want got number ([] ∷ next ∷ lines) some other = refl
 rows_from-left want got number ((byte ∷ line) ∷ next ∷ lines) some other = refl
 
-some_stream : (cycles count got : ℕ) → got < cycles * count → 0 < count
+pub some_stream : (cycles count got : ℕ) → got < cycles * count → 0 < count
 some_stream cycles zero got lt = let none : cycles * 0 ≡ 0 = omega arith in absurd (omega arith)
 some_stream cycles (suc count) got lt = omega arith
 
@@ -69,6 +68,6 @@ pub some_is_not : (text : List ℕ) → false ≡ eqb (length text) 0 → text �
 some_is_not [] same none = cc
 some_is_not (byte ∷ text) same none = cc
 
-pub cut_fault : (rest : List ℕ) (want got number : ℕ) → fault_in (cut_row rest want got number) ≡ Some (cut_row rest want got number)
-cut_fault [] want got number = refl
-cut_fault (byte ∷ rest) want got number = refl
+pub empty_iff : (text : List ℕ) (is_empty : Bool) → is_empty ≡ eqb (length text) 0 → IsTrue is_empty ↔ (text ≡ [])
+empty_iff text true is = (λ _. empty_is text is, λ _. refl)
+empty_iff text false is = (λ no. absurd cc, λ none. absurd (some_is_not text is none))

@@ -1,14 +1,15 @@
 -- How far the rows of a text are read.
-use Rattle.std.proofs.Common.{◌≡◌, ◌≢◌, ◌↔◌, IsTrue, ◌∙◌, ℕ, zero, suc, ◌+◌, ◌*◌, ◌<◌, ◌≤◌, Bool, true, false, ◌==◌, ◌&&◌, if◌then◌else◌, nat_le, List, [], ◌∷◌, length, map, get_or, Option, Some, None, Result, Ok, Err, MatchOption, refl, sym, ap, subst, arith}
+use Rattle.std.proofs.Common.{◌≡◌, ◌≢◌, ◌↔◌, IsTrue, ◌∙◌, ℕ, zero, suc, ◌+◌, ◌*◌, ◌<◌, ◌≤◌, false, ◌==◌, if◌then◌else◌, inl, inr, ◌⊎◌, List, [], ◌∷◌, ◌++◌, length, map, take, get_or, Option, Some, None, Result, Ok, Err, MatchOption, IfSome, refl, sym, ap, subst, arith}
 use Rattle.std.specs.List.{slice_get}
 use Rattle.std.specs.Option.{option_map}
 use Rattle.std.proofs.Math.ListN.{set}
-use Rattle.std.proofs.lemmas.Bool.Decides.{nat_tests}
-use Rattle.std.proofs.lemmas.List.{length-append, length-map}
+use Rattle.std.proofs.lemmas.Bool.{cases_lt}
+use Rattle.std.proofs.lemmas.List.{length-append, length-map, length-take-le, take_more}
 use Rattle.std.proofs.lemmas.Option.{slice_get_within, slice_get-map, slice_get-get_or}
 use Rattle.tydi_base.specs.Reading.{Gives}
 use Rattle.physical_stream.specs.Params.{Parameters}
 use Rattle.physical_stream.specs.Cycles.{Cycle}
+use Rattle.physical_stream.specs.Signals.{Shows}
 use Rattle.physical_stream.specs.declared.head.Head.{Head}
 use Rattle.physical_stream.specs.declared.transfer.Transfer.{Transfer}
 use Rattle.cycle_trace.specs.declared.fault.TraceFault.{TraceFault}
@@ -16,21 +17,19 @@ use Rattle.cycle_trace.specs.declared.row_fields.RowBits.{RowBits}
 use Rattle.cycle_trace.specs.declared.rows_read.RowsRead.{RowsRead}
 use Rattle.cycle_trace.specs.declared.stream_rows.StreamRows.{StreamRows}
 use Rattle.cycle_trace.specs.Faults.{fault_in}
-use Rattle.cycle_trace.specs.ReaderView.{ReadsRows, kept_of}
+use Rattle.cycle_trace.specs.ReaderView.{HasRoomFor, ReadsRows, kept_of}
 use Rattle.cycle_trace.specs.RowKept.{cycle_in}
 use Rattle.cycle_trace.specs.RowSink.{CanTake, with_row}
-use Rattle.cycle_trace.specs.RowText.{row_at}
-use Rattle.cycle_trace.specs.Trace.{TraceText, are_heads, owed, params_of_heads}
+use Rattle.cycle_trace.specs.Beginnings.{Fails, GoesOnLine}
+use Rattle.cycle_trace.specs.RowLayout.{row_room}
+use Rattle.cycle_trace.specs.RowText.{row_at, row_fault}
+use Rattle.cycle_trace.specs.Trace.{TraceText, owed, params_of_heads}
 use Rattle.cycle_trace.proofs.KeepLemmas.{length-owed_heads}
-use Rattle.cycle_trace.proofs.ShownLemmas.{row_of-shows, row_at-ok}
-use Rattle.cycle_trace.proofs.SurveyorLemmas.{has_turn, next_row}
-
-both_true : (a b : Bool) → (a && b) ≡ true → a ≡ true
-both_true true b e = refl
-both_true false b e = absurd cc
-
-pub few_heads : (heads : List Head) → are_heads heads ≡ true → length heads ≤ 65536
-few_heads heads stand = let few = both_true (nat_le (length heads) 65536) _ stand in grind (arith, nat_tests)
+use Rattle.cycle_trace.proofs.RowSpelling.{row_at-some}
+use Rattle.cycle_trace.proofs.BeginningLemmas.{IsFault-row, row-fails}
+use Rattle.cycle_trace.proofs.PartsLemmas.{slice_get-front, slice_get-next, slice_get-there}
+use Rattle.cycle_trace.proofs.RowLengthLemmas.{row_at-long}
+use Rattle.cycle_trace.proofs.SurveyorLemmas.{has_turn, next_row, slice_get-set_same}
 
 -- the parameters stay where a row is read
 abbrev pub params_of_rows : List StreamRows → List Parameters
@@ -42,13 +41,8 @@ params-set (x ∷ streams) zero old new there same =
     let is : x ≡ old = cc in ap (λ (p : Parameters). p ∷ params_of_rows streams) (same ∙ ap (λ (rows : StreamRows). rows.layout.params) (sym is))
 params-set (x ∷ streams) (suc i) old new there same = ap (λ (ps : List Parameters). x.layout.params ∷ ps) (params-set streams i old new there same)
 
-slice_get-set : {A : Type 0} (xs : List A) (i : ℕ) (x : A) → i < length xs → slice_get (set xs i x) i ≡ Some x
-slice_get-set [] i x within = absurd (omega arith)
-slice_get-set (y ∷ xs) zero x within = refl
-slice_get-set (y ∷ xs) (suc i) x within = slice_get-set xs i x (omega arith)
-
 pub kept-set : (streams : List StreamRows) (i : ℕ) (new : StreamRows) → i < length streams → kept_of (set streams i new) i ≡ Some new.kept
-kept-set streams i new within = ap (option_map (λ (rows : StreamRows). rows.kept)) (slice_get-set streams i new within)
+kept-set streams i new within = ap (option_map (λ (rows : StreamRows). rows.kept)) (slice_get-set_same streams i new within)
 
 module _ (rows : RowsRead) (t : TraceText) (h : ReadsRows rows t) where
   pub many_streams : length rows.streams.items ≡ length t.heads
@@ -85,12 +79,16 @@ module _ (rows : RowsRead) (t : TraceText) (h : ReadsRows rows t) where
 
 -- what a row shows can be taken
 pub can_take : (t : TraceText) (number : ℕ) (p : Parameters) (line : List ℕ) (row : Cycle) → slice_get (owed (params_of_heads t.heads) t.cycles) (length t.rows) ≡ Some p → row_at number p line ≡ Ok row → CanTake t row
-can_take t number p line row turn read = record { params = p; turn = turn; shown = row_of-shows p line row (row_at-ok number p line row read) }
+can_take t number p line row turn read = record { params = p; turn = turn; shown = by_shown row.shown (row_at-some number p line row read).shows }
+  where
+    by_shown : (shown : Option Transfer) → ((x : Transfer) → shown ≡ Some x → Shows p x) → IfSome shown (Shows p)
+    by_shown None each = tt
+    by_shown (Some x) each = each x refl
 
 -- one row more
-pub ReadsRows-more : (rows next : RowsRead) (t : TraceText) (row : Cycle) → ReadsRows rows t → CanTake t row → next.streams ≡ rows.streams → next.want ≡ rows.want → next.got ≡ rows.got + 1
+pub ReadsRows-more : (rows next : RowsRead) (t : TraceText) (row : Cycle) → ReadsRows rows t → CanTake t row → next.streams ≡ rows.streams → next.want ≡ rows.want → next.got ≡ rows.got + 1 → next.room ≡ rows.room
     → next.stream ≡ (if rows.stream + 1 == length t.heads then 0 else rows.stream + 1) → ReadsRows next (with_row t row)
-ReadsRows-more rows next t row h can streams want got stream = record {
+ReadsRows-more rows next t row h can streams want got room stream = record {
   params = ap (λ s. params_of_rows s.items) streams ∙ h.params;
   few_cycles = h.few_cycles;
   few_streams = h.few_streams;
@@ -99,6 +97,7 @@ ReadsRows-more rows next t row h can streams want got stream = record {
   within = omega (arith, length-append t.rows (row ∷ []), slice_get_within (owed (params_of_heads t.heads) t.cycles) (length t.rows) can.params can.turn, length-owed_heads t);
   turn = if next.stream == 0 then h.turn + 1 else h.turn;
   next = next_row t h.turn rows.stream h.next row can (if next.stream == 0 then h.turn + 1 else h.turn) next.stream stream refl;
+  room = λ s head there. omega (arith, h.room s head there, room);
 }
 
 -- the faults of rows are no want of memory
@@ -109,7 +108,7 @@ gives_here p q number line view other (Err e) same views h = subst (λ (x : Para
 
 -- the stream whose turn it is reads a row
 module _ (rows next : RowsRead) (t : TraceText) (h : ReadsRows rows t) (less : rows.got < rows.want) (old new : StreamRows) (there : slice_get rows.streams.items rows.stream ≡ Some old) (same : new.layout ≡ old.layout)
-    (streams : next.streams.items ≡ set rows.streams.items rows.stream new) (want : next.want ≡ rows.want) (got : next.got ≡ rows.got) (stream : next.stream ≡ rows.stream) where
+    (streams : next.streams.items ≡ set rows.streams.items rows.stream new) (want : next.want ≡ rows.want) (got : next.got ≡ rows.got) (stream : next.stream ≡ rows.stream) (room : next.room ≡ rows.room) where
   pub ReadsRows-read : ReadsRows next t
   ReadsRows-read = record {
     params = ap params_of_rows streams ∙ params-set rows.streams.items rows.stream old new there (ap (λ l. l.params) same) ∙ h.params;
@@ -120,6 +119,7 @@ module _ (rows next : RowsRead) (t : TraceText) (h : ReadsRows rows t) (less : r
     within = h.within;
     turn = h.turn;
     next = record { place = ap (λ (n : ℕ). n) h.next.place ∙ ap (λ (s : ℕ). h.turn * length t.heads + s) (sym stream); within = λ some. subst (λ (s : ℕ). s < length t.heads) (sym stream) (h.next.within some) };
+    room = λ s head there. omega (arith, h.room s head there, room);
   }
 
 -- so does what it reads
@@ -134,6 +134,40 @@ gives-read rows t h less old new there p turn number line result is gives =
     views : (bits : RowBits) → ◌≡◌ {A = Cycle} (cycle_in new.kept bits) (record { ready = bits.ready; shown = if bits.valid then kept_of (set rows.streams.items rows.stream new) rows.stream else None })
     views bits =
         ap (λ (shown : Option Transfer). let cycle : Cycle = record { ready = bits.ready; shown = if bits.valid then shown else None } in cycle) (sym (kept-set rows.streams.items rows.stream new (stream_in rows t h less)))
+
+-- room for a stream more
+pub HasRoomFor-more : (heads : List Head) (n room next : ℕ) (head : Head) → HasRoomFor (take n heads) room → n < length heads → head ≡ get_or heads n head → room ≤ next → row_room head.params ≤ next
+    → HasRoomFor (take (n + 1) heads) next
+HasRoomFor-more heads n room next head has within is grows enough stream found there = by_cases (cases_lt stream n)
+  where
+    here : take (n + 1) heads ≡ take n heads ++ head ∷ []
+    here = take_more heads n head within ∙ ap (λ (x : Head). take n heads ++ x ∷ []) (sym is)
+
+    long : length (take n heads) ≡ n
+    long = length-take-le n heads (omega arith)
+
+    at : slice_get (take n heads ++ head ∷ []) stream ≡ Some found
+    at = ap (λ (xs : List Head). slice_get xs stream) (sym here) ∙ there
+
+    by_cases : (stream < n) ⊎ (n ≤ stream) → row_room found.params ≤ next
+    by_cases (inl less) = omega (arith, has stream found (sym (slice_get-front (take n heads) (head ∷ []) stream (omega (arith, long))) ∙ at))
+    by_cases (inr more) =
+        let last : stream ≡ length (take n heads) = omega (arith, long, slice_get_within (take n heads ++ head ∷ []) stream found at, length-append (take n heads) (head ∷ [])) in
+        let same : head ≡ found = let e = sym (slice_get-next (take n heads) head stream last) ∙ at in cc in
+        omega (arith, enough, ap (λ (x : Head). row_room x.params) same)
+
+-- a line that is longer than any row
+pub long-fails : (rows : RowsRead) (t : TraceText) → ReadsRows rows t → rows.got < rows.want → (bytes line : List ℕ) → GoesOnLine bytes line t → rows.room < length line
+    → Fails (bytes ++ 10 ∷ []) (row_fault (3 + length t.heads + length t.rows) line)
+long-fails rows t h less bytes line goes long =
+    let turn = turn_params rows t h less in
+    let has = has_turn t h.turn rows.stream h.next turn.0 turn.1 in
+    let old = slice_get-there rows.streams.items rows.stream (stream_in rows t h less) in
+    let same = params_here rows t h turn.0 turn.1 old.0 old.1 in
+    let few : turn.0.lanes ≤ 128 = subst (λ (p : Parameters). p.lanes ≤ 128) same old.0.layout.laid.narrow in
+    let room : row_room turn.0 ≤ rows.room = subst (λ (p : Parameters). row_room p ≤ rows.room) has.params (h.room rows.stream has.head has.there) in
+    let number = 3 + length t.heads + length t.rows in
+    row-fails t turn.0 turn.1 bytes line (row_fault number line) goes (IsFault-row (row_at number turn.0 line) number line (row_at-long turn.0 few number line (omega arith)))
 
 -- a test that fails
 pub not_whole : (p : Type 0) → IsTrue false ↔ p → p → ⊥

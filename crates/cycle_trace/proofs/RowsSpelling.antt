@@ -1,11 +1,9 @@
 -- The rows of a trace text: what is spelled is read, and what is read is spelled so.
-use Rattle.std.proofs.Common.{◌≡◌, ℕ, zero, suc, ◌<◌, ◌≤◌, Bool, true, ◌&&◌, nat_le, List, [], ◌∷◌, ◌++◌, length, Some, Result, Ok, append_assoc, eqb, refl, sym, ap, ◌∙◌, arith}
+use Rattle.std.proofs.Common.{◌≡◌, ℕ, zero, suc, ◌<◌, ◌≤◌, Bool, true, nat_le, List, [], ◌∷◌, ◌++◌, length, Some, Result, Ok, append_assoc, refl, sym, ap, ◌∙◌, arith}
 use Rattle.std.specs.List.{list_all, join_with_byte, slice_get}
 use Rattle.std.proofs.lemmas.Bool.Decides.{nat_tests}
 use Rattle.std.proofs.lemmas.List.Folds.{list_all-append}
-use Rattle.std.proofs.lemmas.List.Splits.{length-slice_split}
 use Rattle.tydi_base.specs.Pieces.{lines_of}
-use Rattle.tydi_base.specs.Reading.{◌>>=◌}
 use Rattle.tydi_base.proofs.ReadingLaws.{bind_ok, ok_is}
 use Rattle.physical_stream.specs.Params.{Parameters}
 use Rattle.physical_stream.specs.Signals.{Shows}
@@ -17,41 +15,20 @@ use Rattle.cycle_trace.specs.RowText.{row_at}
 use Rattle.cycle_trace.specs.Spelling.{row_line, rows_text}
 use Rattle.cycle_trace.specs.TraceText.{rows_from}
 use Rattle.cycle_trace.proofs.PlainWords.{and_parts, both, lines_of-plain}
+use Rattle.cycle_trace.proofs.RowsLemmas.{rows_from-cons, some_line}
 use Rattle.cycle_trace.proofs.RowSpelling.{row_words, row_words-plain, row_at-spelled, row_at-some}
 
--- the streams have as many lanes as a stream may have
+-- no stream has more lanes than a stream may have
 abbrev pub have_lanes : List Parameters → Bool
-have_lanes streams = list_all (λ p. nat_le 1 p.lanes && nat_le p.lanes 128) streams
-
-record HasLanes (p : Parameters) : Type 0 where
-  some : 1 ≤ p.lanes
-  few : p.lanes ≤ 128
-
-has_lanes : (p : Parameters) → (nat_le 1 p.lanes && nat_le p.lanes 128) ≡ true → HasLanes p
-has_lanes p e =
-    let parts = and_parts (nat_le 1 p.lanes) (nat_le p.lanes 128) e in
-    let low = parts.0 in
-    let high = parts.1 in
-    record { some = grind (arith, nat_tests); few = grind (arith, nat_tests) }
+have_lanes streams = list_all (λ p. nat_le p.lanes 128) streams
 
 pub have_lanes-first : (p : Parameters) (streams : List Parameters) → have_lanes (p ∷ streams) ≡ true → p.lanes ≤ 128
-have_lanes-first p streams e = (has_lanes p (and_parts (nat_le 1 p.lanes && nat_le p.lanes 128) (have_lanes streams) e).0).few
+have_lanes-first p streams e = let few = (and_parts (nat_le p.lanes 128) (have_lanes streams) e).0 in grind (arith, nat_tests)
 
 pub have_lanes-owed : (streams : List Parameters) (cycles : ℕ) → have_lanes streams ≡ true → have_lanes (owed streams cycles) ≡ true
 have_lanes-owed streams zero e = refl
 have_lanes-owed streams (suc cycles) e =
-    list_all-append (λ p. nat_le 1 p.lanes && nat_le p.lanes 128) streams (owed streams cycles) ∙ both (have_lanes streams) (have_lanes (owed streams cycles)) e (have_lanes-owed streams cycles e)
-
--- a text has one line at least
-pub some_line : (text : List ℕ) → 0 < length (lines_of text)
-some_line text = omega (arith, length-slice_split (λ byte. eqb byte 10) text)
-
--- the first row, and the rows after it
-rows_from-cons : (want got number : ℕ) (p : Parameters) (streams : List Parameters) (line : List ℕ) (lines : List (List ℕ)) → 0 < length lines
-    → rows_from want got number (p ∷ streams) (line ∷ lines) ≡ (row_at number p line >>= λ cycle. rows_from want (suc got) (suc number) streams lines >>= λ cycles. Ok (cycle ∷ cycles))
-rows_from-cons want got number p streams line [] some = absurd (omega arith)
-rows_from-cons want got number p streams [] (next ∷ lines) some = refl
-rows_from-cons want got number p streams (byte ∷ line) (next ∷ lines) some = refl
+    list_all-append (λ p. nat_le p.lanes 128) streams (owed streams cycles) ∙ both (have_lanes streams) (have_lanes (owed streams cycles)) e (have_lanes-owed streams cycles e)
 
 -- ---- rows that are shown
 
@@ -92,8 +69,8 @@ rows_from-spelled want got number [] [] lanes shown = refl
 rows_from-spelled want got number [] (cycle ∷ cycles) lanes shown = absurd (let many = shown.many in omega arith)
 rows_from-spelled want got number (p ∷ streams) [] lanes shown = absurd (let many = shown.many in omega arith)
 rows_from-spelled want got number (p ∷ streams) (cycle ∷ cycles) lanes shown =
-    let parts = and_parts (nat_le 1 p.lanes && nat_le p.lanes 128) (have_lanes streams) lanes in
-    let few = (has_lanes p parts.0).few in
+    let parts = and_parts (nat_le p.lanes 128) (have_lanes streams) lanes in
+    let few = have_lanes-first p streams lanes in
     let first = AreShown-first p streams cycle cycles shown in
     let row = row_at-spelled number p cycle few first in
     let rest = rows_from-spelled want (suc got) (suc number) streams cycles parts.1 (AreShown-rest p streams cycle cycles shown) in
@@ -110,24 +87,23 @@ pub record RowsRead (streams : List Parameters) (lines : List (List ℕ)) (cycle
 no_row : (lines : List (List ℕ)) (cycles : List Cycle) → ◌≡◌ {A = Result (List Cycle) TraceFault} (Ok []) (Ok cycles) → join_with_byte 10 lines ≡ [] → RowsRead [] lines cycles
 no_row lines cycles e empty = let same = ok_is [] cycles e in rw (← same) (record { spelled = empty; shown = AreShown-none })
 
-pub rows_from-some : (want got number : ℕ) (streams : List Parameters) (lines : List (List ℕ)) (cycles : List Cycle) → have_lanes streams ≡ true → 0 < length lines
+pub rows_from-some : (want got number : ℕ) (streams : List Parameters) (lines : List (List ℕ)) (cycles : List Cycle) → 0 < length lines
     → rows_from want got number streams lines ≡ Ok cycles → RowsRead streams lines cycles
-rows_from-some want got number [] [] cycles lanes some e = absurd (omega arith)
-rows_from-some want got number [] ([] ∷ []) cycles lanes some e = no_row ([] ∷ []) cycles e refl
-rows_from-some want got number [] ((byte ∷ cut) ∷ []) cycles lanes some e = absurd cc
-rows_from-some want got number [] ([] ∷ next ∷ lines) cycles lanes some e = absurd cc
-rows_from-some want got number [] ((byte ∷ line) ∷ next ∷ lines) cycles lanes some e = absurd cc
-rows_from-some want got number (p ∷ streams) [] cycles lanes some e = absurd cc
-rows_from-some want got number (p ∷ streams) ([] ∷ []) cycles lanes some e = absurd cc
-rows_from-some want got number (p ∷ streams) ((byte ∷ cut) ∷ []) cycles lanes some e = absurd cc
-rows_from-some want got number (p ∷ streams) (line ∷ next ∷ lines) cycles lanes some e =
-    let parts = and_parts (nat_le 1 p.lanes && nat_le p.lanes 128) (have_lanes streams) lanes in
+rows_from-some want got number [] [] cycles some e = absurd (omega arith)
+rows_from-some want got number [] ([] ∷ []) cycles some e = no_row ([] ∷ []) cycles e refl
+rows_from-some want got number [] ((byte ∷ cut) ∷ []) cycles some e = absurd cc
+rows_from-some want got number [] ([] ∷ next ∷ lines) cycles some e = absurd cc
+rows_from-some want got number [] ((byte ∷ line) ∷ next ∷ lines) cycles some e = absurd cc
+rows_from-some want got number (p ∷ streams) [] cycles some e = absurd cc
+rows_from-some want got number (p ∷ streams) ([] ∷ []) cycles some e = absurd cc
+rows_from-some want got number (p ∷ streams) ((byte ∷ cut) ∷ []) cycles some e = absurd cc
+rows_from-some want got number (p ∷ streams) (line ∷ next ∷ lines) cycles some e =
     let read = sym (rows_from-cons want got number p streams line (next ∷ lines) (omega arith)) ∙ e in
     let row = bind_ok (row_at number p line) _ cycles read in
     let rest = bind_ok (rows_from want (suc got) (suc number) streams (next ∷ lines)) _ cycles row.2 in
     let same = ok_is (row.0 ∷ rest.0) cycles rest.2 in
-    let first = row_at-some number p line row.0 (has_lanes p parts.0).some row.1 in
-    let later = rows_from-some want (suc got) (suc number) streams (next ∷ lines) rest.0 parts.1 (omega arith) rest.1 in
+    let first = row_at-some number p line row.0 row.1 in
+    let later = rows_from-some want (suc got) (suc number) streams (next ∷ lines) rest.0 (omega arith) rest.1 in
     rw (← same) (record {
       spelled = joined line (row_line p row.0) (join_with_byte 10 (next ∷ lines)) (rows_text streams rest.0) first.spelled later.spelled;
       shown = AreShown-more p streams row.0 rest.0 first.shows later.shown;

@@ -1,8 +1,8 @@
 -- The signals of a row: what is spelled is read, and what is read is spelled so.
-use Rattle.std.proofs.Common.{◌≡◌, ℕ, zero, suc, ◌+◌, ◌-◌, ◌^◌, ◌<◌, ◌≤◌, Bool, true, false, ◌&&◌, eqb, nat_le, nat_lt, List, [], ◌∷◌, ◌++◌, length, Some, Result, Ok, Err, cond, refl, sym, ap, ◌∙◌, ◌⊎◌, inl, inr, arith}
+use Rattle.std.proofs.Common.{◌≡◌, ℕ, ◌+◌, ◌-◌, ◌^◌, ◌<◌, ◌≤◌, Bool, true, false, ◌&&◌, eqb, nat_le, nat_lt, List, [], ◌∷◌, ◌++◌, length, Some, Result, Ok, Err, cond, refl, sym, ap, ◌∙◌, inl, inr, arith}
 use Rattle.std.specs.Fmt.{decimal}
 use Rattle.std.proofs.Math.Pow.{pow_mono}
-use Rattle.std.proofs.lemmas.Bool.{cases_lt, eqb-true, eq-eqb}
+use Rattle.std.proofs.lemmas.Bool.{eqb-true, eq-eqb}
 use Rattle.std.proofs.lemmas.Bool.Decides.{nat_tests}
 use Rattle.std.proofs.lemmas.Fmt.{length-decimal-le}
 use Rattle.std.proofs.lemmas.List.{append-nil, length-replicate}
@@ -13,12 +13,12 @@ use Rattle.tydi_base.specs.Bits.{bits_of, number_of_bits, zero_bits}
 use Rattle.tydi_base.specs.Decimal.{read_on, is_decimal, decimal_of}
 use Rattle.tydi_base.specs.Hex.{hex_of, word_at}
 use Rattle.tydi_base.specs.Reading.{◌>>=◌, or_fault}
+use Rattle.tydi_base.specs.Width.{index_width}
 use Rattle.tydi_base.proofs.BitsLemmas.{length-bits_of, number_of_bits-bits_of, bits_of-number_of_bits, number_of_bits-below}
 use Rattle.tydi_base.proofs.DecimalLaws.{own, is_decimal-to, decimal_of-decimal, decimal_of-some}
 use Rattle.tydi_base.proofs.HexLemmas.{word_at-hex_of, hex_of-word_at}
 use Rattle.tydi_base.proofs.ReadingLaws.{bind_ok, or_fault_ok, chosen, ok_is}
-use Rattle.physical_stream.specs.Signals.{least_power, index_width}
-use Rattle.physical_stream.proofs.WidthLemmas.{least_power-here, least_power-next}
+use Rattle.tydi_base.proofs.WidthLaws.{index_width-least}
 use Rattle.cycle_trace.specs.RowText.{value_of, word_field, index_of, index_field, strobe_field}
 use Rattle.cycle_trace.specs.Spelling.{signal_words}
 use Rattle.cycle_trace.proofs.PlainWords.{and_parts}
@@ -32,23 +32,9 @@ decimal_of-below digits n k short e =
     let lt : read_on 0 digits < 10 ^ k = digits_value_short own digits k h.each short in
     rw (← parts.1) lt
 
-least_power-step : (n low more most : ℕ) → n ≤ 2 ^ most → low ≤ most → (2 ^ low < n) ⊎ (n ≤ 2 ^ low) → (low < most → least_power n (suc low) more ≤ most) → least_power n low (suc more) ≤ most
-least_power-step n low more most enough within (inl short) later =
-    let next : low < most = elim (cases_lt low most) [
-      | inl lt ↦ lt
-      | inr le ↦ (let grows : 2 ^ most ≤ 2 ^ low = pow_mono le in absurd (omega arith))
-    ] in
-    rw (least_power-next n low more short) (later next)
-least_power-step n low more most enough within (inr here) later = rw (least_power-here n low (suc more) here) within
-
-least_power-most : (n low more most : ℕ) → n ≤ 2 ^ most → low ≤ most → least_power n low more ≤ most
-least_power-most n low zero most enough within = within
-least_power-most n low (suc more) most enough within =
-    least_power-step n low more most enough within (cases_lt (2 ^ low) n) (λ lt. least_power-most n (suc low) more most enough (omega arith))
-
 -- seven bits number the lanes of a stream
 pub index_width-most : (lanes : ℕ) → lanes ≤ 128 → index_width lanes ≤ 7
-index_width-most lanes few = least_power-most lanes 0 lanes 7 (omega arith) (omega arith)
+index_width-most lanes few = (index_width-least lanes).least 7 few
 
 -- ---- the value of a key
 

@@ -19,14 +19,15 @@ use Rattle.complexity_rules.specs.Checking.{StandsFor, Steps, params_in, seen_in
 use Rattle.complexity_rules.specs.declared.checker.Checker.{Checker}
 use Rattle.cycle_trace.specs.Trace.{TraceText, cycles_of_stream, most_cycles, owed, params_of_heads}
 use Rattle.cycle_trace.specs.RowSink.{CanTake, with_row}
-use Rattle.cycle_trace.specs.Surveying.{IsChecked, IsNextRow, RowsSay, offence_of}
+use Rattle.cycle_trace.specs.Surveying.{IsChecked, IsNextRow, RowsSay, offence_of, offends_in}
 use Rattle.cycle_trace.specs.declared.survey_outcome.FoundOffence.{FoundOffence}
-use Rattle.cycle_trace.proofs.RowsLemmas.{length-owed, get_or-owed, turn_below}
-use Rattle.cycle_trace.proofs.RowAdded.{cycles_of_stream-turn, cycles_of_stream-other, length-cycles_here, IsFirst-stays, IsFirst-none, IsFirst-turn}
+use Rattle.cycle_trace.proofs.PartsLemmas.{same_or_other, slice_get-there}
+use Rattle.cycle_trace.proofs.RowsLemmas.{length-owed, get_or-owed, some_stream, turn_below}
+use Rattle.cycle_trace.proofs.RowAdded.{AddsOffences, BreaksNext, adds, cycles_of_stream-turn, cycles_of_stream-other, length-cycles_here, IsFirst-stays, IsFirst-none, IsFirst-here}
 
 -- ---- lists of checkers
 
-slice_get-set_same : {A : Type 0} (xs : List A) (i : ℕ) (x : A) → i < length xs → slice_get (set xs i x) i ≡ Some x
+pub slice_get-set_same : {A : Type 0} (xs : List A) (i : ℕ) (x : A) → i < length xs → slice_get (set xs i x) i ≡ Some x
 slice_get-set_same [] i x within = absurd (omega arith)
 slice_get-set_same (y ∷ xs) zero x within = refl
 slice_get-set_same (y ∷ xs) (suc i) x within = slice_get-set_same xs i x (omega arith)
@@ -38,28 +39,11 @@ slice_get-set_other (y ∷ xs) zero (suc j) x other = refl
 slice_get-set_other (y ∷ xs) (suc i) zero x other = refl
 slice_get-set_other (y ∷ xs) (suc i) (suc j) x other = slice_get-set_other xs i j x (λ same. other (omega arith))
 
-slice_get-there : {A : Type 0} (xs : List A) (i : ℕ) → i < length xs → (x : A) × (slice_get xs i ≡ Some x)
-slice_get-there [] i within = absurd (omega arith)
-slice_get-there (x ∷ xs) zero within = (x, refl)
-slice_get-there (x ∷ xs) (suc i) within = slice_get-there xs i (omega arith)
-
-same_or_other : (i j : ℕ) → (i ≡ j) ⊎ (i ≡ j → ⊥)
-same_or_other i j = by_cases (cases_lt i j) (cases_lt j i)
-  where
-    by_cases : (i < j) ⊎ (j ≤ i) → (j < i) ⊎ (i ≤ j) → (i ≡ j) ⊎ (i ≡ j → ⊥)
-    by_cases (inl less) other = inr (λ same. omega arith)
-    by_cases (inr more) (inl less) = inr (λ same. omega arith)
-    by_cases (inr more) (inr most) = inl (omega arith)
-
 shows_fit : (p : Parameters) (shown : Option Transfer) → IfSome shown (Shows p) → IfSome shown (Fits p)
 shows_fit p None shows = tt
 shows_fit p (Some t) shows = shows.fits
 
 -- ---- the turn
-
-some_stream : (cycles count got : ℕ) → got < cycles * count → 0 < count
-some_stream cycles zero got lt = let none : cycles * 0 ≡ 0 = omega arith in absurd (omega arith)
-some_stream cycles (suc count) got lt = omega arith
 
 -- the stream whose turn it is, where a row is wanted
 pub record HasTurn (t : TraceText) (cycle stream : ℕ) (p : Parameters) : Type 0 where
@@ -92,11 +76,17 @@ module _ (t : TraceText) (cycle stream : ℕ) (next : IsNextRow t cycle stream) 
   pub turn : HasTurn t cycle stream can.params
   turn = has_turn t cycle stream next can.params can.turn
 
-  -- what the survey so far says stays so where an offence was found
-  pub RowsSay-found : (checkers new : List Checker) (found : FoundOffence) → RowsSay t checkers (Some found) → RowsSay (with_row t row) new (Some found)
-  RowsSay-found checkers new found says = IsFirst-stays t cycle stream next.place turn.in_streams turn.in_cycles row (offence_of found) says
+  same_some : {A : Type 0} {x y : A} → Some x ≡ Some y → x ≡ y
+  same_some is = cc
 
-  module _ (checkers : List Checker) (says : RowsSay t checkers None) where
+  added : AddsOffences (offends_in t) (offends_in (with_row t row)) cycle stream (BreaksNext t stream turn.head.params row)
+  added = adds t cycle stream next.place turn.in_streams turn.in_cycles row turn.head turn.there
+
+  -- what the survey so far says stays so where an offence was found
+  pub RowsSay-found : (checkers new : List Checker) (found : FoundOffence) → RowsSay (offends_in t) t checkers (Some found) → RowsSay (offends_in (with_row t row)) (with_row t row) new (Some found)
+  RowsSay-found checkers new found says = IsFirst-stays (offends_in t) (offends_in (with_row t row)) cycle stream (BreaksNext t stream turn.head.params row) added (offence_of found) says
+
+  module _ (checkers : List Checker) (says : RowsSay (offends_in t) t checkers None) where
     pub stream_within : stream < length checkers
     stream_within = let inside = turn.in_streams in omega (arith, says.0.many)
 
@@ -116,27 +106,27 @@ module _ (t : TraceText) (cycle stream : ℕ) (next : IsNextRow t cycle stream) 
       steps_of : (new : Checker) (result : Option Rule) → ((cycles : List Cycle) → StandsFor old cycles → Steps old new cycles row result) → Steps old new (cycles_of_stream t stream) row result
       steps_of new result steps = steps (cycles_of_stream t stream) checked.stands
 
-      by_head : (rule : Rule) → BreaksAfter rule turn.head.params (cycles_of_stream t stream) row → BreaksAfter rule (params_in old) (cycles_of_stream t stream) row
+      by_head : (rule : Rule) → BreaksNext t stream turn.head.params row rule → BreaksAfter rule (params_in old) (cycles_of_stream t stream) row
       by_head rule b = subst (λ (p : Parameters). BreaksAfter rule p (cycles_of_stream t stream) row) (sym checked.params) b
 
       pub RowsSay-broken : (new : Checker) (after : List Checker) (rule : Rule) → ((cycles : List Cycle) → StandsFor old cycles → Steps old new cycles row (Some rule)) →
-          RowsSay (with_row t row) after (Some (record { cycle = cycle; stream = stream; rule = rule }))
+          RowsSay (offends_in (with_row t row)) (with_row t row) after (Some (record { cycle = cycle; stream = stream; rule = rule }))
       RowsSay-broken new after rule steps =
           let step = steps_of new (Some rule) steps in
-          IsFirst-turn t cycle stream next.place turn.in_streams turn.in_cycles row turn.head turn.there says.1 rule
+          IsFirst-here (offends_in t) (offends_in (with_row t row)) cycle stream (BreaksNext t stream turn.head.params row) added says.1 rule
           (subst (λ (p : Parameters). BreaksAfter rule p (cycles_of_stream t stream) row) checked.params step.0.0) (λ other b. step.0.1 other (by_head other b))
 
-      pub RowsSay-unbroken : (new : Checker) → params_in new ≡ params_in old → ((cycles : List Cycle) → StandsFor old cycles → Steps old new cycles row None) → RowsSay (with_row t row) (set checkers stream new) None
+      pub RowsSay-unbroken : (new : Checker) → params_in new ≡ params_in old → ((cycles : List Cycle) → StandsFor old cycles → Steps old new cycles row None) → RowsSay (offends_in (with_row t row)) (with_row t row) (set checkers stream new) None
       RowsSay-unbroken new same steps =
           let step = steps_of new None steps in (
             record { many = length-set checkers stream new ∙ says.0.many; each = λ s checker head here h. each s checker head here h (same_or_other stream s) },
-            IsFirst-none t cycle stream next.place turn.in_streams turn.in_cycles row turn.head turn.there says.1 (λ rule b. step.0 rule (by_head rule b)),
+            IsFirst-none (offends_in t) (offends_in (with_row t row)) cycle stream (BreaksNext t stream turn.head.params row) added says.1 (λ rule b. step.0 rule (by_head rule b)),
           )
         where
           each : (s : ℕ) (checker : Checker) (head : Head) → slice_get (set checkers stream new) s ≡ Some checker → slice_get t.heads s ≡ Some head → (stream ≡ s) ⊎ (stream ≡ s → ⊥) → IsChecked (with_row t row) s checker head
           each s checker head here h (inl is) =
               let written : slice_get (set checkers stream new) s ≡ Some new = ap (slice_get (set checkers stream new)) (sym is) ∙ slice_get-set_same checkers stream new stream_within in
-              let is_new : new ≡ checker = cc in
+              let is_new : new ≡ checker = same_some (sym written ∙ here) in
               let is_head : turn.head ≡ head = let e = sym turn.there ∙ ap (slice_get t.heads) is ∙ h in cc in
               let cycles : cycles_of_stream t stream ++ row ∷ [] ≡ cycles_of_stream (with_row t row) s =
               sym (cycles_of_stream-turn t cycle stream next.place turn.in_streams turn.in_cycles row) ∙ ap (cycles_of_stream (with_row t row)) is in

@@ -1,5 +1,5 @@
 -- Sets of texts, by the bytes of a text.
-use Rattle.std.proofs.Common.{◌≡◌, ℕ, Bool, true, false, cond, ◌||◌, List, [], ◌∷◌, refl, sym, ◌∙◌, subst}
+use Rattle.std.proofs.Common.{◌≡◌, ℕ, Bool, true, false, cond, ◌||◌, List, ◌∷◌, refl, sym, ◌∙◌, subst}
 use Rattle.std.specs.List.{list_any}
 use Rattle.std.specs.Str.{bytes_eq}
 use Rattle.std.specs.Ordering.{is_eq, nat_cmp, eq_by_cmp}
@@ -34,14 +34,11 @@ at_text old new text other false e here h = h e
 pub AddsText-from_updates : {Y : Type 0} (old new : BTreeSet (Vec ℕ Y)) (text : List ℕ) → UpdatesBy (λ x y. slice_cmp nat_cmp x.items y.items) (λ k. slice_cmp nat_cmp text k.items) old new true → AddsText old new text
 AddsText-from_updates old new text h other = at_text old new text other (bytes_eq text other) refl h.1 (λ e. others old new text other h.3 e)
 
--- ---- the texts so far
-
-pub HasTexts-none : {Y : Type 0} (set : BTreeSet (Vec ℕ Y)) → set.keys ≡ [] → HasTexts set []
-HasTexts-none set e = record { same = λ text. rw e refl }
-
 one_more : (here back others : Bool) → back ≡ here → cond here true others ≡ (back || others)
 one_more true back others e = rw e refl
 one_more false back others e = rw e refl
+
+-- ---- the texts so far
 
 pub HasTexts-more : {Y : Type 0} (old new : BTreeSet (Vec ℕ Y)) (text : List ℕ) (texts : List (List ℕ)) → HasTexts old texts → AddsText old new text → HasTexts new (text ∷ texts)
 HasTexts-more old new text texts h adds =

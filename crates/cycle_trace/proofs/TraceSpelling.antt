@@ -1,5 +1,5 @@
 -- The text of a trace: what is spelled is read, and what is read is spelled so.
-use Rattle.std.proofs.Common.{◌≡◌, ℕ, ◌+◌, ◌*◌, ◌^◌, ◌<◌, ◌≤◌, Bool, true, false, ◌&&◌, nat_le, nat_eq, List, [], ◌∷◌, ◌++◌, length, drop, Result, Ok, Err, append_assoc, All, refl, sym, ap, ◌∙◌, inl, inr, arith}
+use Rattle.std.proofs.Common.{◌≡◌, ℕ, ◌+◌, ◌*◌, ◌^◌, ◌<◌, ◌≤◌, Bool, true, false, nat_le, nat_eq, List, [], ◌∷◌, ◌++◌, length, drop, Result, Ok, Err, append_assoc, All, refl, sym, ap, ◌∙◌, inl, inr, arith}
 use Rattle.std.specs.Prelude.{codes}
 use Rattle.std.specs.Fmt.{decimal}
 use Rattle.std.specs.List.{flat_map, join_with_byte, starts_with}
@@ -22,9 +22,11 @@ use Rattle.cycle_trace.specs.Spelling.{IsHead, head_text, header_text, bit_text,
 use Rattle.cycle_trace.specs.Trace.{TraceText, AreShown, all_distinct, are_heads, most_cycles, params_of_heads, owed}
 use Rattle.cycle_trace.specs.TraceText.{rows_after, trace_from, trace_of}
 use Rattle.cycle_trace.proofs.PlainWords.{and_parts, both, decimal-plain, lines_of-plain}
-use Rattle.cycle_trace.proofs.RowsSpelling.{have_lanes, have_lanes-first, have_lanes-owed, some_line, rows_text-lines, AreShown-first, rows_from-spelled, rows_from-some}
+use Rattle.cycle_trace.proofs.HeaderLemmas.{heads_from-other}
+use Rattle.cycle_trace.proofs.RowsLemmas.{some_line}
+use Rattle.cycle_trace.proofs.RowsSpelling.{have_lanes, have_lanes-first, have_lanes-owed, rows_text-lines, AreShown-first, rows_from-spelled, rows_from-some}
 use Rattle.cycle_trace.proofs.HeadSpelling.{header_number-spelled, header_number-some}
-use Rattle.cycle_trace.proofs.HeadsSpelling.{paths_of, are_new-none, in_header-some, heads_from-end, EndsHeads, MayFollow, heads_from-spelled, heads_from-some}
+use Rattle.cycle_trace.proofs.HeadsSpelling.{paths_of, are_new-none, in_header-some, EndsHeads, MayFollow, heads_from-spelled, heads_from-some}
 
 -- ---- rows are no stream lines
 
@@ -39,7 +41,7 @@ rows_text-ends_heads (p ∷ streams) (cycle ∷ cycles) lanes shown number paths
     let lines = lines_of (rows_text streams cycles) in
     let few = have_lanes-first p streams lanes in
     let split = rows_text-lines p streams cycle cycles few (AreShown-first p streams cycle cycles shown) in
-    rw split (heads_from-end number paths (row_line p cycle) lines (some_line (rows_text streams cycles)) (row_line-is_no_head (is_some cycle.shown) _))
+    rw split (heads_from-other number paths (row_line p cycle) lines (some_line (rows_text streams cycles)) (row_line-is_no_head (is_some cycle.shown) _))
 
 -- ---- the header that lines start with
 
@@ -100,17 +102,12 @@ header_start_of-some (title ∷ line ∷ next ∷ lines) start e =
 
 -- ---- the trace
 
-lanes_of_head : (head : Head) → IsHead head → (nat_le 1 head.params.lanes && nat_le head.params.lanes 128) ≡ true
-lanes_of_head head h =
-    let r = h.range in
-    let some : nat_le 1 head.params.lanes ≡ true = grind (arith, nat_tests) in
-    let few : nat_le head.params.lanes 128 ≡ true = grind (arith, nat_tests) in
-    rw (some, few) refl
-
 heads-lanes : (heads : List Head) → All IsHead heads → have_lanes (params_of_heads heads) ≡ true
 heads-lanes [] each = refl
 heads-lanes (head ∷ heads) each =
-    both (nat_le 1 head.params.lanes && nat_le head.params.lanes 128) (have_lanes (params_of_heads heads)) (lanes_of_head head (All-head IsHead head heads each)) (heads-lanes heads (All-tail IsHead head heads each))
+    let range = (All-head IsHead head heads each).range in
+    let few : nat_le head.params.lanes 128 ≡ true = grind (arith, nat_tests) in
+    both (nat_le head.params.lanes 128) (have_lanes (params_of_heads heads)) few (heads-lanes heads (All-tail IsHead head heads each))
 
 are_heads-to : (heads : List Head) → All IsHead heads → are_heads heads ≡ true → MayFollow [] heads
 are_heads-to heads each e =
@@ -124,6 +121,10 @@ are_heads-from heads h =
     let room = h.room in
     let few : length heads ≤ 65536 = omega arith in
     both (nat_le (length heads) 65536) (all_distinct (paths_of heads)) (grind (arith, nat_tests)) h.distinct
+
+-- the heads of a header that is read may stand together
+pub header_start_of-are_heads : (lines : List (List ℕ)) (start : HeaderStart) → header_start_of lines ≡ Ok start → are_heads start.heads ≡ true
+header_start_of-are_heads lines start e = are_heads-from start.heads (header_start_of-some lines start e).may
 
 title_line : (rest : List ℕ) → lines_of (codes "tydi-trace 1" ++ 10 ∷ rest) ≡ codes "tydi-trace 1" ∷ lines_of rest
 title_line rest = lines_of-plain (codes "tydi-trace" ∷ codes "1" ∷ []) rest refl
@@ -189,8 +190,7 @@ rows_after-some : (start : HeaderStart) (text : List ℕ) (rows : List Cycle) �
     → TraceRead text start.cycles start.heads rows
 rows_after-some start text rows h e =
     let streams = owed (params_of_heads start.heads) start.cycles in
-    let lanes = have_lanes-owed (params_of_heads start.heads) start.cycles (heads-lanes start.heads h.may.each) in
-    let read = rows_from-some (start.cycles * length start.heads) 0 (3 + length start.heads) streams start.lines rows lanes h.some e in
+    let read = rows_from-some (start.cycles * length start.heads) 0 (3 + length start.heads) streams start.lines rows h.some e in
     record {
       spelled = sym (join-pieces_of 10 text) ∙ h.spelled ∙ ap (λ (rest : List ℕ). header_text start.cycles start.heads ++ rest) read.spelled;
       shown = read.shown;

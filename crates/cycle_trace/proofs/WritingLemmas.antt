@@ -27,7 +27,7 @@ is_some-width layout p s h = ap is_some (h s) ∙ has_width (is_present p s) (bi
     has_width true bits = refl
     has_width false bits = refl
 
-signals_together : (a b c d e f : List (List ℕ)) → spaced (a ++ b ++ c ++ d ++ e ++ f) ≡ spaced a ++ (spaced b ++ (spaced c ++ (spaced d ++ (spaced e ++ spaced f))))
+pub signals_together : (a b c d e f : List (List ℕ)) → spaced (a ++ b ++ c ++ d ++ e ++ f) ≡ spaced a ++ (spaced b ++ (spaced c ++ (spaced d ++ (spaced e ++ spaced f))))
 signals_together a b c d e f =
     let joined = flat_map-append (λ (word : List ℕ). 32 ∷ word) in
     rw (joined (a ++ b ++ c ++ d ++ e) f, joined (a ++ b ++ c ++ d) e, joined (a ++ b ++ c) d, joined (a ++ b) c, joined a b) (simp append_assoc)

@@ -1,5 +1,8 @@
 pub mod Faults
 pub mod HeaderText
+pub mod Lengths
+pub mod LineBegun
+pub mod RowForm
 pub mod RowLayout
 pub mod RowStart
 pub mod RowText

@@ -1,15 +1,20 @@
 -- What a reader of traces stands for: the bytes that it was fed (this project's own).
-use Rattle.std.specs.Prelude.{◌≡◌, ℕ, ◌*◌, ◌≤◌, List, [], ◌∷◌, ◌++◌, length, map, slice_get, if◌then◌else◌, Option, Some, None, Result, Ok, Err}
+use Rattle.std.specs.Prelude.{◌≡◌, ℕ, ◌*◌, ◌<◌, ◌≤◌, Bool, true, false, is_some, List, [], ◌∷◌, ◌++◌, length, map, slice_get, if◌then◌else◌, Option, Some, None, Result, Ok, Err}
 use Rattle.std.specs.Option.{option_map}
-use Rattle.tydi_base.specs.Pieces.{Lacks}
+use Rattle.tydi_base.specs.Pieces.{Lacks, lines_of}
 use Rattle.physical_stream.specs.Cycles.{Cycle}
+use Rattle.physical_stream.specs.declared.head.Head.{Head}
 use Rattle.physical_stream.specs.declared.transfer.Transfer.{Transfer}
 use Rattle.cycle_trace.specs.Beginnings.{Fails, GoesOn, IsFault, Opens, OpensWith}
-use Rattle.cycle_trace.specs.HeaderText.{header_start_of, header_start_after}
+use Rattle.cycle_trace.specs.Faults.{fault_in}
+use Rattle.cycle_trace.specs.HeaderText.{HeaderStart, header_start_of, header_start_after}
+use Rattle.cycle_trace.specs.LineBegun.{Begins}
+use Rattle.cycle_trace.specs.RowLayout.{row_room}
 use Rattle.cycle_trace.specs.Surveying.{IsNextRow}
 use Rattle.cycle_trace.specs.TextSet.{HasTexts}
 use Rattle.cycle_trace.specs.Trace.{TraceText, most_cycles, params_of_heads}
 use Rattle.cycle_trace.specs.declared.fault.TraceFault.{TraceFault}
+use Rattle.cycle_trace.specs.declared.line_begun.LineBegun.{LineBegun}
 use Rattle.cycle_trace.specs.declared.fault.TraceFault.TheVariants.{Memory}
 use Rattle.cycle_trace.specs.declared.row_fields.RowBits.{RowBits}
 use Rattle.cycle_trace.specs.declared.rows_read.RowsRead.{RowsRead}
@@ -18,6 +23,10 @@ use Rattle.cycle_trace.specs.declared.text_read.Stage.{Stage}
 use Rattle.cycle_trace.specs.declared.text_read.Stage.TheVariants as stages
 use Rattle.cycle_trace.specs.declared.text_read.TextRead.{TextRead}
 use Rattle.cycle_trace.specs.declared.trace_reader.TraceReader.{TraceReader}
+
+-- no row of these streams has more bytes
+abbrev pub HasRoomFor : List Head → ℕ → Type 0
+HasRoomFor heads room = (stream : ℕ) (head : Head) → slice_get heads stream ≡ Some head → row_room head.params ≤ room
 
 -- rows are read after this header and these rows
 pub record ReadsRows (rows : RowsRead) (t : TraceText) : Type 0 where
@@ -29,6 +38,7 @@ pub record ReadsRows (rows : RowsRead) (t : TraceText) : Type 0 where
   pub within : length t.rows ≤ t.cycles * length t.heads
   pub turn : ℕ
   pub next : IsNextRow t turn rows.stream
+  pub room : HasRoomFor t.heads rows.room
 
 -- the transfer that is kept of this stream
 abbrev pub kept_of : List StreamRows → ℕ → Option Transfer
@@ -54,9 +64,23 @@ StandsAt stands sink text (stages.Failed fault) line bytes = Fails bytes fault
 abbrev pub Stands : {K : Type 0} → (K → Option TraceText → Type 0) → K → TextRead → (line bytes : List ℕ) → Type 0
 Stands stands sink text line bytes = StandsAt stands sink text text.stage line bytes
 
+-- the header is being read
+abbrev pub IsInHeader : Stage → Type 0
+IsInHeader stages.Title = Unit {0}
+IsInHeader stages.Cycles = Unit {0}
+IsInHeader stages.Heads = Unit {0}
+IsInHeader stages.Rows = ⊥
+IsInHeader (stages.Failed fault) = ⊥
+
+-- the line that is begun is this, where it is looked at
+abbrev pub HoldsLine : Stage → (room : ℕ) → LineBegun → List ℕ → Type 0
+HoldsLine stages.Rows room begun line = Begins begun line × (begun.room ≡ room)
+HoldsLine (stages.Failed fault) room begun line = Unit {0}
+HoldsLine stage room begun line = Begins begun line × (begun.long ≡ None)
+
 -- a reader stands for the bytes that it was fed
 abbrev pub StandsFor : {K : Type 0} → (K → Option TraceText → Type 0) → TraceReader K → List ℕ → Type 0
-StandsFor stands reader bytes = Stands stands reader.sink reader.text reader.line.items bytes
+StandsFor stands reader bytes = (line : List ℕ) × (HoldsLine reader.text.stage reader.text.rows.room reader.line line × Stands stands reader.sink reader.text line bytes)
 
 -- memory ran out
 abbrev pub IsSpent : {K : Type 0} → TraceReader K → Type 0
@@ -65,6 +89,29 @@ IsSpent reader = reader.text.stage ≡ stages.Failed Memory
 -- a text that has failed stays so
 abbrev pub StaysFailed : (old new : Stage) → Type 0
 StaysFailed old new = (fault : TraceFault) → old ≡ stages.Failed fault → new ≡ stages.Failed fault
+
+-- the header is read, and memory did not run out
+abbrev pub is_past_header : Stage → Bool
+is_past_header stages.Rows = true
+is_past_header (stages.Failed fault) = is_some (fault_in fault)
+is_past_header stage = false
+
+-- that stays so, where the sink is fixed
+abbrev pub StaysCalm : Bool → (old new : Stage) → Type 0
+StaysCalm fixed old new = fixed ≡ true → is_past_header old ≡ true → is_past_header new ≡ true
+
+-- a text holds a header of the form and after it a whole line, which is no stream line
+pub record HoldsHeader (bytes : List ℕ) : Type 0 where
+  pub start : HeaderStart
+  pub read : header_start_of (lines_of bytes) ≡ Ok start
+  pub line : 1 < length start.lines
+
+-- a text ends with a header that asks for no rows
+pub record EndsInHeader (bytes : List ℕ) : Type 0 where
+  pub start : HeaderStart
+  pub read : header_start_of (lines_of bytes) ≡ Ok start
+  pub ends : start.lines ≡ [] ∷ []
+  pub no_rows : start.cycles * length start.heads ≡ 0
 
 -- after a line: what is known where the next one begins, or the fault of every text that begins so
 abbrev pub AfterLine : {K : Type 0} → (K → Option TraceText → Type 0) → K → TextRead → List ℕ → Result (Unit {0}) TraceFault → Type 0

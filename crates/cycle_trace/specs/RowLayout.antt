@@ -1,7 +1,8 @@
 -- What reading a row knows of its stream (this project's own).
-use Rattle.std.specs.Prelude.{◌≡◌, ℕ, ◌-◌, ◌*◌, ◌^◌, ◌≤◌, Bool, ◌||◌, is_some}
+use Rattle.std.specs.Prelude.{◌≡◌, ℕ, ◌-◌, ◌+◌, ◌*◌, ◌/◌, ◌^◌, ◌≤◌, Bool, ◌||◌, is_some}
+use Rattle.tydi_base.specs.Width.{index_width}
 use Rattle.physical_stream.specs.Params.{Parameters}
-use Rattle.physical_stream.specs.Signals.{has_content, has_last, has_stai, has_endi, has_strb, has_user, index_width}
+use Rattle.physical_stream.specs.Signals.{has_content, has_last, has_stai, has_endi, has_strb, has_user}
 use Rattle.signal_layout.specs.declared.layout.Signals.{Signals}
 use Rattle.cycle_trace.specs.RowText.{has_payload}
 use Rattle.cycle_trace.specs.declared.row_layout.WordSignal.{WordSignal}
@@ -29,3 +30,8 @@ pub record LaysOut (p : Parameters) (content last strb user : WordSignal) (stai 
   pub lane : last_lane ≡ p.lanes - 1
   pub ones : all_lanes ≡ 2 ^ p.lanes - 1
   pub narrow : p.lanes ≤ 128
+
+-- no row of this stream has more bytes: its bits and a dash, or six signals, each with a space, a key and `=` before it; the
+-- numbers of lanes have three digits at most
+abbrev pub row_room : Parameters → ℕ
+row_room p = 29 + (p.lanes * p.element + 3) / 4 + (p.lanes * p.dims + 3) / 4 + (p.lanes + 3) / 4 + (p.user + 3) / 4

@@ -10,8 +10,9 @@ use Rattle.tydi_base.specs.Decimal.{decimal_of, is_decimal}
 use Rattle.tydi_base.specs.Pieces.{words_of}
 use Rattle.tydi_base.specs.Bits.{zero_bits, number_of_bits}
 use Rattle.tydi_base.specs.Hex.{word_at, digit_of}
+use Rattle.tydi_base.specs.Width.{index_width}
 use Rattle.physical_stream.specs.Params.{Parameters}
-use Rattle.physical_stream.specs.Signals.{has_content, has_last, has_stai, has_endi, has_strb, has_user, index_width}
+use Rattle.physical_stream.specs.Signals.{has_content, has_last, has_stai, has_endi, has_strb, has_user}
 use Rattle.physical_stream.specs.Cycles.{Cycle}
 use Rattle.physical_stream.specs.declared.transfer.Transfer.{Transfer}
 use Rattle.cycle_trace.specs.declared.fault.TraceFault.{TraceFault}

@@ -1,7 +1,7 @@
 -- What a survey says of the streams of a trace (this project's own).
 use Rattle.std.specs.Prelude.{◌≡◌, ℕ, suc, List, [], ◌∷◌, map, Option, Some, None, Result, Ok, Err}
 use Rattle.physical_stream.specs.Cycles.{StreamTrace}
-use Rattle.physical_stream.specs.First.{Offence, Offends, IsFirst}
+use Rattle.physical_stream.specs.First.{Offence, IsFirst}
 use Rattle.physical_stream.specs.Ending.{ending_of}
 use Rattle.physical_stream.specs.Counts.{transfers_of, packets_of}
 use Rattle.physical_stream.specs.declared.end.End.{End}
@@ -14,31 +14,35 @@ use Rattle.cycle_trace.specs.declared.counts.SurveyFault.TheVariants as faults
 abbrev pub counts_of : List StreamTrace → Counts
 counts_of streams = record { streams = map (λ s. (transfers_of s.cycles, packets_of s.params s.cycles)) streams }
 
--- a stream that ends so, or what is found else
-abbrev pub or_unfinished : ℕ → End → Result Counts SurveyFault → Result Counts SurveyFault
-or_unfinished stream ends.Whole else_found = else_found
-or_unfinished stream ends.Pending else_found = Err (faults.Unfinished stream ends.Pending)
-or_unfinished stream (ends.Unclosed k) else_found = Err (faults.Unfinished stream (ends.Unclosed k))
+-- a stream that does not end whole, by its number, and how it ends
+pub record UnfinishedStream : Type 0 where
+  pub stream : ℕ
+  pub end : End
 
--- the first of these streams, the first of which has this number, that does not end whole, or what is found else
-abbrev pub first_unfinished : ℕ → List StreamTrace → Result Counts SurveyFault → Result Counts SurveyFault
-first_unfinished stream [] else_found = else_found
-first_unfinished stream (s ∷ streams) else_found = or_unfinished stream (ending_of s.params s.cycles) (first_unfinished (suc stream) streams else_found)
+-- a stream that ends so, where that is not whole; else the later one
+abbrev pub or_unfinished : ℕ → End → Option UnfinishedStream → Option UnfinishedStream
+or_unfinished stream ends.Whole later = later
+or_unfinished stream ends.Pending later = Some (record { stream = stream; end = ends.Pending })
+or_unfinished stream (ends.Unclosed k) later = Some (record { stream = stream; end = ends.Unclosed k })
+
+-- the first of these streams, the first of which has this number, that does not end whole
+abbrev pub first_unfinished : ℕ → List StreamTrace → Option UnfinishedStream
+first_unfinished stream [] = None
+first_unfinished stream (s ∷ streams) = or_unfinished stream (ending_of s.params s.cycles) (first_unfinished (suc stream) streams)
 
 -- the first offence; else the first stream that does not end whole; else the counts
-abbrev pub survey_of : List StreamTrace → Option Offence → Result Counts SurveyFault
-survey_of streams (Some o) = Err (faults.Offence o.cycle o.stream o.rule)
-survey_of streams None = first_unfinished 0 streams (Ok (counts_of streams))
+abbrev pub survey_of : Option Offence → Option UnfinishedStream → Counts → Result Counts SurveyFault
+survey_of (Some o) unfinished counts = Err (faults.Offence o.cycle o.stream o.rule)
+survey_of None (Some u) counts = Err (faults.Unfinished u.stream u.end)
+survey_of None None counts = Ok counts
 
--- what a survey of these streams by rules 1 to 10 finds
-pub record Surveys (streams : List StreamTrace) (found : Result Counts SurveyFault) : Type 0 where
+-- what a survey of these streams finds. What offends is handed in, since the rule on tags needs types.
+pub record Surveys (Offends : Offence → Type 0) (streams : List StreamTrace) (found : Result Counts SurveyFault) : Type 0 where
   pub first : Option Offence
-  pub is_first : IsFirst (Offends streams) first
-  pub says : found ≡ survey_of streams first
+  pub is_first : IsFirst Offends first
+  pub says : found ≡ survey_of first (first_unfinished 0 streams) (counts_of streams)
 
 -- what a survey answers: what it finds, want of memory aside
-abbrev pub Answers : List StreamTrace → Result Counts SurveyFault → Type 0
-Answers streams (Ok counts) = Surveys streams (Ok counts)
-Answers streams (Err (faults.Offence cycle stream rule)) = Surveys streams (Err (faults.Offence cycle stream rule))
-Answers streams (Err (faults.Unfinished stream end)) = Surveys streams (Err (faults.Unfinished stream end))
-Answers streams (Err faults.Memory) = Unit {0}
+abbrev pub Answers : (Offence → Type 0) → List StreamTrace → Result Counts SurveyFault → Type 0
+Answers Offends streams (Err faults.Memory) = Unit {0}
+Answers Offends streams found = Surveys Offends streams found

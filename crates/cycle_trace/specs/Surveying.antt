@@ -6,10 +6,15 @@ use Rattle.physical_stream.specs.declared.head.Header.{Header}
 use Rattle.complexity_rules.specs.Checking.{StandsFor, params_in}
 use Rattle.complexity_rules.specs.declared.checker.Checker.{Checker}
 use Rattle.cycle_trace.specs.Trace.{TraceText, cycles_of_stream, most_cycles, streams_of}
+use Rattle.cycle_trace.specs.Survey.{UnfinishedStream}
 use Rattle.cycle_trace.specs.declared.survey_outcome.FoundOffence.{FoundOffence}
+use Rattle.cycle_trace.specs.declared.survey_outcome.FoundUnfinished.{FoundUnfinished}
 
 abbrev pub offence_of : FoundOffence → Offence
 offence_of found = record { cycle = found.cycle; stream = found.stream; rule = found.rule }
+
+abbrev pub unfinished_of : FoundUnfinished → UnfinishedStream
+unfinished_of found = record { stream = found.stream; end = found.end }
 
 -- a checker of this stream stands for the cycles of it so far
 pub record IsChecked (t : TraceText) (stream : ℕ) (checker : Checker) (head : Head) : Type 0 where
@@ -26,10 +31,14 @@ pub record HaveCheckers (heads : List Head) (n : ℕ) (checkers : List Checker) 
   pub many : length checkers ≡ n
   pub each : (stream : ℕ) (checker : Checker) (head : Head) → slice_get checkers stream ≡ Some checker → slice_get heads stream ≡ Some head → (params_in checker ≡ head.params) × StandsFor checker []
 
--- what the rows so far say: none of them breaks a rule, and the checkers stand for them; or this is the first offence
-abbrev pub RowsSay : TraceText → List Checker → Option FoundOffence → Type 0
-RowsSay t checkers None = AreChecked t checkers × IsFirst (Offends (streams_of t)) None
-RowsSay t checkers (Some found) = IsFirst (Offends (streams_of t)) (Some (offence_of found))
+-- the offences of a trace by rules 1 to 10
+abbrev pub offends_in : TraceText → Offence → Type 0
+offends_in t = Offends (streams_of t)
+
+-- what the rows so far say, by what offends: nothing does, and the checkers stand for the rows; or this is the first offence
+abbrev pub RowsSay : (Offence → Type 0) → TraceText → List Checker → Option FoundOffence → Type 0
+RowsSay Offends t checkers None = AreChecked t checkers × IsFirst Offends None
+RowsSay Offends t checkers (Some found) = IsFirst Offends (Some (offence_of found))
 
 -- the next row is that of this stream in this cycle
 pub record IsNextRow (t : TraceText) (cycle stream : ℕ) : Type 0 where
@@ -42,4 +51,4 @@ pub record SurveysRows (t : TraceText) (header : Header) (checkers : List Checke
   pub heads : header.heads ≡ t.heads
   pub few : t.cycles ≤ most_cycles
   pub next : IsNextRow t cycle stream
-  pub says : RowsSay t checkers found
+  pub says : RowsSay (offends_in t) t checkers found

@@ -52,3 +52,11 @@ impl From<Memory> for Misspelling {
 /// That words are not of their form.
 #[derive(Clone, Copy, Debug, PartialEq, Eq)]
 pub(crate) struct NotForm;
+
+impl From<NotForm> for Misspelling {
+    ghost from_gives = { λ _ e. e ≡ misspellings.NotForm };
+
+    fn from(_error: NotForm) -> Misspelling {
+        Misspelling::NotForm
+    }
+}

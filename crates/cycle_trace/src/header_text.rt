@@ -4,11 +4,11 @@ ghost use Rattle.std.specs.Prelude.{◌≡◌, ◌+◌, ◌<◌, ◌≤◌, ◌^
 ghost use Rattle.tydi_base.specs.Reading.{Gives};
 ghost use Rattle.tydi_base.specs.Pieces.{words_of};
 ghost use Rattle.tydi_base.specs.Path.{path_text};
-ghost use Rattle.cycle_trace.specs.Faults.{fault_in, misspelling_in, header_fault};
+ghost use Rattle.cycle_trace.specs.Faults.{fault_in, misspelling_in, not_form_in, header_fault};
 ghost use Rattle.cycle_trace.specs.HeaderText as spec;
 ghost use Rattle.cycle_trace.specs.TextSet.{has_text, AddsText, HasTexts};
 
-use crate::fault::{Misspelling, TraceFault};
+use crate::fault::{Misspelling, NotForm, TraceFault};
 use physical_stream::{Head, Params};
 use std::alloc::Global;
 use std::collections::BTreeSet;
@@ -19,23 +19,13 @@ const MOST_STREAMS: usize = 65536;
 
 /// That the first line is right.
 #[tactic(auto, unfolding(crate::specs::HeaderText::title_of))]
-pub(crate) fn read_title(line: &[u8]) -> Result<(), TraceFault>
-    ensures { Gives fault_in (λ fine. fine) result (spec.in_header 1 (spec.title_of line.now)) }
+pub(crate) fn read_title(line: &[u8]) -> Result<(), NotForm>
+    ensures { Gives not_form_in (λ fine. fine) result (spec.title_of line.now) }
 {
     if line == b"tydi-trace 1".as_slice() {
         Ok(())
     } else {
-        Err(TraceFault::BadHeader(1))
-    }
-}
-
-/// The number of cycles that the second line spells.
-pub(crate) fn read_cycles(line: &[u8]) -> Result<u64, TraceFault>
-    ensures { Gives fault_in (λ n. n) result (spec.in_header 2 (spec.count_of_cycles line.now)) }
-{
-    match count_of_cycles(line) {
-        Ok(cycles) => Ok(cycles),
-        Err(e) => Err(header_fault(2, e)),
+        Err(NotForm)
     }
 }
 
@@ -109,14 +99,14 @@ fn path_text(alloc: Global, path: &Path) -> Result<Vec<u8>, Memory>
 
 /// The number that at most ten digits spell.
 #[tactic(auto, unfolding(crate::specs::HeaderText::header_number))]
-fn header_number(digits: &[u8]) -> Result<u64, Misspelling>
-    ensures exact { Gives misspelling_in (λ n. n) result (spec.header_number digits.now) }
+fn header_number(digits: &[u8]) -> Result<u64, NotForm>
+    ensures exact { Gives not_form_in (λ n. n) result (spec.header_number digits.now) }
     ensures below { IfOk result (λ n. n < 10 ^ 10) }
 {
     if digits.len() > 10 {
-        return Err(Misspelling::NotForm);
+        return Err(NotForm);
     }
-    read_decimal(digits).ok_or(Misspelling::NotForm)
+    read_decimal(digits).ok_or(NotForm)
 }
 
 /// The parameters that five words spell.
@@ -127,15 +117,15 @@ fn params_of(
     level: &[u8],
     element: &[u8],
     user: &[u8],
-) -> Result<Params, Misspelling>
-    ensures { Gives misspelling_in (λ p. p) result (spec.params_of lanes.now dims.now level.now element.now user.now) }
+) -> Result<Params, NotForm>
+    ensures { Gives not_form_in (λ p. p) result (spec.params_of lanes.now dims.now level.now element.now user.now) }
 {
     let lanes = header_number(lanes)?;
     let dims = header_number(dims)?;
     let level = header_number(level)?;
     let element = header_number(element)?;
     let user = header_number(user)?;
-    made_of(lanes, dims, level, element, user).ok_or(Misspelling::NotForm)
+    made_of(lanes, dims, level, element, user).ok_or(NotForm)
 }
 
 /// The parameters of these numbers. None exactly where one of them is out of its range.
@@ -152,15 +142,15 @@ fn made_of(lanes: u64, dims: u64, level: u64, element: u64, user: u64) -> Option
 
 /// Whether a stream is reversed.
 #[tactic(auto, unfolding(crate::specs::HeaderText::direction_of))]
-fn direction_of(word: &[u8]) -> Result<bool, Misspelling>
-    ensures { Gives misspelling_in (λ reversed. reversed) result (spec.direction_of word.now) }
+fn direction_of(word: &[u8]) -> Result<bool, NotForm>
+    ensures { Gives not_form_in (λ reversed. reversed) result (spec.direction_of word.now) }
 {
     if word == b"forward".as_slice() {
         Ok(false)
     } else if word == b"reverse".as_slice() {
         Ok(true)
     } else {
-        Err(Misspelling::NotForm)
+        Err(NotForm)
     }
 }
 
@@ -235,11 +225,11 @@ pub(crate) fn is_head_line(line: &[u8]) -> bool
 
 /// The number of cycles that the second line spells.
 #[tactic(auto, unfolding(crate::specs::HeaderText::count_of_cycles))]
-fn count_of_cycles(line: &[u8]) -> Result<u64, Misspelling>
-    ensures { Gives misspelling_in (λ n. n) result (spec.count_of_cycles line.now) }
+pub(crate) fn read_cycles(line: &[u8]) -> Result<u64, NotForm>
+    ensures { Gives not_form_in (λ n. n) result (spec.count_of_cycles line.now) }
 {
     if !line.starts_with(b"cycles ") {
-        return Err(Misspelling::NotForm);
+        return Err(NotForm);
     }
     header_number(&line[7..])
 }

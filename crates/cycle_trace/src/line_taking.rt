@@ -1,20 +1,25 @@
 //! One line more of a trace text.
 
-ghost use Rattle.std.specs.Prelude.{◌≡◌, ◌++◌, ◌∷◌, [], ◌<◌, ◌≤◌, length, ℕ, List, true, false, OnOk, Some, None, Err};
+ghost use Rattle.std.specs.Prelude.{◌≡◌, ◌↔◌, ◌⊎◌, ◌++◌, ◌∷◌, [], ◌<◌, ◌≤◌, length, ℕ, List, true, false, IfErr, IsSome, IsTrue, OnOk, Some, None, Err};
 ghost use Rattle.tydi_base.specs.Pieces.{Lacks};
 ghost use Rattle.tydi_base.specs.Reading.{Gives};
-ghost use Rattle.cycle_trace.specs.Beginnings.{GoesOnLine, OpensWith, begun, rows_on};
+ghost use Rattle.cycle_trace.specs.Beginnings.{Fails, GoesOnLine, OpensWith, begun, rows_on};
 ghost use Rattle.cycle_trace.specs.Faults.{fault_in};
 ghost use Rattle.cycle_trace.specs.HeaderText.{is_head_line};
-ghost use Rattle.cycle_trace.specs.ReaderView.{AfterLine, AfterRow, Finishes, ReadsRows, Stands, StaysFailed};
+ghost use Rattle.cycle_trace.specs.LineBegun.{IsLong};
+ghost use Rattle.cycle_trace.specs.ReaderView.{AfterLine, AfterRow, EndsInHeader, Finishes, HoldsLine, ReadsRows, Stands, StaysCalm, StaysFailed, is_past_header};
+ghost use Rattle.cycle_trace.specs.RowForm.{IsForm};
 ghost use Rattle.cycle_trace.specs.RowsText.{cut_row};
 ghost use Rattle.cycle_trace.specs.Trace.{TraceText, are_heads, most_cycles};
 ghost use Rattle.cycle_trace.specs.TraceText.{trace_of};
 ghost use Rattle.cycle_trace.specs.declared.fault.TraceFault.{TraceFault};
+ghost use Rattle.cycle_trace.specs.declared.fault.TraceFault.TheVariants as faults;
 ghost use Rattle.cycle_trace.specs.declared.text_read.Stage.TheVariants as stages;
 
 use crate::fault::TraceFault;
 use crate::header_text::{is_head_line, next_head, read_cycles, read_title};
+use crate::line_begun::LineBegun;
+use crate::row_form::RowForm;
 use crate::row_sink::RowSink;
 use crate::rows_read::RowsRead;
 use crate::text_read::{Stage, TextRead};
@@ -31,6 +36,9 @@ pub(crate) fn take_line<K: RowSink>(alloc: Global, sink: &mut K, text: &mut Text
     requires { (bytes : List ℕ) × Stands K.stands_for sink.old text.old line.now bytes }
     ensures stands { (bytes : List ℕ) → Stands K.stands_for sink.old text.old line.now bytes → Stands K.stands_for sink.new text.new [] (bytes ++ 10 ∷ []) }
     ensures failed { StaysFailed text.old.stage text.new.stage }
+    ensures room { text.old.stage ≡ stages.Rows → text.new.rows.room ≡ text.old.rows.room }
+    ensures fixed { K.fixed sink.new ≡ K.fixed sink.old }
+    ensures calm { StaysCalm (K.fixed sink.old) text.old.stage text.new.stage }
 {
     if let Err(fault) = after_line(alloc, sink, text, line) {
         text.stage = Stage::Failed(fault);
@@ -47,18 +55,26 @@ fn after_line<K: RowSink>(
     requires { (bytes : List ℕ) × Stands K.stands_for sink.old text.old line.now bytes }
     ensures stands { (bytes : List ℕ) → Stands K.stands_for sink.old text.old line.now bytes → AfterLine K.stands_for sink.new text.new bytes result }
     ensures failed { (fault : TraceFault) → text.old.stage ≡ stages.Failed fault → result ≡ Err fault }
+    ensures room { text.old.stage ≡ stages.Rows → text.new.rows.room ≡ text.old.rows.room }
+    ensures fixed { K.fixed sink.new ≡ K.fixed sink.old }
+    ensures calm { K.fixed sink.old ≡ true → is_past_header text.old.stage ≡ true → (is_past_header text.new.stage ≡ true) × IfErr result (λ e. IsSome (fault_in e)) }
 {
     match text.stage {
-        Stage::Title => {
-            read_title(line)?;
-            text.stage = Stage::Cycles;
-            Ok(())
-        }
-        Stage::Cycles => {
-            text.cycles = read_cycles(line)?;
-            text.stage = Stage::Heads;
-            Ok(())
-        }
+        Stage::Title => match read_title(line) {
+            Ok(()) => {
+                text.stage = Stage::Cycles;
+                Ok(())
+            }
+            Err(_) => Err(TraceFault::BadHeader(1)),
+        },
+        Stage::Cycles => match read_cycles(line) {
+            Ok(cycles) => {
+                text.cycles = cycles;
+                text.stage = Stage::Heads;
+                Ok(())
+            }
+            Err(_) => Err(TraceFault::BadHeader(2)),
+        },
         Stage::Heads => after_head(alloc, sink, text, line),
         Stage::Rows => after_row(alloc, sink, &mut text.rows, line),
         Stage::Failed(fault) => Err(fault),
@@ -74,7 +90,8 @@ fn after_head<K: RowSink>(
 ) -> Result<(), TraceFault>
     requires heads { text.old.stage ≡ stages.Heads }
     requires stands { (bytes : List ℕ) × Stands K.stands_for sink.old text.old line.now bytes }
-    ensures { (bytes : List ℕ) → Stands K.stands_for sink.old text.old line.now bytes → AfterLine K.stands_for sink.new text.new bytes result }
+    ensures stands { (bytes : List ℕ) → Stands K.stands_for sink.old text.old line.now bytes → AfterLine K.stands_for sink.new text.new bytes result }
+    ensures fixed { K.fixed sink.new ≡ K.fixed sink.old }
 {
     if is_head_line(line) {
         let head = next_head(alloc, &mut text.paths, text.heads.len(), line)?;
@@ -93,7 +110,8 @@ fn start_rows<K: RowSink>(alloc: Global, sink: &mut K, text: &mut TextRead) -> R
     requires fresh { K.stands_for sink.old None }
     requires few { text.old.cycles ≤ most_cycles }
     requires streams { are_heads text.old.heads ≡ true }
-    ensures { OnOk result ((text.new.stage ≡ stages.Rows) × ReadsRows text.new.rows (begun text.old.cycles text.old.heads) × K.stands_for sink.new (Some (begun text.old.cycles text.old.heads))) }
+    ensures ok { OnOk result ((text.new.stage ≡ stages.Rows) × ReadsRows text.new.rows (begun text.old.cycles text.old.heads) × K.stands_for sink.new (Some (begun text.old.cycles text.old.heads))) }
+    ensures fixed { K.fixed sink.new ≡ K.fixed sink.old }
 {
     let header = Header {
         cycles: text.cycles as u32,
@@ -113,7 +131,10 @@ fn after_row<K: RowSink>(
     line: &[u8],
 ) -> Result<(), TraceFault>
     requires { (t : TraceText) × (K.stands_for sink.old (Some t) × ReadsRows rows.old t) }
-    ensures { (t : TraceText) (bytes : List ℕ) → K.stands_for sink.old (Some t) → ReadsRows rows.old t → GoesOnLine bytes line.now t → AfterRow K.stands_for sink.new rows.new bytes result }
+    ensures stands { (t : TraceText) (bytes : List ℕ) → K.stands_for sink.old (Some t) → ReadsRows rows.old t → GoesOnLine bytes line.now t → AfterRow K.stands_for sink.new rows.new bytes result }
+    ensures room { rows.new.room ≡ rows.old.room }
+    ensures fixed { K.fixed sink.new ≡ K.fixed sink.old }
+    ensures calm { K.fixed sink.old ≡ true → IfErr result (λ e. IsSome (fault_in e)) }
 {
     if rows.is_whole() {
         return Err(TraceFault::RowsLeft(rows.line_number()));
@@ -124,22 +145,57 @@ fn after_row<K: RowSink>(
     Ok(())
 }
 
+/// Takes the line of a row that came in several pieces, without its LF.
+pub(crate) fn take_begun<K: RowSink>(
+    alloc: Global,
+    sink: &mut K,
+    text: &mut TextRead,
+    begun: &LineBegun,
+)
+    requires rows { text.old.stage ≡ stages.Rows }
+    requires stands { (bytes : List ℕ) × ((line : List ℕ) × (HoldsLine text.old.stage text.old.rows.room begun.now line × Stands K.stands_for sink.old text.old line bytes)) }
+    ensures stands { (bytes line : List ℕ) → HoldsLine text.old.stage text.old.rows.room begun.now line → Stands K.stands_for sink.old text.old line bytes → Stands K.stands_for sink.new text.new [] (bytes ++ 10 ∷ []) }
+    ensures room { text.new.rows.room ≡ text.old.rows.room }
+    ensures fixed { K.fixed sink.new ≡ K.fixed sink.old }
+    ensures calm { StaysCalm (K.fixed sink.old) text.old.stage text.new.stage }
+{
+    match begun.bytes() {
+        Ok(line) => take_line(alloc, sink, text, line),
+        Err(form) => text.stage = Stage::Failed(long_fault(&text.rows, form)),
+    }
+}
+
+/// The fault of a line that is longer than any row and has this form.
+fn long_fault(rows: &RowsRead, form: RowForm) -> TraceFault
+    requires { (t : TraceText) × ReadsRows rows.now t }
+    ensures fails { (t : TraceText) (bytes line : List ℕ) → ReadsRows rows.now t → GoesOnLine bytes line t → IsLong form rows.now.room line → Fails (bytes ++ 10 ∷ []) result }
+    ensures calm { (line : List ℕ) → IsForm form line → IsSome (fault_in result) }
+{
+    let number = rows.line_number();
+    if rows.is_whole() {
+        TraceFault::RowsLeft(number)
+    } else {
+        form.fault(number)
+    }
+}
+
 /// The sink with the whole trace, where the text ends in this line, which has no LF; or the fault of the text.
 pub(crate) fn finish_text<K: RowSink>(
     alloc: Global,
     mut sink: K,
     mut text: TextRead,
-    line: &[u8],
+    line: &LineBegun,
 ) -> Result<K, TraceFault>
-    requires { (bytes : List ℕ) × Stands K.stands_for sink text line.now bytes }
-    ensures finishes { (bytes : List ℕ) → Stands K.stands_for sink text line.now bytes → Finishes K.stands_for (trace_of bytes) result }
+    requires { (bytes : List ℕ) × ((line_of : List ℕ) × (HoldsLine text.stage text.rows.room line.now line_of × Stands K.stands_for sink text line_of bytes)) }
+    ensures finishes { (bytes line_of : List ℕ) → HoldsLine text.stage text.rows.room line.now line_of → Stands K.stands_for sink text line_of bytes → Finishes K.stands_for (trace_of bytes) result }
     ensures failed { (fault : TraceFault) → text.stage ≡ stages.Failed fault → result ≡ Err fault }
+    ensures memory { (bytes line_of : List ℕ) → HoldsLine text.stage text.rows.room line.now line_of → Stands K.stands_for sink text line_of bytes → result ≡ Err faults.Memory → (text.stage ≡ stages.Failed faults.Memory) ⊎ EndsInHeader bytes }
 {
     match text.stage {
         Stage::Title => Err(TraceFault::BadHeader(1)),
         Stage::Cycles => Err(TraceFault::BadHeader(2)),
-        Stage::Heads => finish_header(alloc, sink, text, line),
-        Stage::Rows => finish_rows(sink, &text.rows, line),
+        Stage::Heads => finish_header(alloc, sink, text, line.header_line()),
+        Stage::Rows => finish_rows(sink, &text.rows, line.is_empty()),
         Stage::Failed(fault) => Err(fault),
     }
 }
@@ -154,7 +210,8 @@ fn finish_header<K: RowSink>(
     requires fresh { K.stands_for sink None }
     requires opens { (bytes : List ℕ) × OpensWith bytes line.now text.cycles text.heads text.paths }
     requires plain { Lacks 10 line.now }
-    ensures { (bytes : List ℕ) → OpensWith bytes line.now text.cycles text.heads text.paths → Finishes K.stands_for (trace_of bytes) result }
+    ensures finishes { (bytes : List ℕ) → OpensWith bytes line.now text.cycles text.heads text.paths → Finishes K.stands_for (trace_of bytes) result }
+    ensures memory { (bytes : List ℕ) → OpensWith bytes line.now text.cycles text.heads text.paths → result ≡ Err faults.Memory → EndsInHeader bytes }
 {
     end_of_header(&text, line)?;
     start_rows(alloc, &mut sink, &mut text)?;
@@ -169,6 +226,8 @@ fn end_of_header(text: &TextRead, line: &[u8]) -> Result<(), TraceFault>
     ensures gives { (bytes : List ℕ) → OpensWith bytes line.now text.now.cycles text.now.heads text.now.paths → Gives fault_in (λ _. begun text.now.cycles text.now.heads) result (trace_of bytes) }
     ensures few { OnOk result (text.now.cycles ≤ most_cycles) }
     ensures other { OnOk result (is_head_line line.now ≡ false) }
+    ensures ends { OnOk result ((bytes : List ℕ) → OpensWith bytes line.now text.now.cycles text.now.heads text.now.paths → EndsInHeader bytes) }
+    ensures calm { IfErr result (λ e. IsSome (fault_in e)) }
 {
     let number = 3 + text.heads.len() as u64;
     if is_head_line(line) {
@@ -179,7 +238,7 @@ fn end_of_header(text: &TextRead, line: &[u8]) -> Result<(), TraceFault>
     }
     let want = text.cycles * text.heads.len() as u64;
     if want > 0 {
-        return Err(cut_row(line, want, 0, number));
+        return Err(cut_row(line.is_empty(), want, 0, number));
     }
     if line.is_empty() {
         Ok(())
@@ -189,14 +248,15 @@ fn end_of_header(text: &TextRead, line: &[u8]) -> Result<(), TraceFault>
 }
 
 /// The sink, where all rows are read and nothing is left; or the fault of the text.
-fn finish_rows<K: RowSink>(sink: K, rows: &RowsRead, line: &[u8]) -> Result<K, TraceFault>
+fn finish_rows<K: RowSink>(sink: K, rows: &RowsRead, is_empty: bool) -> Result<K, TraceFault>
     requires { (t : TraceText) × ReadsRows rows.now t }
-    ensures { (t : TraceText) (bytes : List ℕ) → K.stands_for sink (Some t) → ReadsRows rows.now t → trace_of bytes ≡ rows_on t (line.now ∷ []) → Finishes K.stands_for (trace_of bytes) result }
+    ensures finishes { (t : TraceText) (bytes line : List ℕ) → K.stands_for sink (Some t) → ReadsRows rows.now t → IsTrue is_empty ↔ (line ≡ []) → trace_of bytes ≡ rows_on t (line ∷ []) → Finishes K.stands_for (trace_of bytes) result }
+    ensures calm { IfErr result (λ e. IsSome (fault_in e)) }
 {
     if !rows.is_whole() {
-        return Err(cut_row(line, rows.want, rows.got, rows.line_number()));
+        return Err(cut_row(is_empty, rows.want, rows.got, rows.line_number()));
     }
-    if line.is_empty() {
+    if is_empty {
         Ok(sink)
     } else {
         Err(TraceFault::RowsLeft(rows.line_number()))
@@ -204,10 +264,11 @@ fn finish_rows<K: RowSink>(sink: K, rows: &RowsRead, line: &[u8]) -> Result<K, T
 }
 
 /// The fault where no LF is left: the text ends before the row of this number of line, or in it.
-fn cut_row(rest: &[u8], want: u64, got: u64, number: u64) -> TraceFault
-    ensures { result ≡ cut_row rest.now want got number }
+fn cut_row(is_empty: bool, want: u64, got: u64, number: u64) -> TraceFault
+    ensures fault { (line : List ℕ) → IsTrue is_empty ↔ (line ≡ []) → result ≡ cut_row line want got number }
+    ensures calm { IsSome (fault_in result) }
 {
-    if rest.is_empty() {
+    if is_empty {
         TraceFault::RowsMissing { want, got }
     } else {
         TraceFault::BadRow(number)

@@ -2,6 +2,7 @@
 
 ghost use Rattle.std.specs.Prelude.{◌≡◌, Some, None, OnOk};
 ghost use Rattle.cycle_trace.specs.Survey.{Answers};
+ghost use Rattle.cycle_trace.specs.Surveying.{offends_in};
 ghost use Rattle.cycle_trace.specs.Trace.{streams_of};
 ghost use Rattle.cycle_trace.specs.TraceView.{trace_view};
 
@@ -34,7 +35,7 @@ impl Trace {
 /// What each stream of a trace has done by rules 1 to 10, where the trace has no offence and each stream ends whole; else the
 /// first offence, or the first stream that does not end whole.
 pub fn survey(alloc: Global, trace: &Trace) -> Result<Counts, SurveyFault>
-    ensures { Answers (streams_of (trace_view trace.now)) result }
+    ensures { Answers (offends_in (trace_view trace.now)) (streams_of (trace_view trace.now)) result }
 {
     let mut surveyor = Surveyor::new();
     trace.replay(alloc, &mut surveyor)?;

@@ -168,7 +168,7 @@ fn read_transfer(layout: &RowLayout, kept: &mut Transfer, words: WordsLeft) -> R
 }
 
 /// Whether the payload is the word `-` alone.
-pub(crate) fn is_dash(words: WordsLeft) -> bool
+fn is_dash(words: WordsLeft) -> bool
     ensures { result ≡ spec.is_dash (words_left words.entry) }
 {
     match words.next_word() {

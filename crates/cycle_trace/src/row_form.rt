@@ -1,117 +1,220 @@
-//! Whether a line has the form of a row of some stream. It is asked only of a line that its own stream did not read.
+//! Whether a line has the form of a row of some stream, byte by byte. It is asked only of a line that its own stream did not read,
+//! and of one that is longer than any row while it comes. `RowForm::after` is the whole of it: a table with a row for each form.
 
-ghost use Rattle.std.specs.Prelude.{◌≡◌, ◌&&◌, ℕ, List, ◌∷◌, codes, length, nat_le, is_some};
-ghost use Rattle.std.specs.List.{list_all};
-ghost use Rattle.tydi_base.specs.Decimal.{is_decimal};
+ghost use Rattle.std.specs.Prelude.{◌≡◌, ◌<◌, ◌||◌, ◌==◌, ℕ, List, [], ◌∷◌, ◌++◌, is_some, slice_index};
 ghost use Rattle.tydi_base.specs.Hex.{digit_of};
 ghost use Rattle.tydi_base.specs.Pieces.{words_of};
+ghost use Rattle.cycle_trace.specs.RowForm.{Goes, IsForm, fits, is_spelled, row_keys, step};
 ghost use Rattle.cycle_trace.specs.RowText as spec;
-ghost use Rattle.cycle_trace.specs.WordsLeft.{words_left};
+ghost use Rattle.cycle_trace.specs.declared.row_form.RowForm.TheVariants as forms;
+ghost use Rattle.cycle_trace.specs.declared.row_form.ValueKind.TheVariants as kinds;
 
 use crate::fault::TraceFault;
-use crate::row_fields::is_dash;
-use crate::words_left::WordsLeft;
-use tydi_base::read_decimal;
+
+/// What the value of a key is spelled with.
+#[derive(Clone, Copy, Debug, PartialEq, Eq)]
+pub(crate) enum ValueKind {
+    /// Hexadecimal digits.
+    Hex,
+    /// A decimal of at most five digits.
+    Index,
+}
+
+/// How far a line has the form of a row: what may come next. Keys are numbered from 0 in their order, and a form names the first
+/// that may come later.
+#[derive(Clone, Copy, Debug, PartialEq, Eq)]
+pub(crate) enum RowForm {
+    /// The valid bit.
+    Valid,
+    /// The space after it.
+    AfterValid,
+    /// The ready bit.
+    Ready,
+    /// The space after it.
+    AfterReady,
+    /// `-`, or a signal of any key.
+    Payload,
+    /// Nothing: the payload is `-`.
+    Dash,
+    /// A signal of a key from this number on.
+    Signal(u8),
+    /// The `=` of a signal.
+    Sign(u8, ValueKind),
+    /// The first digit of a value.
+    Value(u8, ValueKind),
+    /// A hexadecimal digit more, or the end of the value.
+    Hex(u8),
+    /// The end of the value, which is `0`.
+    Zero(u8),
+    /// A decimal digit, so many of them at most, or the end of the value.
+    Index(u8, u8),
+    /// Nothing: no row of any stream begins so.
+    No,
+}
+
+impl RowForm {
+    /// The form with this byte more.
+    pub(crate) fn after(self, byte: u8) -> RowForm
+        ensures { Goes self byte result }
+    {
+        match self {
+            RowForm::Valid => step(byte, RowForm::No, is_bit(byte), RowForm::AfterValid),
+            RowForm::AfterValid => step(byte, RowForm::Ready, false, RowForm::No),
+            RowForm::Ready => step(byte, RowForm::No, is_bit(byte), RowForm::AfterReady),
+            RowForm::AfterReady => step(byte, RowForm::Payload, false, RowForm::No),
+            RowForm::Payload => after_payload(byte),
+            RowForm::Dash => RowForm::No,
+            RowForm::Signal(next) => after_signal(next, byte),
+            RowForm::Sign(next, kind) => {
+                step(byte, RowForm::No, byte == b'=', RowForm::Value(next, kind))
+            }
+            RowForm::Value(next, ValueKind::Hex) => {
+                step(byte, RowForm::No, is_hex_digit(byte), RowForm::Hex(next))
+            }
+            RowForm::Value(next, ValueKind::Index) => after_index(next, byte),
+            RowForm::Hex(next) => {
+                let end = RowForm::Signal(next);
+                step(byte, end, is_hex_digit(byte), RowForm::Hex(next))
+            }
+            RowForm::Zero(next) => step(byte, RowForm::Signal(next), false, RowForm::No),
+            RowForm::Index(next, left) => after_digit(next, left, byte),
+            RowForm::No => RowForm::No,
+        }
+    }
+
+    /// The form with these bytes more.
+    pub(crate) fn after_all(self, bytes: &[u8]) -> RowForm
+        ensures { (more : List ℕ) → fits result (words_of more) ≡ fits self (words_of (bytes.now ++ more)) }
+    {
+        let mut form = self;
+        'bytes: for byte in bytes {
+            form = form.after(*byte);
+        }
+        form
+    }
+
+    /// Whether a line that ends here has the form of a row.
+    fn is_whole(self) -> bool
+        ensures { result ≡ fits self ([] ∷ []) }
+    {
+        match self {
+            RowForm::Dash | RowForm::Hex(_) | RowForm::Zero(_) | RowForm::Index(_, _) => true,
+            RowForm::Valid | RowForm::AfterValid | RowForm::Ready | RowForm::AfterReady => false,
+            RowForm::Payload | RowForm::Sign(_, _) | RowForm::No => false,
+            RowForm::Signal(_) => false,
+            RowForm::Value(_, ValueKind::Hex) | RowForm::Value(_, ValueKind::Index) => false,
+        }
+    }
+
+    /// Why a line of this number that ends here is no row of its stream.
+    pub(crate) fn fault(self, number: u64) -> TraceFault
+        ensures { (line : List ℕ) → IsForm self line → result ≡ spec.row_fault number line }
+    {
+        if self.is_whole() {
+            TraceFault::WrongSignals(number)
+        } else {
+            TraceFault::BadRow(number)
+        }
+    }
+}
 
 /// Why this line, of this number, is no row of its stream.
 pub(crate) fn row_fault(number: u64, line: &[u8]) -> TraceFault
     ensures { result ≡ spec.row_fault number line.now }
 {
-    if has_form(line) {
-        TraceFault::WrongSignals(number)
+    RowForm::Valid.after_all(line).fault(number)
+}
+
+/// The one form after a space, and the other after a byte of which the test holds.
+fn step(byte: u8, at_space: RowForm, test: bool, otherwise: RowForm) -> RowForm
+    ensures { result ≡ step byte at_space test otherwise }
+{
+    if byte == b' ' {
+        at_space
+    } else if test {
+        otherwise
     } else {
-        TraceFault::BadRow(number)
+        RowForm::No
     }
 }
 
-/// Whether a line has the form of a row.
-fn has_form(line: &[u8]) -> bool
-    ensures { result ≡ spec.has_form (words_of line.now) }
+/// The form after the first byte of the payload.
+fn after_payload(byte: u8) -> RowForm
+    ensures { Goes forms.Payload byte result }
 {
-    let Some((valid, words)) = WordsLeft::of(line).next_word() else {
-        return false;
-    };
-    let Some((ready, payload)) = words.next_word() else {
-        return false;
-    };
-    is_bit(valid) && is_bit(ready) && is_payload(payload)
-}
-
-/// Whether a word is a bit.
-fn is_bit(word: &[u8]) -> bool
-    ensures { result ≡ spec.is_bit word.now }
-{
-    word == b"1".as_slice() || word == b"0".as_slice()
-}
-
-/// Whether words are a payload: `-`, or signals, one at least.
-fn is_payload(words: WordsLeft) -> bool
-    ensures { result ≡ spec.is_payload (words_left words.entry) }
-{
-    is_dash(words) || (!words.is_empty() && are_signals(words))
-}
-
-/// Whether words are signals, in their order, each at most once.
-fn are_signals(words: WordsLeft) -> bool
-    ensures { result ≡ spec.are_signals (codes "dlsebu") (words_left words.entry) }
-{
-    let mut left = words;
-    'keys: for key in b"dlsebu".as_slice() {
-        left = after_signal(*key, left);
+    if byte == b'-' {
+        return RowForm::Dash;
     }
-    left.is_empty()
+    after_signal(0, byte)
 }
 
-/// The words after a signal of this key, or all words where they do not begin with one.
-fn after_signal<'a>(key: u8, words: WordsLeft<'a>) -> WordsLeft<'a>
-    ensures { (keys : List ℕ) → spec.are_signals (key ∷ keys) (words_left words.entry) ≡ spec.are_signals keys (words_left result) }
+/// The form after the first byte of a signal, which is its key.
+fn after_signal(next: u8, byte: u8) -> RowForm
+    ensures { Goes (forms.Signal next) byte result }
 {
-    match words.next_word() {
-        Some((word, rest)) if is_signal(key, word) => rest,
-        _ => words,
+    'keys: for key in next..6 {
+        if key_at(key) == byte {
+            return RowForm::Sign(key + 1, kind_of(byte));
+        }
     }
+    RowForm::No
 }
 
-/// Whether a word is this key, `=` and a value of the key.
-fn is_signal(key: u8, word: &[u8]) -> bool
-    ensures { result ≡ spec.is_signal key word.now }
+/// The key of this number.
+fn key_at(number: u8) -> u8
+    requires { number < 6 }
+    ensures { result ≡ slice_index row_keys number }
 {
-    match word {
-        [k, b'=', value @ ..] => *k == key && is_value(key, value),
-        _ => false,
-    }
+    b"dlsebu"[usize::from(number)]
 }
 
-/// Whether digits are a value of this key: a decimal of at most five digits for `s` and `e`, else hexadecimal digits.
-fn is_value(key: u8, digits: &[u8]) -> bool
-    ensures { result ≡ spec.is_value key digits.now }
+/// What the value of this key is spelled with.
+fn kind_of(key: u8) -> ValueKind
+    ensures { (digits : List ℕ) → spec.is_value key digits ≡ is_spelled result digits }
 {
     if key == b's' || key == b'e' {
-        is_index(digits)
+        ValueKind::Index
     } else {
-        is_hex(digits)
+        ValueKind::Hex
     }
 }
 
-/// Whether these are the digits of a decimal, at most five.
-fn is_index(digits: &[u8]) -> bool
-    ensures { result ≡ (is_decimal digits.now && nat_le (length digits.now) 5) }
+/// The form after the first digit of a decimal.
+fn after_index(next: u8, byte: u8) -> RowForm
+    ensures { Goes (forms.Value next kinds.Index) byte result }
 {
-    digits.len() <= 5 && read_decimal(digits).is_some()
+    if byte == b'0' {
+        return RowForm::Zero(next);
+    }
+    step(
+        byte,
+        RowForm::No,
+        byte.is_ascii_digit(),
+        RowForm::Index(next, 4),
+    )
 }
 
-/// Whether these are lower-case hexadecimal digits, one at least.
-fn is_hex(digits: &[u8]) -> bool
-    ensures { result ≡ spec.is_hex digits.now }
+/// The form after a digit of a decimal that is not the first, of which so many may come.
+fn after_digit(next: u8, left: u8, byte: u8) -> RowForm
+    ensures { Goes (forms.Index next left) byte result }
 {
-    !digits.is_empty() && are_hex_digits(digits)
+    let end = RowForm::Signal(next);
+    if left == 0 {
+        return step(byte, end, false, RowForm::No);
+    }
+    step(
+        byte,
+        end,
+        byte.is_ascii_digit(),
+        RowForm::Index(next, left - 1),
+    )
 }
 
-/// Whether each of these bytes is a hexadecimal digit.
-fn are_hex_digits(digits: &[u8]) -> bool
-    ensures { result ≡ list_all (λ digit. is_some (digit_of digit)) digits.now }
+/// Whether a byte is a bit.
+fn is_bit(byte: u8) -> bool
+    ensures { result ≡ ((byte == 48) || (byte == 49)) }
 {
-    digits.iter().all(|digit| is_hex_digit(*digit))
+    byte == b'0' || byte == b'1'
 }
 
 /// Whether a byte is a hexadecimal digit, `0` to `9` or `a` to `f`.

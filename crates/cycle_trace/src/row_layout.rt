@@ -1,10 +1,10 @@
 //! What reading a row needs to know of its stream, found once for all its rows.
 
 ghost use Rattle.std.specs.Prelude.{◌≡◌};
-ghost use Rattle.physical_stream.specs.Signals.{index_width};
+ghost use Rattle.tydi_base.specs.Width.{index_width};
 ghost use Rattle.cycle_trace.specs.RowLayout.{LaysOut, has_payload_in};
 
-use physical_stream::{Params, all_lanes, index_width};
+use physical_stream::{Params, all_lanes, index_limit};
 use signal_layout::Signals;
 
 /// A signal that is a word of bits.
@@ -65,7 +65,7 @@ impl RowLayout {
             has_stai: signals.stai.is_some(),
             has_endi: signals.endi.is_some(),
             has_payload: has_payload(&signals),
-            index_limit: 1u32 << index_width(p.lanes),
+            index_limit: index_limit(p.lanes),
             last_lane: p.lanes - 1,
             all_lanes: all_lanes(p.lanes),
         }

@@ -6,7 +6,8 @@ ghost use Rattle.physical_stream.specs.Cycles.{Cycle, cycle_in};
 ghost use Rattle.physical_stream.specs.Params.{Parameters};
 ghost use Rattle.physical_stream.specs.declared.head.Head.{Head};
 ghost use Rattle.cycle_trace.specs.Faults.{fault_in};
-ghost use Rattle.cycle_trace.specs.ReaderView.{ReadsRows, cycle_read};
+ghost use Rattle.cycle_trace.specs.ReaderView.{HasRoomFor, ReadsRows, cycle_read};
+ghost use Rattle.cycle_trace.specs.RowLayout.{row_room};
 ghost use Rattle.cycle_trace.specs.RowSink.{CanTake, IsHeader, begun_by, with_row};
 ghost use Rattle.cycle_trace.specs.RowText as rows;
 ghost use Rattle.cycle_trace.specs.Trace.{TraceText, owed, params_of_heads};
@@ -15,7 +16,7 @@ use crate::fault::TraceFault;
 use crate::row_fields::RowBits;
 use crate::stream_rows::StreamRows;
 use crate::turn::next_stream;
-use physical_stream::{Head, Header, Row};
+use physical_stream::{Head, Header, Params, Row};
 use std::alloc::Global;
 use tydi_base::Memory;
 
@@ -30,6 +31,8 @@ pub(crate) struct RowsRead {
     pub(crate) got: u64,
     /// The stream of the next row, from 0.
     pub(crate) stream: usize,
+    /// No row has more bytes.
+    pub(crate) room: usize,
 }
 
 impl RowsRead {
@@ -40,6 +43,7 @@ impl RowsRead {
             want: 0,
             got: 0,
             stream: 0,
+            room: 0,
         }
     }
 
@@ -55,6 +59,7 @@ impl RowsRead {
             want,
             got: 0,
             stream: 0,
+            room: room_for(header.heads.as_slice()),
         })
     }
 
@@ -78,6 +83,7 @@ impl RowsRead {
         requires { (t : TraceText) × (ReadsRows self.old t × (self.old.got < self.old.want)) }
         ensures reads { (t : TraceText) → ReadsRows self.old t → ReadsRows self.new t }
         ensures whole { (self.new.got ≡ self.old.got) × (self.new.want ≡ self.old.want) }
+        ensures room { self.new.room ≡ self.old.room }
         ensures gives { (t : TraceText) (p : Parameters) → ReadsRows self.old t → slice_get (owed (params_of_heads t.heads) t.cycles) (length t.rows) ≡ Some p
             → Gives fault_in (cycle_read self.new) result (rows.row_at (3 + length t.heads + length t.rows) p line.now) }
         ensures calm { IfErr result (λ e. IsSome (fault_in e)) }
@@ -101,7 +107,8 @@ impl RowsRead {
     /// Goes on to the next row.
     pub(crate) fn advance(&mut self)
         requires { (t : TraceText) × ((row : Cycle) × (ReadsRows self.old t × CanTake t row)) }
-        ensures { (t : TraceText) (row : Cycle) → ReadsRows self.old t → CanTake t row → ReadsRows self.new (with_row t row) }
+        ensures reads { (t : TraceText) (row : Cycle) → ReadsRows self.old t → CanTake t row → ReadsRows self.new (with_row t row) }
+        ensures room { self.new.room ≡ self.old.room }
     {
         self.got += 1;
         self.stream = next_stream(self.stream, self.streams.len());
@@ -117,4 +124,33 @@ fn streams_of(alloc: Global, heads: &[Head]) -> Result<Vec<StreamRows>, Memory>
         streams.push(StreamRows::of(alloc, &head.params)?)?;
     }
     Ok(streams)
+}
+
+/// As many bytes as no row of these streams exceeds.
+fn room_for(heads: &[Head]) -> usize
+    ensures { HasRoomFor heads.now result }
+{
+    let mut room = 0;
+    'heads: for head in heads {
+        room = larger(room, row_room(&head.params));
+    }
+    room
+}
+
+/// As many bytes as no row of this stream exceeds.
+fn row_room(p: &Params) -> usize
+    ensures { result ≡ row_room p.now }
+{
+    let lanes = usize::from(p.lanes);
+    let content = (lanes * p.element as usize).div_ceil(4);
+    let last = (lanes * usize::from(p.dims)).div_ceil(4);
+    29 + content + last + lanes.div_ceil(4) + (p.user as usize).div_ceil(4)
+}
+
+/// The larger of two numbers.
+fn larger(one: usize, other: usize) -> usize
+    ensures one { one ≤ result }
+    ensures other { other ≤ result }
+{
+    if one < other { other } else { one }
 }

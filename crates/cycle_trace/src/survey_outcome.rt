@@ -1,12 +1,10 @@
 //! What a survey keeps of a trace: a checker for each stream, and the first offence.
 
-ghost use Rattle.std.specs.Prelude.{◌≡◌, ◌<◌, ◌≤◌, [], ◌+◌, length, map, slice_get, IfOk, MatchOption, Result, Option, Some, None, Ok, Err, IfSome, if◌then◌else◌, ◌==◌};
-ghost use Rattle.physical_stream.specs.First.{Offends, IsFirst};
+ghost use Rattle.std.specs.Prelude.{◌≡◌, length, option_map, IfOk, None};
+ghost use Rattle.physical_stream.specs.First.{IsFirst};
 ghost use Rattle.cycle_trace.specs.Survey.{Answers, counts_of, first_unfinished};
-ghost use Rattle.cycle_trace.specs.declared.counts.Counts.{Counts};
-ghost use Rattle.cycle_trace.specs.declared.counts.SurveyFault.{SurveyFault};
 ghost use Rattle.cycle_trace.specs.declared.counts.SurveyFault.TheVariants as faults;
-ghost use Rattle.cycle_trace.specs.Surveying.{AreChecked, HaveCheckers, RowsSay};
+ghost use Rattle.cycle_trace.specs.Surveying.{AreChecked, HaveCheckers, RowsSay, offends_in, unfinished_of};
 ghost use Rattle.cycle_trace.specs.Trace.{TraceText, streams_of};
 
 use crate::counts::{Counts, SurveyFault};
@@ -36,6 +34,13 @@ impl FoundOffence {
     }
 }
 
+/// A stream that does not end whole, by its number from 0, and how it ends.
+#[derive(Clone, Copy, Debug, PartialEq, Eq)]
+pub(crate) struct FoundUnfinished {
+    pub stream: usize,
+    pub end: End,
+}
+
 /// A checker for each stream, which has seen no row.
 pub(crate) fn checkers_of(alloc: Global, heads: &[Head]) -> Result<Vec<Checker>, Memory>
     ensures { IfOk result (λ checkers. HaveCheckers heads.now (length heads.now) checkers.items) }
@@ -53,7 +58,7 @@ pub(crate) fn outcome_of(
     found: Option<FoundOffence>,
     checkers: &[Checker],
 ) -> Result<Counts, SurveyFault>
-    ensures { (t : TraceText) → RowsSay t checkers.now found → Answers (streams_of t) result }
+    ensures { (t : TraceText) → RowsSay (offends_in t) t checkers.now found → Answers (offends_in t) (streams_of t) result }
 {
     match found {
         Some(found) => Err(found.fault()),
@@ -63,24 +68,22 @@ pub(crate) fn outcome_of(
 
 /// The counts of all streams, or the first one that does not end whole, where no row breaks a rule.
 fn count(alloc: Global, checkers: &[Checker]) -> Result<Counts, SurveyFault>
-    ensures { (t : TraceText) → AreChecked t checkers.now → IsFirst (Offends (streams_of t)) None → Answers (streams_of t) result }
+    ensures { (t : TraceText) → AreChecked t checkers.now → IsFirst (offends_in t) None → Answers (offends_in t) (streams_of t) result }
 {
-    if let Some(fault) = unfinished(checkers) {
-        return Err(fault);
+    match unfinished(checkers) {
+        Some(FoundUnfinished { stream, end }) => Err(SurveyFault::Unfinished { stream, end }),
+        None => Ok(counts_of(alloc, checkers)?),
     }
-    Ok(counts_of(alloc, checkers)?)
 }
 
-/// That a stream does not end whole, and which the first one is.
-fn unfinished(checkers: &[Checker]) -> Option<SurveyFault>
-    ensures { (t : TraceText) → AreChecked t checkers.now → (found : Result Counts SurveyFault) → MatchOption result
-        (first_unfinished 0 (streams_of t) found ≡ found)
-        (λ fault. first_unfinished 0 (streams_of t) found ≡ Err fault) }
+/// The first stream that does not end whole.
+fn unfinished(checkers: &[Checker]) -> Option<FoundUnfinished>
+    ensures { (t : TraceText) → AreChecked t checkers.now → option_map unfinished_of result ≡ first_unfinished 0 (streams_of t) }
 {
     'checkers: for (stream, checker) in checkers.iter().enumerate() {
         match checker.end() {
             End::Whole => {}
-            end => return Some(SurveyFault::Unfinished { stream, end }),
+            end => return Some(FoundUnfinished { stream, end }),
         }
     }
     None

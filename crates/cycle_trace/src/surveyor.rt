@@ -5,6 +5,7 @@ ghost use Rattle.physical_stream.specs.Cycles.{Cycle, cycle_in};
 ghost use Rattle.cycle_trace.specs.RowSink.{CanTake, with_row};
 ghost use Rattle.cycle_trace.specs.SurveyorView.{AnswersTrace, RunStands, SurveyorStands};
 ghost use Rattle.cycle_trace.specs.Survey.{Answers};
+ghost use Rattle.cycle_trace.specs.Surveying.{offends_in};
 ghost use Rattle.cycle_trace.specs.Trace.{TraceText, streams_of};
 
 use crate::counts::{Counts, SurveyFault};
@@ -43,7 +44,7 @@ impl Surveyor {
     /// What the survey finds of a whole trace.
     pub fn finish(self, alloc: Global) -> Result<Counts, SurveyFault>
         requires { (t : TraceText) × SurveyorStands self (Some t) }
-        ensures { (t : TraceText) → SurveyorStands self (Some t) → Answers (streams_of t) result }
+        ensures { (t : TraceText) → SurveyorStands self (Some t) → Answers (offends_in t) (streams_of t) result }
     {
         self.surveyed(alloc).found
     }

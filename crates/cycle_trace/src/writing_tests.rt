@@ -58,8 +58,9 @@ fn write_two_heads(
     let mut heads = List::new(alloc);
     heads.push(first)?;
     heads.push(second)?;
-    write_header(alloc, out, &Header { cycles: 2, heads })?;
-    Ok(true)
+    let header = Header { cycles: 2, heads };
+    write_header(alloc, out, &header)?;
+    Ok(header_length(&header) == out.len() as u64)
 }
 
 fn word_of(alloc: Global, width: usize, digits: &str) -> Result<Bits, Memory> {
@@ -94,8 +95,9 @@ fn write_shown(
         ready: true,
         shown: Some(transfer),
     };
+    let len = (out.len() as u64).saturating_add(row_length(params, row));
     write_row(alloc, out, params, row)?;
-    Ok(true)
+    Ok(out.len() as u64 == len)
 }
 
 #[test]

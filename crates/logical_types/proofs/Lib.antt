@@ -2,6 +2,6 @@ pub mod PlainLemmas
 mod WidthLemmas
 mod NameLemmas
 mod SeenLemmas
-mod ThroughputLemmas
-mod FaultLemmas
+pub mod ThroughputLemmas
+pub mod FaultLemmas
 pub mod PlainTypes

@@ -6,23 +6,19 @@ use Rattle.logical_types.specs.declared.fault.TypeFault.{TypeFault}
 use Rattle.logical_types.specs.declared.fault.TypeFault.TheVariants as faults
 use Rattle.logical_types.specs.declared.streams.Around.{Around}
 use Rattle.logical_types.specs.Tree.{Ltype, null, bits, group, union, stream, Parts, no_parts, part, Settings}
-use Rattle.logical_types.specs.Faults.{outermost, inside, TypeNode, nodes, nodes_of_parts, has_fault, all_faults, plain_faults, faults_at, IsValid, IsPlain}
+use Rattle.logical_types.specs.Faults.{outermost, inside, TypeNode, nodes, nodes_of_parts, has_fault, all_faults, plain_faults, faults_at, IsValid, IsPlain, ArePlain}
 
 -- the faults at a node that are not of throughputs, lanes or dimensions
 abbrev plain_at : TypeNode → List TypeFault
 plain_at node = filter (has_fault node) plain_faults
 
--- parts that are plain
-abbrev pub ArePlain : Parts → Type 0
-ArePlain parts = flat_map plain_at (nodes_of_parts outermost parts) ≡ []
-
 -- ---- lists that are empty
 
-apart : {A : Type 0} (front back : List A) → front ++ back ≡ [] → (front ≡ []) × (back ≡ [])
+pub apart : {A : Type 0} (front back : List A) → front ++ back ≡ [] → (front ≡ []) × (back ≡ [])
 apart [] back empty = (refl, empty)
 apart (one ∷ more) back empty = cc
 
-none_of : (test : Bool) (one : TypeFault) (rest : List TypeFault) → cond test (one ∷ rest) rest ≡ [] → (test ≡ false) × (rest ≡ [])
+pub none_of : (test : Bool) (one : TypeFault) (rest : List TypeFault) → cond test (one ∷ rest) rest ≡ [] → (test ≡ false) × (rest ≡ [])
 none_of true one rest empty = cc
 none_of false one rest empty = (refl, empty)
 

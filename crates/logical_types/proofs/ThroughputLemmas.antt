@@ -86,7 +86,7 @@ greatest_divisor-IsGcd one other some =
 
 -- ---- lowest terms
 
-lowest-IsReduced : (num den : ℕ) → 1 ≤ den → IsReduced num den (lowest num den)
+pub lowest-IsReduced : (num den : ℕ) → 1 ≤ den → IsReduced num den (lowest num den)
 unfolding lowest
 lowest-IsReduced num den some =
     let greatest = greatest_divisor-IsGcd num den some in

@@ -167,6 +167,10 @@ plain_faults = faults.ZeroBits ∷ faults.ElementTooWide ∷ faults.UserHasStrea
 abbrev pub IsPlain : Ltype → Type 0
 IsPlain ltype = flat_map (λ node. filter (has_fault node) plain_faults) (nodes outermost ltype) ≡ []
 
+-- parts that are plain
+abbrev pub ArePlain : Parts → Type 0
+ArePlain parts = flat_map (λ node. filter (has_fault node) plain_faults) (nodes_of_parts outermost parts) ≡ []
+
 -- what a check says of these faults: that there is none, or the first
 abbrev pub Tells : {A : Type 0} → List TypeFault → Result A TypeFault → Type 0
 Tells found (Ok value) = found ≡ []

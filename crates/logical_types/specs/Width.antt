@@ -1,15 +1,11 @@
 -- How wide an element of a type is (Tydi specification, logical types; the layout of a Union is this project's own).
-use Rattle.std.specs.Prelude.{ℕ, zero, suc, ◌+◌, ◌-◌, ◌^◌, min, max, nat_le, if◌then◌else◌}
+use Rattle.std.specs.Prelude.{ℕ, ◌+◌, ◌-◌, ◌^◌, min, max}
+use Rattle.tydi_base.specs.Width.{index_width}
 use Rattle.logical_types.specs.Tree.{Ltype, null, bits, group, union, stream, Parts, no_parts, part, number_of_parts}
 
--- the least k from low on with n ≤ 2 ^ k, looked for up to so many times
-abbrev pub least_power : ℕ → ℕ → ℕ → ℕ
-least_power n low zero = low
-least_power n low (suc more) = if nat_le n (2 ^ low) then low else least_power n (suc low) more
-
--- the bits of a tag that tells n variants apart: the least k with n ≤ 2 ^ k
+-- the bits of a tag that tells n variants apart: those that number them
 unfoldable pub tag_width : ℕ → ℕ
-tag_width n = least_power n 0 n
+tag_width n = index_width n
 
 -- the width of an element: of a Group the widths of its fields together, of a Union its tag and room for its widest variant; a
 -- Stream takes none, since it is carried on its own

@@ -15,9 +15,8 @@ ghost use Rattle.logical_types.specs.Tree.{bits, group, union, plain, plain_part
 use crate::fault::TypeFault;
 use crate::ltype::{LType, Part, StreamType};
 use crate::names::has_name_twice;
-use crate::streams::{Around, inside};
+use crate::streams::{Around, around_outermost, inside};
 use crate::widths::{total_width, union_width};
-use tydi_base::Frac;
 
 const MOST_BITS: u32 = 4096;
 
@@ -28,16 +27,6 @@ pub fn check(ltype: &LType) -> Result<(), TypeFault>
     ensures first { IfErr result (λ fault. slice_get (faults_of (plain ltype.now)) 0 ≡ Some fault) }
 {
     check_type(ltype, &around_outermost())
-}
-
-// Around the outermost type there is no Stream.
-fn around_outermost() -> Around
-    ensures { result ≡ outermost }
-{
-    match Frac::new(1, 1) {
-        Some(product) => Around { product, dims: 0 },
-        None => unreachable!(),
-    }
 }
 
 #[cycle(check)]

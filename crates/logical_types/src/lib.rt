@@ -16,4 +16,5 @@ mod widths;
 pub use checking::check;
 pub use fault::TypeFault;
 pub use ltype::{LType, Part, StreamType, Sync};
-pub use widths::width;
+pub use streams::{Around, around_outermost, inside};
+pub use widths::{saturated_width, union_width, width};

@@ -1,7 +1,7 @@
 //! What a Stream makes of what is around it: throughput, lanes and dimensions.
 
 ghost use Rattle.std.specs.Prelude.{◌≡◌, ◌-◌, ◌^◌, true, false, min, IfOk, IfSome, IfNone};
-ghost use Rattle.logical_types.specs.Faults.{Tells, effective_dims, inside, is_bad_throughput, rate_faults};
+ghost use Rattle.logical_types.specs.Faults.{Tells, effective_dims, inside, is_bad_throughput, outermost, rate_faults};
 ghost use Rattle.logical_types.specs.Throughput.{product_of};
 ghost use Rattle.logical_types.specs.Tree.{settings_of};
 
@@ -19,6 +19,16 @@ const MOST_DIMS: u64 = 32;
 pub struct Around {
     pub product: Frac,
     pub dims: u64,
+}
+
+/// Around the outermost type there is no Stream.
+pub fn around_outermost() -> Around
+    ensures { result ≡ outermost }
+{
+    match Frac::new(1, 1) {
+        Some(product) => Around { product, dims: 0 },
+        None => unreachable!(),
+    }
 }
 
 /// What is around the types inside a Stream, or the first fault of its throughput, its lanes and its dimensions.

@@ -6,6 +6,7 @@ ghost use Rattle.logical_types.specs.Tree.{plain, plain_parts, union};
 ghost use Rattle.logical_types.specs.Width as spec;
 
 use crate::ltype::{LType, Part};
+use tydi_base::index_width;
 
 /// The width in bits of an element of a type that has no fault but of throughputs, lanes and dimensions. So each part of a type
 /// that passed `check` may be asked for its width.
@@ -16,8 +17,9 @@ pub fn width(ltype: &LType) -> u32
     saturated_width(ltype)
 }
 
+/// The width in bits of an element of a type, or the greatest number of 32 bits where it is over that.
 #[cycle(width)]
-fn saturated_width(ltype: &LType) -> u32
+pub fn saturated_width(ltype: &LType) -> u32
     ensures { result ≡ spec.saturated (spec.width_of (plain ltype.now)) }
 {
     match ltype {
@@ -43,6 +45,7 @@ pub fn total_width(parts: &[Part]) -> u32
 
 /// The width of a Union of these variants, or the greatest number of 32 bits.
 #[cycle(width)]
+#[tactic(auto, unfolding(crate::specs::Width::tag_width))]
 pub fn union_width(parts: &[Part]) -> u32
     ensures { result ≡ spec.saturated (spec.width_of (union (plain_parts parts.now))) }
 {
@@ -50,15 +53,5 @@ pub fn union_width(parts: &[Part]) -> u32
     'parts: for part in parts {
         greatest = greatest.max(saturated_width(&part.ltype));
     }
-    greatest.saturating_add(tag_width(parts.len()))
-}
-
-// The bits of a tag that tells so many variants apart.
-fn tag_width(variants: usize) -> u32
-    ensures { result ≡ spec.tag_width variants }
-{
-    if variants <= 1 {
-        return 0;
-    }
-    (variants as u64 - 1).ilog2() + 1
+    greatest.saturating_add(index_width(parts.len() as u64))
 }

@@ -1,4 +1,5 @@
 pub mod FirstLemmas
 pub mod ItemsLemmas
+pub mod LevelLemmas
 pub mod TransferLemmas
 pub mod WidthLemmas

@@ -116,8 +116,17 @@ Forbids Tag p before now = ⊥
 abbrev pub BreaksAfter : Rule → Parameters → List Cycle → Cycle → Type 0
 BreaksAfter rule p before now = Binds rule p.level × Forbids rule p before now
 
--- in the list of cycles, the cycle of this number breaks the rule
-pub record Breaks (rule : Rule) (p : Parameters) (cycles : List Cycle) (number : ℕ) : Type 0 where
+-- which rules a cycle breaks after others, by the parameters of the stream
+abbrev pub Breaking : Type 1
+Breaking = Rule → Parameters → List Cycle → Cycle → Type 0
+
+-- in the list of cycles, the cycle of this number breaks the rule. What breaks it is handed in, since the rule on tags needs
+-- the type of the elements.
+pub record BreaksBy (Broken : Breaking) (rule : Rule) (p : Parameters) (cycles : List Cycle) (number : ℕ) : Type 0 where
   pub now : Cycle
   pub stands : slice_get cycles number ≡ Some now
-  pub broken : BreaksAfter rule p (take number cycles) now
+  pub broken : Broken rule p (take number cycles) now
+
+-- the same by rules 1 to 10
+abbrev pub Breaks : Rule → Parameters → List Cycle → ℕ → Type 0
+Breaks rule p cycles number = BreaksBy BreaksAfter rule p cycles number

@@ -4,6 +4,7 @@ pub mod Cycles
 pub mod Ending
 pub mod First
 pub mod Items
+pub mod Levels
 pub mod Params
 pub mod Rules
 pub mod Shape

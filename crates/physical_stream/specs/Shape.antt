@@ -1,5 +1,5 @@
 -- The shape of a list of items (this project's own, after the Tydi specification's dimensions).
-use Rattle.std.specs.Prelude.{ℕ, ◌+◌, Bool, true, false, ◌==◌, ◌||◌, nat_le, List, [], ◌∷◌, Option, Some, None}
+use Rattle.std.specs.Prelude.{◌≡◌, ℕ, ◌+◌, Bool, true, false, ◌==◌, ◌||◌, nat_le, List, [], ◌∷◌, ◌++◌, Option, Some, None}
 use Rattle.physical_stream.specs.declared.item.Item.{Item}
 use Rattle.physical_stream.specs.declared.item.Item.TheVariants as items
 use Rattle.physical_stream.specs.declared.item.Tail.{Tail}
@@ -32,3 +32,7 @@ abbrev pub may_close : Option Tail → ℕ → Bool
 may_close None j = true
 may_close (Some tails.Elem) j = j == 0
 may_close (Some (tails.Close i)) j = nat_le j (i + 1)
+
+-- each Close(j) of these items with j ≥ 1 stands first or right after a Close(i) with i ≥ j-1
+abbrev pub IsNested : List Item → Type 0
+IsNested done = (front rest : List Item) (dim : ℕ) → done ≡ front ++ items.Close dim ∷ rest → may_close (tail_of front) dim ≡ true

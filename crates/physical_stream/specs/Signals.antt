@@ -1,7 +1,9 @@
 -- Which payload signals a physical stream has, how wide they are, and what an absent one stands at (Tydi specification,
 -- signals; presence and defaults are this project's own).
-use Rattle.std.specs.Prelude.{◌≡◌, ℕ, zero, suc, ◌-◌, ◌*◌, ◌^◌, ◌<◌, Bool, false, ◌&&◌, ◌||◌, nat_lt, nat_le, if◌then◌else◌, length}
+use Rattle.std.specs.Prelude.{◌≡◌, ◌-◌, ◌*◌, ◌^◌, ◌<◌, Bool, false, ◌&&◌, ◌||◌, nat_lt, nat_le, length}
+use Rattle.tydi_base.specs.Bits.{zero_bits}
 use Rattle.tydi_base.specs.Level.{number_of}
+use Rattle.tydi_base.specs.Width.{index_width}
 use Rattle.physical_stream.specs.Params.{Parameters}
 use Rattle.physical_stream.specs.declared.transfer.Transfer.{Transfer}
 
@@ -25,14 +27,16 @@ has_strb p = nat_le 7 (number_of p.level) || nat_lt 0 p.dims
 abbrev pub has_user : Parameters → Bool
 has_user p = nat_lt 0 p.user
 
--- the least k from low on with n ≤ 2 ^ k, looked for up to so many times
-abbrev pub least_power : ℕ → ℕ → ℕ → ℕ
-least_power n low zero = low
-least_power n low (suc more) = if nat_le n (2 ^ low) then low else least_power n (suc low) more
-
--- the bits that number n lanes: the least k with n ≤ 2 ^ k
-abbrev pub index_width : ℕ → ℕ
-index_width n = least_power n 0 n
+-- the transfer that is zero in every signal but endi, which is the last lane
+abbrev pub zero_transfer : Parameters → Transfer
+zero_transfer p = record {
+  content = zero_bits (p.lanes * p.element);
+  last = zero_bits (p.lanes * p.dims);
+  stai = 0;
+  endi = p.lanes - 1;
+  strb = 0;
+  user = zero_bits p.user;
+}
 
 -- every signal has the width that the stream gives it, whether it is present or not
 pub record Fits (p : Parameters) (t : Transfer) : Type 0 where

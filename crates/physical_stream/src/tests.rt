@@ -1,7 +1,7 @@
 use super::*;
 use std::alloc::Global;
 use std::test::Fail;
-use tydi_base::{Bits, Level, List, Memory};
+use tydi_base::{Bits, Level, List, Memory, Path, TryClone};
 
 enum Want {
     Elem(&'static str),
@@ -96,100 +96,73 @@ fn are_wanted(alloc: Global, items: &List<Item>, wants: &[Want]) -> Result<bool,
     Ok(items.len() == wants.len())
 }
 
-// Whether a stream of such numbers is in the ranges: lanes 1 to 128, dims to 32, element and user to 4,096.
-const RANGES: [(u16, u8, u32, u32, bool); 8] = [
-    (1, 0, 0, 0, true),
-    (128, 32, 4096, 4096, true),
-    (0, 0, 0, 0, false),
-    (129, 0, 0, 0, false),
-    (1, 33, 0, 0, false),
-    (1, 0, 4097, 0, false),
-    (1, 0, 0, 4097, false),
-    (65535, 255, 8, 8, false),
-];
-
-#[test]
-fn parameters_are_in_their_ranges(rt: HostRuntime) -> Result<(), Fail> {
-    let level = Level::new(8).ok_or("a level")?;
-    for (lanes, dims, element, user, stands) in RANGES {
-        assert_eq!(rt;
-            Params::new(lanes, dims, level, element, user).is_some(),
-            stands
-        );
+/// Whether a transfer fits its stream, and carries the items of its case.
+fn is_carried(alloc: Global, p: &Params, case: &Case) -> Result<bool, Memory> {
+    let transfer = transfer_of(alloc, case)?;
+    if !transfer.fits(p) {
+        return Ok(false);
     }
-    Ok(())
+    let items = items_of(alloc, p, &transfer)?;
+    are_wanted(alloc, &items, case.items)
 }
 
-// stai, endi, strb, and which of the lanes 0 and 1 are active.
-const ACTIVE: [(u16, u16, u128, bool, bool); 5] = [
-    (0, 1, 3, true, true),
-    (0, 1, 2, false, true),
-    (0, 0, 3, true, false),
-    (1, 1, 3, false, true),
-    (0, 1, 0, false, false),
-];
-
-#[test]
-fn lanes_are_active_between_stai_and_endi_where_strb_is_set(rt: HostRuntime) -> Result<(), Fail> {
-    for (stai, endi, strb, zeroth, first) in ACTIVE {
-        let mut transfer = transfer_of(rt.alloc(), &CASES[0])?;
-        transfer.stai = stai;
-        transfer.endi = endi;
-        transfer.strb = strb;
-        assert_eq!(rt; is_active(&transfer, 0), zeroth);
-        assert_eq!(rt; is_active(&transfer, 1), first);
-    }
-    Ok(())
-}
-
-// Whether a transfer with these in place of its own numbers fits a stream of two lanes.
-const FITS: [(u16, u16, u128, bool); 5] = [
-    (0, 1, 3, true),
-    (1, 0, 0, true),
-    (2, 1, 3, false),
-    (0, 2, 3, false),
-    (0, 1, 4, false),
-];
-
-#[test]
-fn transfers_fit_and_are_copied(rt: HostRuntime) -> Result<(), Fail> {
-    let level = Level::new(8).ok_or("a level")?;
-    let p = Params::new(2, 2, level, 4, 0).ok_or("a stream")?;
-    let mut copy = Transfer::zero(rt.alloc(), &p)?;
-    assert_eq!(rt; copy.content.number(), Some(0));
-    assert_eq!(rt; (copy.stai, copy.endi, copy.strb), (0, 1, 0));
-    for (stai, endi, strb, fits) in FITS {
-        let mut transfer = transfer_of(rt.alloc(), &CASES[0])?;
-        transfer.stai = stai;
-        transfer.endi = endi;
-        transfer.strb = strb;
-        assert_eq!(rt; transfer.fits(&p), fits);
-        assert!(rt; !copy.equals(&transfer));
-        if copy.content.len() == transfer.content.len()
-            && copy.last.len() == transfer.last.len()
-            && copy.user.len() == transfer.user.len()
-        {
-            copy.copy_from(&transfer);
-        }
-        assert!(rt; copy.equals(&transfer));
-    }
-    Ok(())
+fn params_of(lanes: u16) -> Result<Params, Memory> {
+    let level = Level::new(8).ok_or(Memory)?;
+    Params::new(lanes, 2, level, 4, 0).ok_or(Memory)
 }
 
 #[test]
 fn transfers_carry_items_lane_by_lane(rt: HostRuntime) -> Result<(), Fail> {
-    for (lanes, width) in [(1, 0), (2, 1), (3, 2), (4, 2), (5, 3), (127, 7), (128, 7)] {
-        assert_eq!(rt; index_width(lanes), width);
-    }
-    let level = Level::new(8).expect(&rt, "a level");
-    let p = Params::new(2, 2, level, 4, 0).expect(&rt, "a stream");
-    let zero = Transfer::zero(rt.alloc(), &p)?;
-    assert!(rt; zero.fits(&p));
+    let p = params_of(2)?;
     for case in &CASES {
-        let transfer = transfer_of(rt.alloc(), case)?;
-        assert!(rt; transfer.fits(&p));
-        let items = items_of(rt.alloc(), &p, &transfer)?;
-        assert!(rt; are_wanted(rt.alloc(), &items, case.items)?);
+        assert!(rt; is_carried(rt.alloc(), &p, case)?);
     }
+    for (lanes, limit) in [
+        (1, 1),
+        (2, 2),
+        (3, 4),
+        (4, 4),
+        (5, 8),
+        (127, 128),
+        (128, 128),
+    ] {
+        assert_eq!(rt; index_limit(lanes), limit);
+    }
+    shown_at_greater_levels();
+    Ok(())
+}
+
+/// Whether a copy of the transfer of a stream that is zero is the same.
+fn is_transfer_copied(alloc: Global, p: &Params) -> Result<bool, Memory> {
+    let zero = Transfer::zero(alloc, p)?;
+    let copy = zero.try_clone(alloc)?;
+    Ok(copy.equals(&zero))
+}
+
+/// Whether a copy of a header without streams is the same.
+fn is_header_copied(alloc: Global) -> Result<bool, Memory> {
+    let header = Header {
+        cycles: 7,
+        heads: List::new(alloc),
+    };
+    Ok(header.try_clone(alloc)? == header)
+}
+
+/// Whether a copy of the head of this stream is the same.
+fn is_head_copied(alloc: Global, params: Params) -> Result<bool, Memory> {
+    let head = Head {
+        path: Path::new(alloc),
+        params,
+        reversed: true,
+    };
+    Ok(head.try_clone(alloc)? == head)
+}
+
+#[test]
+fn copies_are_the_same(rt: HostRuntime) -> Result<(), Fail> {
+    let p = params_of(2)?;
+    assert!(rt; is_transfer_copied(rt.alloc(), &p)?);
+    assert!(rt; is_head_copied(rt.alloc(), p)?);
+    assert!(rt; is_header_copied(rt.alloc())?);
     Ok(())
 }

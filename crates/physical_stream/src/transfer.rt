@@ -1,6 +1,5 @@
 ghost use Rattle.std.specs.Prelude.{◌≡◌, ◌-◌, ◌*◌, ◌↔◌, length, IsTrue, IfOk};
-ghost use Rattle.physical_stream.specs.Signals.{Fits};
-ghost use Rattle.tydi_base.specs.Bits.{zero_bits};
+ghost use Rattle.physical_stream.specs.Signals.{Fits, zero_transfer};
 
 use crate::params::Params;
 use crate::width::{is_index, is_strobe};
@@ -27,7 +26,7 @@ pub struct Transfer {
 impl Transfer {
     /// The transfer of this stream that is zero in every signal but endi, which is the last lane.
     pub fn zero(alloc: Global, p: &Params) -> Result<Transfer, Memory>
-        ensures value { IfOk result (λ t. t ≡ record { content = zero_bits (p.now.lanes * p.now.element); last = zero_bits (p.now.lanes * p.now.dims); stai = 0; endi = p.now.lanes - 1; strb = 0; user = zero_bits p.now.user }) }
+        ensures value { IfOk result (λ t. t ≡ zero_transfer p.now) }
         ensures fits { IfOk result (Fits p.now) }
     {
         let lanes = usize::from(p.lanes);

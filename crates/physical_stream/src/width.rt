@@ -1,25 +1,21 @@
 ghost use Rattle.std.specs.Prelude.{◌≡◌, ◌<◌, ◌≤◌, ◌^◌, ◌↔◌, IsTrue};
-ghost use Rattle.physical_stream.specs.Signals.{index_width};
+ghost use Rattle.tydi_base.specs.Width.{index_width};
 
-/// The bits that number so many lanes: the least k with `lanes` ≤ 2 ^ k.
-pub fn index_width(lanes: u16) -> u32
-    ensures value { result ≡ index_width lanes }
-    ensures small { result ≤ 16 }
+use tydi_base::index_width;
+
+/// One more than the greatest number that the bits of so many lanes can write.
+pub fn index_limit(lanes: u16) -> u32
+    ensures value { result ≡ 2 ^ index_width lanes }
+    ensures small { result ≤ 2 ^ 16 }
 {
-    let mut width = 0;
-    let mut numbered: u32 = 1;
-    'doubled: while numbered < u32::from(lanes) {
-        numbered *= 2;
-        width += 1;
-    }
-    width
+    1 << index_width(u64::from(lanes))
 }
 
 // Whether this is a number that the bits of so many lanes can write.
 pub(crate) fn is_index(index: u16, lanes: u16) -> bool
     ensures { IsTrue result ↔ (index < 2 ^ index_width lanes) }
 {
-    u32::from(index) < 1u32 << index_width(lanes)
+    u32::from(index) < index_limit(lanes)
 }
 
 // Whether no bit stands at or above these lanes.

@@ -1,8 +1,9 @@
 -- The signals of a physical stream, which of them a stream has, and how wide they are (Tydi specification, signals; presence
 -- and defaults are this project's own).
 use Rattle.std.specs.Prelude.{◌≡◌, ◌↔◌, ℕ, ◌-◌, ◌*◌, ◌^◌, Bool, true, false, if◌then◌else◌, Option, Some, None}
+use Rattle.tydi_base.specs.Width.{index_width}
 use Rattle.physical_stream.specs.Params.{Parameters}
-use Rattle.physical_stream.specs.Signals.{has_content, has_last, has_stai, has_endi, has_strb, has_user, index_width, StandsAtDefaults}
+use Rattle.physical_stream.specs.Signals.{has_content, has_last, has_stai, has_endi, has_strb, has_user, StandsAtDefaults}
 use Rattle.physical_stream.specs.declared.transfer.Transfer.{Transfer}
 use Rattle.signal_layout.specs.declared.signal.Signal.{Signal}
 use Rattle.signal_layout.specs.declared.signal.Signal.TheVariants as signals

@@ -5,7 +5,8 @@ ghost use Rattle.physical_stream.specs.Signals.{has_content, has_last, has_stai,
 ghost use Rattle.signal_layout.specs.Layout.{where_present, width_in, width_of};
 
 use crate::signal::Signal;
-use physical_stream::{Params, index_width};
+use physical_stream::Params;
+use tydi_base::index_width;
 
 /// The widths of a stream's signals: none for a signal that the stream lacks.
 #[derive(Clone, Copy, Debug, PartialEq, Eq)]
@@ -26,7 +27,7 @@ impl Signals {
         ensures { (s : Signal) → width_in result s ≡ width_of p.now s }
     {
         let lanes = u32::from(p.lanes);
-        let numbering = index_width(p.lanes);
+        let numbering = index_width(u64::from(p.lanes));
         Signals {
             valid: Some(1),
             ready: Some(1),

@@ -6,12 +6,11 @@ use Rattle.std.specs.Str.{IsUtf8}
 use Rattle.std.proofs.lemmas.Bool.Decides.{nat_tests}
 use Rattle.std.proofs.lemmas.List.{append-nil}
 use Rattle.std.proofs.lemmas.Str.{IsUtf8-append, IsUtf8-from_ascii}
-use Rattle.tydi_base.specs.Name.{is_name_byte, begins_with_letter, has_double_underscore, ends_in_underscore}
+use Rattle.tydi_base.specs.Name.{is_name_byte, begins_with_letter, has_double_underscore, ends_in_underscore, has_name_form}
 use Rattle.til_lexer.specs.declared.token.TokenKind.{TokenKind}
 use Rattle.til_lexer.specs.declared.token.TokenKind.TheVariants as kinds
 use Rattle.til_lexer.specs.Spans.{is_space}
 use Rattle.til_lexer.specs.Spelling.{AreDigits, HasForm, IsBetween}
-use Rattle.til_lexer.specs.Words.{has_name_form}
 use Rattle.til_lexer.proofs.CutLemmas.{is_ascii_digit-ascii}
 use Rattle.til_lexer.proofs.PieceCuts.{ascii_at}
 use Rattle.til_lexer.proofs.WordLemmas.{all_ascii, is_name_byte-ascii}

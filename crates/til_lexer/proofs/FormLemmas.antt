@@ -23,7 +23,8 @@ use Rattle.til_lexer.specs.Pieces.{piece_at, word_token, mark_at, number_token, 
 use Rattle.til_lexer.specs.Slices.{IsTokenOf}
 use Rattle.til_lexer.specs.Spans.{is_space, begins_comment, digits_at, digits_after_point, until_mark}
 use Rattle.til_lexer.specs.Spelling.{AreDigits, HasForm, IsBetween, IsPointNumber, TokensHaveTheirForm, own_text}
-use Rattle.til_lexer.specs.Words.{starts_word, word_of, has_name_form}
+use Rattle.til_lexer.specs.Words.{starts_word, word_of}
+use Rattle.tydi_base.specs.Name.{has_name_form}
 use Rattle.til_lexer.proofs.CutLemmas.{first_passes}
 use Rattle.til_lexer.proofs.PieceCuts.{either, word_front}
 use Rattle.til_lexer.proofs.SliceLemmas.{tokens_of-are}

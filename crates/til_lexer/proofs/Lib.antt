@@ -7,3 +7,4 @@ pub mod FormLemmas
 pub mod FormBegins
 pub mod SpelledPieces
 pub mod SpelledTokens
+pub mod CountLemmas

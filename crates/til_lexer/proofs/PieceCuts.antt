@@ -16,7 +16,8 @@ use Rattle.til_lexer.specs.declared.token.TokenKind.TheVariants as kinds
 use Rattle.til_lexer.specs.Tokens.{length_of}
 use Rattle.til_lexer.specs.Pieces.{piece_at, word_token, mark_at, number_token, symbol_token, single_symbol, double_symbol, closed_token}
 use Rattle.til_lexer.specs.Spans.{is_space, begins_comment, digits_at, digits_after_point, until_mark}
-use Rattle.til_lexer.specs.Words.{starts_word, word_of, has_name_form}
+use Rattle.til_lexer.specs.Words.{starts_word, word_of}
+use Rattle.tydi_base.specs.Name.{has_name_form}
 use Rattle.til_lexer.proofs.CutLemmas.{EndsInAscii, CanCut, ends_past, ends_cut, space_cut, line_cut, digits_end, number_ends}
 
 abbrev Found : Type 0

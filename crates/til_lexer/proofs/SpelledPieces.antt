@@ -12,7 +12,7 @@ use Rattle.std.proofs.lemmas.List.Sums.{position_or_len_is}
 use Rattle.std.proofs.lemmas.Str.{IsUtf8-append}
 use Rattle.unicode_ident.proofs.IdentLemmas.{is_xid_continue-ascii}
 use Rattle.tydi_base.specs.declared.place.Place.{Place}
-use Rattle.tydi_base.specs.Name.{is_name_byte}
+use Rattle.tydi_base.specs.Name.{is_name_byte, has_name_form}
 use Rattle.tydi_base.specs.Pieces.{Lacks}
 use Rattle.til_lexer.specs.declared.fault.LexFault.{LexFault}
 use Rattle.til_lexer.specs.declared.piece.Piece.{Piece}
@@ -22,7 +22,7 @@ use Rattle.til_lexer.specs.declared.token.TokenKind.TheVariants as kinds
 use Rattle.til_lexer.specs.Pieces.{piece_at, word_token, mark_at, number_at, number_token, symbol_token, single_symbol, double_symbol, closed_token}
 use Rattle.til_lexer.specs.Spans.{is_space, begins_comment, digits_at, digits_after_point, until_mark}
 use Rattle.til_lexer.specs.Spelling.{AreDigits, HasForm, IsBetween, IsPointNumber, IsWholeNumber, runs_on}
-use Rattle.til_lexer.specs.Words.{starts_word, word_of, has_name_form, continues}
+use Rattle.til_lexer.specs.Words.{starts_word, word_of, continues}
 use Rattle.til_lexer.proofs.FormBegins.{Begins, first_of_all, form_begins, form_utf8, name_bytes, name_letter}
 use Rattle.til_lexer.proofs.WordLemmas.{chars-ascii, first_char, letter_starts, word-name}
 

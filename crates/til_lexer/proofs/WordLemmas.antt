@@ -10,12 +10,12 @@ use Rattle.std.proofs.lemmas.Str.{IsUtf8-past_char, chars_past_char, encode_asci
 use Rattle.unicode_ident.specs.Ident.{is_xid_continue}
 use Rattle.unicode_ident.proofs.IdentLemmas.{is_xid_start-ascii, is_xid_continue-ascii}
 use Rattle.tydi_base.specs.declared.place.Place.{Place}
-use Rattle.tydi_base.specs.Name.{is_name_byte}
+use Rattle.tydi_base.specs.Name.{is_name_byte, has_name_form}
 use Rattle.til_lexer.specs.declared.fault.LexFault.TheVariants as faults
 use Rattle.til_lexer.specs.declared.token.TokenKind.TheVariants as kinds
 use Rattle.til_lexer.specs.declared.piece.Piece.TheVariants.{Token}
 use Rattle.til_lexer.specs.Pieces.{word_token}
-use Rattle.til_lexer.specs.Words.{starts_word, word_of, has_name_form, continues}
+use Rattle.til_lexer.specs.Words.{starts_word, word_of, continues}
 use Rattle.til_lexer.proofs.CutLemmas.{CanCut, prefix_ends, ends_cut}
 
 -- ---- a text whose first byte is ASCII

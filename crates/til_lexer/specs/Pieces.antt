@@ -12,7 +12,8 @@ use Rattle.til_lexer.specs.declared.token.TokenKind.TheVariants as kinds
 use Rattle.til_lexer.specs.declared.piece.Piece.{Piece}
 use Rattle.til_lexer.specs.declared.piece.Piece.TheVariants.{Blank, Token}
 use Rattle.til_lexer.specs.Spans.{is_space, space_length, begins_comment, line_length, digits_at, digits_after_point, until_mark}
-use Rattle.til_lexer.specs.Words.{starts_word, word_of, has_name_form}
+use Rattle.til_lexer.specs.Words.{starts_word, word_of}
+use Rattle.tydi_base.specs.Name.{has_name_form}
 
 -- the token that a word is, with a byte for each of its characters: a fault where one of them is not ASCII, and else where it
 -- has not the form of a name

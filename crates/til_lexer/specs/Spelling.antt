@@ -5,7 +5,7 @@ use Rattle.std.specs.Char.{is_ascii_digit}
 use Rattle.std.specs.List.{list_all}
 use Rattle.std.specs.Str.{IsUtf8}
 use Rattle.tydi_base.specs.declared.place.Place.{Place}
-use Rattle.tydi_base.specs.Name.{is_name_byte}
+use Rattle.tydi_base.specs.Name.{is_name_byte, has_name_form}
 use Rattle.tydi_base.specs.Pieces.{Lacks}
 use Rattle.til_lexer.specs.declared.token.Token.{Token}
 use Rattle.til_lexer.specs.declared.token.TokenKind.{TokenKind}
@@ -13,7 +13,6 @@ use Rattle.til_lexer.specs.declared.token.TokenKind.TheVariants as kinds
 use Rattle.til_lexer.specs.Places.{start, place_past}
 use Rattle.til_lexer.specs.Spans.{is_space}
 use Rattle.til_lexer.specs.Tokens.{tokens_of}
-use Rattle.til_lexer.specs.Words.{has_name_form}
 
 -- the text of a token: what stands from its first byte up to the byte after it
 abbrev pub own_text : List ℕ → Token → List ℕ

@@ -22,4 +22,5 @@ mod words;
 pub use fault::LexFault;
 pub use laws::{spelled_tokens_are_read, tokens_are_of_the_text, tokens_have_their_form};
 pub use lexing::lex;
+pub use spans::digits_at;
 pub use token::{Token, TokenKind};

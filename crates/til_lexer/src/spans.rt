@@ -50,7 +50,7 @@ pub(crate) fn line_length(bytes: &[u8]) -> usize
 }
 
 /// How many digits begin a text.
-pub(crate) fn digits_at(bytes: &[u8]) -> usize
+pub fn digits_at(bytes: &[u8]) -> usize
     ensures value { result ≡ spec.digits_at bytes.now }
     ensures within { result ≤ length bytes.now }
 {

@@ -2,9 +2,7 @@
 
 ghost use Rattle.std.specs.Prelude.{◌≡◌, ◌==◌, ◌||◌, true, drop, slice_index};
 ghost use Rattle.std.specs.Char.{is_ascii_alphabetic};
-ghost use Rattle.std.specs.List.{list_all};
 ghost use Rattle.std.specs.Str.{chars, IsCharBoundary};
-ghost use Rattle.tydi_base.specs.Name as name;
 ghost use Rattle.til_lexer.specs.Pieces.{word_token};
 ghost use Rattle.til_lexer.specs.Words as spec;
 
@@ -12,7 +10,7 @@ use crate::fault::LexFault;
 use crate::piece::Piece;
 use crate::spans::name_bytes_at;
 use crate::token::TokenKind;
-use tydi_base::Place;
+use tydi_base::{Place, has_name_form};
 use unicode_ident::{is_xid_continue, is_xid_start};
 
 /// Whether a word begins a text. Only a character that is not ASCII is decoded.
@@ -68,44 +66,5 @@ fn continues(text: &str, count: usize) -> bool
     match text[count..].chars().next() {
         Some(character) => is_xid_continue(character),
         None => false,
-    }
-}
-
-/// Whether a word of ASCII letters, digits and `_` has the form of a name.
-fn has_name_form(word: &[u8]) -> bool
-    requires { list_all name.is_name_byte word.now ≡ true }
-    ensures { result ≡ spec.has_name_form word.now }
-{
-    begins_with_letter(word) && !has_double_underscore(word) && !ends_in_underscore(word)
-}
-
-fn begins_with_letter(word: &[u8]) -> bool
-    ensures { result ≡ name.begins_with_letter word.now }
-{
-    match word {
-        [] => false,
-        [first, ..] => first.is_ascii_alphabetic(),
-    }
-}
-
-fn has_double_underscore(word: &[u8]) -> bool
-    ensures { result ≡ name.has_double_underscore word.now }
-{
-    let mut previous = 0;
-    for byte in word {
-        if previous == b'_' && *byte == b'_' {
-            return true;
-        }
-        previous = *byte;
-    }
-    false
-}
-
-fn ends_in_underscore(word: &[u8]) -> bool
-    ensures { result ≡ name.ends_in_underscore word.now }
-{
-    match word {
-        [] => false,
-        [.., last] => *last == b'_',
     }
 }

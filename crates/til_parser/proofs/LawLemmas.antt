@@ -1,23 +1,32 @@
 -- No text spells two trees.
-use Rattle.std.proofs.Common.{◌≡◌, ℕ, max, List, [], ◌∷◌, All, sym, ◌∙◌, subst, arith}
+use Rattle.std.proofs.Common.{◌≡◌, ℕ, max, List, [], ◌∷◌, All, length, Ok, sym, ◌∙◌, subst, arith}
 use Rattle.std.proofs.lemmas.List.Elements.{All-nil, All-cons, All-head, All-tail}
+use Rattle.std.specs.Str.{IsUtf8}
 use Rattle.til_lexer.proofs.FormLemmas.{tokens-have_form}
+use Rattle.til_lexer.specs.Tokens.{tokens_of}
 use Rattle.til_lexer.specs.declared.token.Token.{Token}
+use Rattle.til_parser.specs.declared.fault.ParseFault.{ParseFault}
 use Rattle.til_parser.specs.declared.tree.Ast.{Ast}
 use Rattle.til_parser.specs.Grammar.{Spells}
+use Rattle.til_parser.specs.Faults.{NamesToken, IsFaultOf, TreesOrFaults}
 use Rattle.til_parser.specs.Laws.{TreesAreApart}
 use Rattle.til_parser.specs.Lexemes.{Lexeme, HasFormIn, IsFormed, lexeme_of, lexemes_of}
+use Rattle.til_parser.proofs.LexemeLemmas.{length-lexemes}
 use Rattle.til_parser.proofs.LevelLemmas.{IsWithin-more, IsWithin-some}
-use Rattle.til_parser.proofs.rules.ParseLemmas.{project_complete}
+use Rattle.til_parser.proofs.rules.ParseLemmas.{project_complete, tree_or_fault, named}
 use Rattle.tydi_reading.specs.Reading.{Outcome, took}
 
 -- tokens of a text with their form are lexemes with their form
-pub AreFormed-lexemes : (text : List ℕ) (tokens : List Token) → All (HasFormIn text) tokens → All IsFormed (lexemes_of text tokens)
+AreFormed-lexemes : (text : List ℕ) (tokens : List Token) → All (HasFormIn text) tokens → All IsFormed (lexemes_of text tokens)
 AreFormed-lexemes text [] formed = All-nil IsFormed
 AreFormed-lexemes text (token ∷ tokens) formed =
     All-cons IsFormed (lexeme_of text token) (lexemes_of text tokens)
     (All-head (HasFormIn text) token tokens formed)
     (AreFormed-lexemes text tokens (All-tail (HasFormIn text) token tokens formed))
+
+-- the tokens of a text have their form
+pub formed_of : (text : List ℕ) (tokens : List Token) → IsUtf8 text → tokens_of text ≡ Ok tokens → All IsFormed (lexemes_of text tokens)
+formed_of text tokens utf8 lexed = AreFormed-lexemes text tokens (tokens-have_form text tokens utf8 lexed)
 
 -- tokens with their form spell one tree at most
 spelled_apart : (ts : List Lexeme) (one other : Ast) → All IsFormed ts → Spells one ts → Spells other ts → one ≡ other
@@ -32,6 +41,12 @@ spelled_apart ts one other formed s s' =
 pub trees_apart : TreesAreApart
 trees_apart text one other s s' =
     let tokens_are : s'.tokens ≡ s.tokens = (let same = sym s'.lexed ∙ s.lexed in cc) in
-    let formed = AreFormed-lexemes text s.tokens (tokens-have_form text s.tokens s.utf8 s.lexed) in
-    spelled_apart (lexemes_of text s.tokens) one other formed s.spelled
+    spelled_apart (lexemes_of text s.tokens) one other (formed_of text s.tokens s.utf8 s.lexed) s.spelled
     (subst (λ tokens. Spells other (lexemes_of text tokens)) tokens_are s'.spelled)
+
+pub trees_or_faults : TreesOrFaults
+trees_or_faults text tokens utf8 lexed = tree_or_fault (lexemes_of text tokens) (formed_of text tokens utf8 lexed)
+
+-- a fault of the tokens of a text names one of them
+pub names_token : (text : List ℕ) (tokens : List Token) (fault : ParseFault) → IsFaultOf (lexemes_of text tokens) fault → NamesToken (length tokens) fault
+names_token text tokens fault is = named (lexemes_of text tokens) (length tokens) fault (sym (length-lexemes text tokens)) (λ _. is)

@@ -2,8 +2,9 @@ mod numbers
 mod texts
 mod printed
 mod rules
+mod spelled
 mod LevelLemmas
 mod LexemeLemmas
 pub mod PlainLemmas
-mod WordLemmas
+mod PlacesLemmas
 pub mod LawLemmas

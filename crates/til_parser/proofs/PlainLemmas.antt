@@ -8,8 +8,8 @@ use Rattle.til_parser.specs.declared.ltype.AstType.TheFolds.{fold-AstPart, fold-
 use Rattle.til_parser.specs.declared.ltype.AstType.TheFolds.{ind-AstType}
 use Rattle.til_parser.specs.declared.ltype.AstPart.{AstPart, roll-AstPart}
 use Rattle.til_parser.specs.declared.ltype.AstStream.{AstStream, roll-AstStream}
-use Rattle.til_parser.specs.Tree.{Ltype, null, bits, group, union, stream, path, Parts, no_parts, part, Settings, PlainPart, PlainStream}
-use Rattle.til_parser.specs.Tree.{parts_of, plain_type, plain_part, plain_stream, plain}
+use Rattle.til_parser.specs.Tree.{Ltype, null, bits, group, union, stream, path, Parts, no_parts, part, PlainPart, PlainStream}
+use Rattle.til_parser.specs.Tree.{settings_of, parts_of, plain_type, plain_part, plain_stream, plain}
 
 -- ---- the plain data of a made value
 
@@ -17,17 +17,6 @@ use Rattle.til_parser.specs.Tree.{parts_of, plain_type, plain_part, plain_stream
 abbrev pub plain_parts : List AstPart → Parts
 plain_parts [] = no_parts
 plain_parts (first ∷ more) = part first.name (plain first.ltype) (plain_parts more)
-
--- the arguments of a Stream that hold no type
-abbrev pub settings_of : AstStream → Settings
-settings_of one = record {
-  throughput = one.throughput;
-  dims = one.dims;
-  sync = one.sync;
-  level = one.level;
-  reverse = one.reverse;
-  keep = one.keep;
-}
 
 abbrev pub part_fold : AstPart → PlainPart
 part_fold = fold-AstPart Ltype PlainPart PlainStream plain_type plain_part plain_stream

@@ -33,9 +33,13 @@ abbrev pub behind_point : List ℕ → List ℕ
 behind_point [] = []
 behind_point (digit ∷ digits) = 46 ∷ digit ∷ digits
 
--- a fraction with the fewest digits, without a point where it is whole; a number of a text has at most 18 of them behind it
+-- the most digits behind the point: a number of a text has no more
+abbrev pub most_digits : ℕ
+most_digits = 18
+
+-- a fraction with the fewest digits, without a point where it is whole
 abbrev pub number_text : Fraction → List ℕ
-number_text number = decimal (number.num / number.den) ++ behind_point (digits_of_rest 18 (number.num % number.den) number.den)
+number_text number = decimal (number.num / number.den) ++ behind_point (digits_of_rest most_digits (number.num % number.den) number.den)
 
 -- ---- types
 

@@ -2,8 +2,11 @@ pub mod Lexemes
 pub mod Numbers
 pub mod Tree
 pub mod Reading
+pub mod Words
 pub mod Grammar
+pub mod Nesting
 pub mod Faults
+pub mod Trees
 pub mod Canonical
 pub mod Same
 pub mod Laws

@@ -21,7 +21,8 @@ use Rattle.til_parser.specs.declared.tree.AstStmt.{AstStmt}
 use Rattle.til_parser.specs.declared.tree.AstStmt.TheVariants as stmts
 use Rattle.tydi_reading.specs.Lists.{repeated}
 use Rattle.tydi_reading.specs.Reading.{◌>>=◌, ◌>>◌, ◌<$>◌, ◌<&>◌, ◌<<◌, pure, choose, checked}
-use Rattle.til_parser.specs.Reading.{Reader, is_kind, is_word, expect, expect_word}
+use Rattle.til_parser.specs.Reading.{Reader, is_kind, expect, expect_word, token}
+use Rattle.til_parser.specs.Words.{keyword_of}
 use Rattle.til_parser.specs.ReadTypes.{name, path, quoted, doc, either_word, bracketed, ltype}
 
 -- ---- lists in braces
@@ -71,13 +72,8 @@ unfoldable pub streamlet_ports : ℕ → Reader AstPorts
 streamlet_ports levels = choose (is_kind kinds.OpenParen) false (ports.Own <$> bracketed (port levels)) (ports.Named <$> path)
 
 -- the word with which a declaration begins
-unfoldable pub keyword : Reader Keyword
-keyword =
-    choose (is_word (codes "type")) false ((λ _. keywords.Type) <$> expect_word (codes "type"))
-    (choose (is_word (codes "interface")) false ((λ _. keywords.Interface) <$> expect_word (codes "interface"))
-    (choose (is_word (codes "streamlet")) false ((λ _. keywords.Streamlet) <$> expect_word (codes "streamlet"))
-    (choose (is_word (codes "impl")) false ((λ _. keywords.Impl) <$> expect_word (codes "impl"))
-    ((λ _. keywords.Test) <$> expect_word (codes "test")))))
+abbrev pub keyword : Reader Keyword
+keyword = token kinds.Word (λ place spelling. keyword_of spelling)
 
 -- what follows the name of an implementation
 unfoldable pub impl_kind : Reader AstKind

@@ -6,9 +6,11 @@ use Rattle.tydi_base.specs.Name.{name_of}
 use Rattle.tydi_base.specs.Frac.{Fraction}
 use Rattle.tydi_base.specs.declared.place.Place.{Place}
 use Rattle.tydi_reading.specs.Lists.{separated, steps, joined}
-use Rattle.tydi_reading.specs.Reading.{◌>>◌, ◌<$>◌, ◌<&>◌, ◌<<◌, pure, refuse, rest_of, tells, choose, checked, too_deep, took}
+use Rattle.tydi_reading.specs.Reading.{◌>>◌, ◌<$>◌, ◌<&>◌, ◌<<◌, pure, refuse, rest_of, tells, choose, checked, led, too_deep, took}
 use Rattle.til_lexer.specs.declared.token.TokenKind.TheVariants as kinds
 use Rattle.til_parser.specs.declared.arguments.Arguments.{Arguments}
+use Rattle.til_parser.specs.declared.keyword.TypeWord.{TypeWord}
+use Rattle.til_parser.specs.declared.keyword.TypeWord.TheVariants as words
 use Rattle.til_parser.specs.declared.ltype.AstType.{AstType}
 use Rattle.til_parser.specs.declared.ltype.AstType.TheVariants as types
 use Rattle.til_parser.specs.declared.ltype.AstPart.{AstPart, roll-AstPart}
@@ -19,6 +21,7 @@ use Rattle.til_parser.specs.declared.tree.AstName.{AstName}
 use Rattle.til_parser.specs.declared.tree.AstPath.{AstPath}
 use Rattle.til_parser.specs.Lexemes.{Lexeme, between_marks}
 use Rattle.til_parser.specs.Numbers.{whole_of, numerator_of, denominator_of, lowest}
+use Rattle.til_parser.specs.Words.{sync_of, type_word_at}
 use Rattle.til_parser.specs.Reading.{Reader, is_kind, is_word, begins_type, expect, expect_word, next_of, token}
 
 -- ---- names and numbers
@@ -75,12 +78,8 @@ bracketed item = expect kinds.OpenParen >> (separated (is_kind kinds.CloseParen)
 -- ---- the arguments of a Stream
 
 -- a synchronicity
-unfoldable pub sync : Reader AstSync
-sync =
-    choose (is_word (codes "Sync")) false ((λ _. syncs.Sync) <$> expect_word (codes "Sync"))
-    (choose (is_word (codes "Flatten")) false ((λ _. syncs.Flatten) <$> expect_word (codes "Flatten"))
-    (choose (is_word (codes "Desync")) false ((λ _. syncs.Desync) <$> expect_word (codes "Desync"))
-    ((λ _. syncs.FlatDesync) <$> expect_word (codes "FlatDesync"))))
+abbrev pub sync : Reader AstSync
+sync = token kinds.Word (λ place spelling. sync_of spelling)
 
 -- which of two words stands next: true for the first
 unfoldable pub either_word : List ℕ → List ℕ → Reader Bool
@@ -153,15 +152,17 @@ bits = expect kinds.OpenParen >> (whole << expect kinds.CloseParen)
 unfoldable pub part : Reader AstType → Reader AstPart
 part inner = (λ (p : AstName × AstType). roll-AstPart (record { name = p.0; ltype = p.1 })) <$> (name <&> (expect kinds.Colon >> inner))
 
+-- what follows the word of a type, by the reader of the types inside it
+abbrev pub type_after : Reader AstType → TypeWord → Reader AstType
+type_after inner words.Null = pure types.Null
+type_after inner words.Bits = types.Bits <$> bits
+type_after inner words.Group = types.Group <$> bracketed (part inner)
+type_after inner words.Union = types.Union <$> bracketed (part inner)
+type_after inner words.Stream = types.Stream <$> stream inner
+
 -- a type, by the reader of the types inside it
 unfoldable pub type_with : Reader AstType → Reader AstType
-type_with inner =
-    choose (is_word (codes "Null")) false ((λ _. types.Null) <$> expect_word (codes "Null"))
-    (choose (is_word (codes "Bits")) false (types.Bits <$> (expect_word (codes "Bits") >> bits))
-    (choose (is_word (codes "Group")) false (types.Group <$> (expect_word (codes "Group") >> bracketed (part inner)))
-    (choose (is_word (codes "Union")) false (types.Union <$> (expect_word (codes "Union") >> bracketed (part inner)))
-    (choose (is_word (codes "Stream")) false (types.Stream <$> (expect_word (codes "Stream") >> stream inner))
-    (types.Path <$> path)))))
+type_with inner = led type_word_at (type_after inner) (types.Path <$> path)
 
 -- a type of at most so many levels; one that stands inside as many others as are allowed is too deep
 unfoldable pub ltype : ℕ → Reader AstType

@@ -6,7 +6,7 @@ use Rattle.tydi_base.specs.declared.place.Place.{Place}
 use Rattle.tydi_reading.specs.Reading as steps
 use Rattle.tydi_reading.specs.Reading.{meant, rest_of}
 use Rattle.tydi_reading.specs.Lists.{mark}
-use Rattle.til_lexer.specs.Words.{has_name_form}
+use Rattle.tydi_base.specs.Name.{has_name_form}
 use Rattle.til_lexer.specs.contracts.token.TokenKind.{the_type}
 use Rattle.til_lexer.specs.declared.token.TokenKind.{TokenKind}
 use Rattle.til_lexer.specs.declared.token.TokenKind.TheVariants as kinds

@@ -18,6 +18,17 @@ pub record Settings : Type 0 where
   pub reverse : Bool
   pub keep : Bool
 
+-- those of a Stream
+abbrev pub settings_of : AstStream → Settings
+settings_of one = record {
+  throughput = one.throughput;
+  dims = one.dims;
+  sync = one.sync;
+  level = one.level;
+  reverse = one.reverse;
+  keep = one.keep;
+}
+
 -- a type, and the parts of a Group or a Union; a Stream's data type stands before its user type
 mutual
   pub data Ltype : Type 0 where

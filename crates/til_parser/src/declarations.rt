@@ -5,10 +5,10 @@ ghost use Rattle.til_parser.specs.ReadDecls as spec;
 ghost use Rattle.til_parser.specs.ReadTypes.{bracketed};
 ghost use Rattle.til_parser.specs.Reading as reading;
 ghost use Rattle.tydi_reading.specs.Lists.{repeated, separated};
-ghost use Rattle.tydi_reading.specs.Reading.{Reads};
+ghost use Rattle.tydi_reading.specs.Reading.{Reads, ReadsAlways};
 ghost use Rattle.til_lexer.specs.declared.token.TokenKind.TheVariants as kinds;
 
-use crate::keyword::Keyword;
+use crate::keyword::{Keyword, keyword_of};
 use crate::parser::Parser;
 use crate::tree::{
     Ast, AstBody, AstDecl, AstEnd, AstKind, AstName, AstNamespace, AstPort, AstPorts, AstStmt,
@@ -88,24 +88,19 @@ impl<'a> Parser<'a> {
         Ok(AstDecl { doc, name, kind })
     }
 
-    #[tactic(auto, unfolding(crate::specs::ReadDecls::keyword, tydi_reading::specs::Lists::mark))]
+    /// The word with which a declaration begins.
+    #[tactic(auto, unfolding(crate::specs::Reading::token))]
     fn keyword(&mut self) -> Result<Keyword, Fault>
-        ensures { Reads (spec.keyword self.old) result self.new }
+        ensures { ReadsAlways (spec.keyword self.old) result self.new }
     {
-        if self.eat_word("type") {
-            return Ok(Keyword::Type);
-        }
-        if self.eat_word("interface") {
-            return Ok(Keyword::Interface);
-        }
-        if self.eat_word("streamlet") {
-            return Ok(Keyword::Streamlet);
-        }
-        if self.eat_word("impl") {
-            return Ok(Keyword::Impl);
-        }
-        self.expect_word("test")?;
-        Ok(Keyword::Test)
+        let Some((_, spelling)) = self.next_of(TokenKind::Word) else {
+            return Err(Fault::Refused);
+        };
+        let Some(keyword) = keyword_of(spelling) else {
+            return Err(Fault::Refused);
+        };
+        self.skip();
+        Ok(keyword)
     }
 
     /// What follows the keyword and the name of a declaration, up to its semicolon.

@@ -1,3 +1,10 @@
+//! The words that tell what follows them.
+
+ghost use Rattle.std.specs.Prelude.{◌≡◌};
+ghost use Rattle.til_parser.specs.Words as spec;
+
+use crate::ltype::AstSync;
+
 /// The word with which a declaration begins.
 #[derive(Clone, Copy, Debug, PartialEq, Eq)]
 pub(crate) enum Keyword {
@@ -6,4 +13,72 @@ pub(crate) enum Keyword {
     Streamlet,
     Impl,
     Test,
+}
+
+/// The word with which a type begins that is no path.
+#[derive(Clone, Copy, Debug, PartialEq, Eq)]
+pub(crate) enum TypeWord {
+    Null,
+    Bits,
+    Group,
+    Union,
+    Stream,
+}
+
+/// The keyword that a word is.
+#[tactic(auto, unfolding(crate::specs::Words::keyword_of))]
+pub(crate) fn keyword_of(word: &str) -> Option<Keyword>
+    ensures { result ≡ spec.keyword_of word.now }
+{
+    if word == "type" {
+        Some(Keyword::Type)
+    } else if word == "interface" {
+        Some(Keyword::Interface)
+    } else if word == "streamlet" {
+        Some(Keyword::Streamlet)
+    } else if word == "impl" {
+        Some(Keyword::Impl)
+    } else if word == "test" {
+        Some(Keyword::Test)
+    } else {
+        None
+    }
+}
+
+/// The word of a type that a word is.
+#[tactic(auto, unfolding(crate::specs::Words::type_word_of))]
+pub(crate) fn type_word_of(word: &str) -> Option<TypeWord>
+    ensures { result ≡ spec.type_word_of word.now }
+{
+    if word == "Null" {
+        Some(TypeWord::Null)
+    } else if word == "Bits" {
+        Some(TypeWord::Bits)
+    } else if word == "Group" {
+        Some(TypeWord::Group)
+    } else if word == "Union" {
+        Some(TypeWord::Union)
+    } else if word == "Stream" {
+        Some(TypeWord::Stream)
+    } else {
+        None
+    }
+}
+
+/// The synchronicity that a word is.
+#[tactic(auto, unfolding(crate::specs::Words::sync_of))]
+pub(crate) fn sync_of(word: &str) -> Option<AstSync>
+    ensures { result ≡ spec.sync_of word.now }
+{
+    if word == "Sync" {
+        Some(AstSync::Sync)
+    } else if word == "Flatten" {
+        Some(AstSync::Flatten)
+    } else if word == "Desync" {
+        Some(AstSync::Desync)
+    } else if word == "FlatDesync" {
+        Some(AstSync::FlatDesync)
+    } else {
+        None
+    }
 }

@@ -1,14 +1,30 @@
 //! The laws of trees and their texts.
 
-ghost use Rattle.til_parser.specs.Laws.{TreesAreApart, TreesAreReadAsPrinted};
+ghost use Rattle.til_parser.specs.Faults.{TreesOrFaults};
+ghost use Rattle.til_parser.specs.Laws.{PlacesAreLeftOut, TreesAreApart, TreesAreReadAsPrinted, TreesHaveTheirForm};
 
 /// The law of trees: no text spells two trees.
 pub fn trees_are_apart()
     ensures { TreesAreApart }
 {}
 
-/// The law of printing: the canonical text of a tree that a text spells is a text of that tree again, places aside, and its types
-/// nest no deeper.
+/// The law of faults: the tokens of a text spell a tree whose types nest at most 64 deep, or they have one fault, and not both.
+pub fn trees_or_faults()
+    ensures { TreesOrFaults }
+{}
+
+/// The law of the form of trees: the tree of a text has the form that `IsTree` says of the tree alone.
+pub fn trees_have_their_form()
+    ensures { TreesHaveTheirForm }
+{}
+
+/// The law of places: trees that are the same, places aside, have one canonical text, and are spellable together.
+pub fn places_are_left_out()
+    ensures { PlacesAreLeftOut }
+{}
+
+/// The law of printing: the canonical text of a tree that is, its places aside, the tree of some text, is a text of that tree again,
+/// places aside, and its types nest no deeper.
 pub fn trees_are_read_as_printed()
     ensures { TreesAreReadAsPrinted }
 {}

@@ -1,21 +1,21 @@
 //! Names, numbers, quoted text, documentation and paths.
 
-ghost use Rattle.std.specs.Prelude.{◌≡◌, ◌+◌, ◌*◌, ◌^◌, ◌≤◌, ◌⊎◌, length, IsTrue};
+ghost use Rattle.std.specs.Prelude.{◌≡◌, ◌+◌, ◌*◌, ◌^◌, ◌≤◌, ◌⊎◌, [], length, IfOk, IsTrue};
 ghost use Rattle.std.specs.Char.{is_ascii_digit};
 ghost use Rattle.std.specs.List.{list_all};
-ghost use Rattle.til_lexer.specs.Spans as spans;
 ghost use Rattle.til_lexer.specs.Spelling.{HasForm};
 ghost use Rattle.til_lexer.specs.declared.token.TokenKind.TheVariants as kinds;
 ghost use Rattle.til_parser.specs.Lexemes.{between_marks};
 ghost use Rattle.til_parser.specs.Numbers.{whole_of, numerator_of, denominator_of, lowest};
 ghost use Rattle.til_parser.specs.ReadTypes as spec;
-ghost use Rattle.tydi_reading.specs.Reading.{Reads};
+ghost use Rattle.tydi_reading.specs.Reading.{Reads, ReadsAlways};
 ghost use Rattle.tydi_base.specs.Decimal.{read_on};
 
 use crate::parser::Parser;
 use crate::tree::{AstName, AstPath};
-use til_lexer::TokenKind;
-use tydi_base::{Frac, Level, List, Name, Text, number_of_digits};
+use std::alloc::Global;
+use til_lexer::{TokenKind, digits_at};
+use tydi_base::{Frac, Level, List, Memory, Name, Text, number_of_digits};
 use tydi_reading::Fault;
 
 impl<'a> Parser<'a> {
@@ -37,7 +37,7 @@ impl<'a> Parser<'a> {
     /// `whole`: a number without a point.
     #[tactic(auto, unfolding(crate::specs::Reading::token))]
     pub(crate) fn whole(&mut self) -> Result<u64, Fault>
-        ensures { Reads (spec.whole self.old) result self.new }
+        ensures { ReadsAlways (spec.whole self.old) result self.new }
     {
         let Some((_, spelling)) = self.next_of(TokenKind::Number) else {
             return Err(Fault::Refused);
@@ -52,7 +52,7 @@ impl<'a> Parser<'a> {
     /// A whole number from 1 to 8.
     #[tactic(auto, unfolding(crate::specs::Reading::token))]
     pub(crate) fn level(&mut self) -> Result<Level, Fault>
-        ensures { Reads (spec.level self.old) result self.new }
+        ensures { ReadsAlways (spec.level self.old) result self.new }
     {
         let Some((_, spelling)) = self.next_of(TokenKind::Number) else {
             return Err(Fault::Refused);
@@ -67,7 +67,7 @@ impl<'a> Parser<'a> {
     /// `number`, as a fraction in lowest terms.
     #[tactic(auto, unfolding(crate::specs::Reading::token))]
     pub(crate) fn number(&mut self) -> Result<Frac, Fault>
-        ensures { Reads (spec.number self.old) result self.new }
+        ensures { ReadsAlways (spec.number self.old) result self.new }
     {
         let Some((_, spelling)) = self.next_of(TokenKind::Number) else {
             return Err(Fault::Refused);
@@ -108,13 +108,20 @@ impl<'a> Parser<'a> {
     pub(crate) fn path(&mut self) -> Result<AstPath, Fault>
         ensures { Reads (spec.path self.old) result self.new }
     {
-        let mut names = List::new(self.alloc());
+        let mut names = room_for_one(self.alloc())?;
         names.push(self.name()?)?;
         'names: while self.eat(TokenKind::DoubleColon) {
             names.push(self.name()?)?;
         }
         Ok(AstPath { names })
     }
+}
+
+/// An empty list with room for one thing, where one alone is what most lists have.
+fn room_for_one<T>(alloc: Global) -> Result<List<T>, Memory>
+    ensures { IfOk result (λ list. list ≡ []) }
+{
+    Ok(List::from_vec(Vec::with_capacity(alloc, 1)?))
 }
 
 /// The whole number that a number spells, if it has no point.
@@ -157,21 +164,6 @@ fn fraction_of(spelling: &str) -> Frac
     let behind = &bytes[(point + 1).min(bytes.len())..];
     let numerator = with_digits(whole, behind);
     Frac::new(numerator, 10u64.pow(behind.len() as u32)).unwrap()
-}
-
-/// How many digits begin a text.
-fn digits_at(bytes: &[u8]) -> usize
-    ensures value { result ≡ spans.digits_at bytes.now }
-    ensures within { result ≤ length bytes.now }
-{
-    let mut count = 0;
-    'bytes: for byte in bytes {
-        if !byte.is_ascii_digit() {
-            return count;
-        }
-        count += 1;
-    }
-    count
 }
 
 /// The number that these digits spell after those of a number, where all that many digits spell fits.

@@ -6,8 +6,10 @@ ghost use Rattle.til_lexer.specs.Spelling.{HasForm, own_text};
 ghost use Rattle.til_parser.specs.Lexemes.{Lexeme, HasFormIn, lexemes_of};
 ghost use Rattle.til_parser.specs.Reading as spec;
 ghost use Rattle.til_parser.specs.declared.ltype.AstType.{AstType};
-ghost use Rattle.tydi_reading.specs.Reading.{Outcome, Reads, rest_of, stopped, tells, too_deep};
+ghost use Rattle.tydi_reading.specs.Reading.{Outcome, ReadsAlways, rest_of, stopped, tells, told_by, too_deep};
+ghost use Rattle.til_parser.specs.Words.{type_word_at};
 
+use crate::keyword::{TypeWord, type_word_of};
 use std::alloc::Global;
 use std::marker::Model;
 use til_lexer::{Token, TokenKind};
@@ -102,6 +104,18 @@ impl<'a> Parser<'a> {
         }
     }
 
+    /// The word of a type that stands next, if one does.
+    pub(crate) fn type_word(&self) -> Option<TypeWord>
+        ensures { result ≡ told_by type_word_at self.now }
+    {
+        match self.rest {
+            [next, ..] if same_kind(next.kind, TokenKind::Word) => {
+                type_word_of(spelling(self.text, next))
+            }
+            _ => None,
+        }
+    }
+
     /// Takes the next token, where there is one.
     pub(crate) fn skip(&mut self)
         ensures { self.new ≡ rest_of self.old }
@@ -138,7 +152,7 @@ impl<'a> Parser<'a> {
     /// Takes the next token, which is to be of this kind.
     #[tactic(auto, unfolding(tydi_reading::specs::Lists::mark))]
     pub(crate) fn expect(&mut self, kind: TokenKind) -> Result<(), Fault>
-        ensures { Reads (spec.expect kind self.old) result self.new }
+        ensures { ReadsAlways (spec.expect kind self.old) result self.new }
     {
         if !self.sees(kind) {
             return Err(Fault::Refused);
@@ -150,7 +164,7 @@ impl<'a> Parser<'a> {
     /// Takes the next token, which is to be this word.
     #[tactic(auto, unfolding(tydi_reading::specs::Lists::mark))]
     pub(crate) fn expect_word(&mut self, word: &str) -> Result<(), Fault>
-        ensures { Reads (spec.expect_word word.now self.old) result self.new }
+        ensures { ReadsAlways (spec.expect_word word.now self.old) result self.new }
     {
         if !self.sees_word(word) {
             return Err(Fault::Refused);

@@ -4,7 +4,7 @@ ghost use Rattle.std.specs.Prelude.{◌≡◌, ◌≢◌, Ok, IfOk, IfErr, lengt
 ghost use Rattle.til_lexer.specs.Tokens.{tokens_of};
 ghost use Rattle.til_parser.specs.declared.fault.ParseFault.TheVariants as faults;
 ghost use Rattle.til_parser.specs.Faults as spec;
-ghost use Rattle.til_parser.specs.Faults.{NamesToken, IsFaultOf};
+ghost use Rattle.til_parser.specs.Faults.{NamesToken, IsFaultOf, IsTold};
 ghost use Rattle.til_parser.specs.Grammar.{Spells, SpellNone, IsWithin, most_levels};
 ghost use Rattle.til_parser.specs.Lexemes.{lexemes_of};
 
@@ -20,14 +20,16 @@ const MOST_LEVELS: usize = 64;
 
 /// The tree that the tokens of a text spell, as `lex` gives them, with the places of its names; its types nest at most 64 deep.
 /// Apart from `Memory` it fails exactly where the tokens spell no such tree, and the error says why: see `ParseFault`. Where it names
-/// a token, it is one of `tokens`.
+/// a token, it is one of `tokens`. What each fault says is said by the texts of the language alone (`IsFaultOf`): tokens have one fault at
+/// most, and are told no other.
 pub fn parse(alloc: Global, text: &str, tokens: &[Token]) -> Result<Ast, ParseFault>
     requires { tokens_of text.now ≡ Ok tokens.now }
     ensures spelled { IfOk result (λ ast. Spells ast (lexemes_of text.now tokens.now)) }
     ensures within { IfOk result (λ ast. IsWithin most_levels ast) }
     ensures none { IfErr result (λ fault. fault ≢ faults.Memory → SpellNone (lexemes_of text.now tokens.now)) }
     ensures named { IfErr result (NamesToken (length tokens.now)) }
-    ensures exact { IfErr result (IsFaultOf (lexemes_of text.now tokens.now)) }
+    ensures exact { IfErr result (λ fault. fault ≢ faults.Memory → IsFaultOf (lexemes_of text.now tokens.now) fault) }
+    ensures told { IsTold (lexemes_of text.now tokens.now) result }
 {
     tokens_are_of_the_text();
     tokens_have_their_form();

@@ -3,6 +3,8 @@
 ghost use Rattle.std.specs.Prelude.{◌≡◌, ◌++◌, IfOk, OnErr, OnOk, codes, map};
 ghost use Rattle.std.specs.List.{flat_map};
 ghost use Rattle.til_parser.specs.Canonical as spec;
+ghost use Rattle.til_parser.specs.Laws.{IsReadAgain};
+ghost use Rattle.til_parser.specs.Trees.{IsSpellable};
 ghost use Rattle.til_parser.specs.Grammar.{direction_word, sync_word, truth_word, way_word};
 ghost use Rattle.til_parser.specs.Tree.{plain, plain_of_part, plain_of_stream};
 ghost use Rattle.tydi_base.specs.Writing.{StandsInFront};
@@ -15,9 +17,11 @@ use crate::written::{Doc, DocLine, EachAfter, FewestDigits, Quoted};
 use std::alloc::Global;
 use tydi_base::{Each, List, Memory, Written, emit};
 
-/// The canonical text of a tree, or `Memory` where there is none for it. A Stream shows all its arguments, and no place is shown.
+/// The canonical text of a tree, or `Memory` where there is none for it. A Stream shows all its arguments, and no place is shown. Where
+/// the tree is, its places aside, that of some text (`IsSpellable`), the canonical text spells it again.
 pub fn print(alloc: Global, ast: &Ast) -> Result<List<u8>, Memory>
-    ensures { IfOk result (λ text. text ≡ spec.canonical ast.now) }
+    ensures text { IfOk result (λ text. text ≡ spec.canonical ast.now) }
+    ensures again { IfOk result (λ text. IsSpellable ast.now → IsReadAgain text ast.now) }
 {
     let mut text = List::new(alloc);
     emit!(text; Each(ast.namespaces.as_slice()))?;

@@ -4,10 +4,11 @@ ghost use Rattle.std.specs.Prelude.{◌≡◌, false};
 ghost use Rattle.til_parser.specs.ReadTypes as spec;
 ghost use Rattle.til_parser.specs.Reading as reading;
 ghost use Rattle.tydi_reading.specs.Lists.{separated};
-ghost use Rattle.tydi_reading.specs.Reading.{Reads, rest_of};
+ghost use Rattle.tydi_reading.specs.Reading.{Reads, ReadsAlways, rest_of};
 ghost use Rattle.til_lexer.specs.declared.token.TokenKind.TheVariants as kinds;
 
 use crate::arguments::Arguments;
+use crate::keyword::{TypeWord, sync_of};
 use crate::ltype::{AstPart, AstStream, AstSync, AstType};
 use crate::parser::Parser;
 use til_lexer::TokenKind;
@@ -17,30 +18,37 @@ use tydi_reading::Fault;
 impl<'a> Parser<'a> {
     /// `type`, of at most so many levels.
     #[cycle(ltype)]
-    #[tactic(auto, unfolding(crate::specs::ReadTypes::ltype, tydi_reading::specs::Lists::mark))]
+    #[tactic(auto, unfolding(crate::specs::ReadTypes::ltype))]
     pub(crate) fn ltype(&mut self, levels: usize) -> Result<AstType, Fault>
         ensures { Reads (spec.ltype levels self.old) result self.new }
     {
         if levels == 0 {
             return Err(self.too_deep());
         }
-        if self.eat_word("Null") {
-            return Ok(AstType::Null);
+        match self.type_word() {
+            Some(word) => {
+                self.skip();
+                self.type_after(word, levels - 1)
+            }
+            None => Ok(AstType::Path(self.path()?)),
         }
-        if self.eat_word("Bits") {
-            return Ok(AstType::Bits(self.bits()?));
+    }
+
+    /// What follows the word of a type, whose types inside have at most so many levels.
+    #[cycle(ltype)]
+    fn type_after(&mut self, word: TypeWord, levels: usize) -> Result<AstType, Fault>
+        ensures { Reads (spec.type_after (spec.ltype levels) word self.old) result self.new }
+    {
+        match word {
+            TypeWord::Null => Ok(AstType::Null),
+            TypeWord::Bits => Ok(AstType::Bits(self.bits()?)),
+            TypeWord::Group => Ok(AstType::Group(self.parts(levels)?)),
+            TypeWord::Union => Ok(AstType::Union(self.parts(levels)?)),
+            TypeWord::Stream => {
+                let stream = self.stream(levels)?;
+                Ok(AstType::Stream(Boxed::new(self.alloc(), stream)?))
+            }
         }
-        if self.eat_word("Group") {
-            return Ok(AstType::Group(self.parts(levels - 1)?));
-        }
-        if self.eat_word("Union") {
-            return Ok(AstType::Union(self.parts(levels - 1)?));
-        }
-        if self.eat_word("Stream") {
-            let stream = self.stream(levels - 1)?;
-            return Ok(AstType::Stream(Boxed::new(self.alloc(), stream)?));
-        }
-        Ok(AstType::Path(self.path()?))
     }
 
     /// `"(" [ part { "," part } [ "," ] ] ")"`, of types of at most so many levels.
@@ -142,7 +150,7 @@ impl<'a> Parser<'a> {
     /// An argument whose value holds no type.
     #[tactic(auto, unfolding(crate::specs::ReadTypes::setting, crate::specs::ReadTypes::labelled))]
     fn setting(&mut self, given: Arguments) -> Result<Arguments, Fault>
-        ensures { Reads (spec.setting given self.old) result self.new }
+        ensures { ReadsAlways (spec.setting given self.old) result self.new }
     {
         if self.awaits("dimensionality", &given.dims) {
             self.label()?;
@@ -181,33 +189,31 @@ impl<'a> Parser<'a> {
 
     /// The name of an argument, and the colon after it.
     fn label(&mut self) -> Result<(), Fault>
-        ensures { Reads (reading.expect kinds.Colon (rest_of self.old)) result self.new }
+        ensures { ReadsAlways (reading.expect kinds.Colon (rest_of self.old)) result self.new }
     {
         self.skip();
         self.expect(TokenKind::Colon)
     }
 
-    #[tactic(auto, unfolding(crate::specs::ReadTypes::sync, tydi_reading::specs::Lists::mark))]
+    /// A synchronicity.
+    #[tactic(auto, unfolding(crate::specs::Reading::token))]
     fn sync(&mut self) -> Result<AstSync, Fault>
-        ensures { Reads (spec.sync self.old) result self.new }
+        ensures { ReadsAlways (spec.sync self.old) result self.new }
     {
-        if self.eat_word("Sync") {
-            return Ok(AstSync::Sync);
-        }
-        if self.eat_word("Flatten") {
-            return Ok(AstSync::Flatten);
-        }
-        if self.eat_word("Desync") {
-            return Ok(AstSync::Desync);
-        }
-        self.expect_word("FlatDesync")?;
-        Ok(AstSync::FlatDesync)
+        let Some((_, spelling)) = self.next_of(TokenKind::Word) else {
+            return Err(Fault::Refused);
+        };
+        let Some(sync) = sync_of(spelling) else {
+            return Err(Fault::Refused);
+        };
+        self.skip();
+        Ok(sync)
     }
 
     /// Which of two words stands next: true for the first.
     #[tactic(auto, unfolding(crate::specs::ReadTypes::either_word, tydi_reading::specs::Lists::mark))]
     pub(crate) fn either_word(&mut self, first: &str, second: &str) -> Result<bool, Fault>
-        ensures { Reads (spec.either_word first.now second.now self.old) result self.new }
+        ensures { ReadsAlways (spec.either_word first.now second.now self.old) result self.new }
     {
         if self.eat_word(first) {
             return Ok(true);
@@ -219,7 +225,7 @@ impl<'a> Parser<'a> {
     /// `"(" whole ")"`
     #[tactic(auto, unfolding(crate::specs::ReadTypes::bits))]
     fn bits(&mut self) -> Result<u64, Fault>
-        ensures { Reads (spec.bits self.old) result self.new }
+        ensures { ReadsAlways (spec.bits self.old) result self.new }
     {
         self.expect(TokenKind::OpenParen)?;
         let width = self.whole()?;

@@ -2,13 +2,13 @@
 
 ghost use Rattle.std.specs.Prelude.{◌≡◌, ◌++◌, ◌<◌, ◌*◌, ◌/◌, ◌%◌, OnErr, OnOk};
 ghost use Rattle.std.specs.List.{flat_map};
-ghost use Rattle.til_parser.specs.Canonical.{behind_point, digits_of_rest, doc_line, doc_text, names_text, number_text, quoted_text};
+ghost use Rattle.til_parser.specs.Canonical.{behind_point, digits_of_rest, doc_line, doc_text, most_digits, names_text, number_text, quoted_text};
 ghost use Rattle.tydi_base.specs.Writing.{StandsInFront};
 
 use crate::tree::{AstName, AstPath};
 use tydi_base::{Frac, List, Memory, Text, Written, emit};
 
-/// The most digits behind the point of a number.
+/// The most digits behind the point: a number of a text has no more, so long division ends by then.
 const MOST_DIGITS: usize = 18;
 
 impl Written for AstName {
@@ -105,7 +105,7 @@ impl Written for FewestDigits {
 /// A point and the digits of what is left of a division; nothing where nothing is left.
 fn write_behind_point(rest: u64, den: u64, out: &mut List<u8>) -> Result<(), Memory>
     requires { rest < den }
-    ensures ok { OnOk result (out.new ≡ out.old ++ behind_point (digits_of_rest 18 rest den)) }
+    ensures ok { OnOk result (out.new ≡ out.old ++ behind_point (digits_of_rest most_digits rest den)) }
     ensures err { OnErr result (StandsInFront out.old out.new) }
 {
     if rest == 0 {
@@ -118,7 +118,7 @@ fn write_behind_point(rest: u64, den: u64, out: &mut List<u8>) -> Result<(), Mem
 /// The digits behind the point of what is left of a division, by long division, up to where nothing is left.
 fn write_digits(rest: u64, den: u64, out: &mut List<u8>) -> Result<(), Memory>
     requires { rest < den }
-    ensures ok { OnOk result (out.new ≡ out.old ++ digits_of_rest 18 rest den) }
+    ensures ok { OnOk result (out.new ≡ out.old ++ digits_of_rest most_digits rest den) }
     ensures err { OnErr result (StandsInFront out.old out.new) }
 {
     let mut rest = rest;

@@ -1,7 +1,8 @@
 -- A rule that takes all: its faults are those that its form alone says.
-use Rattle.std.proofs.Common.{◌≡◌, ℕ, suc, ◌+◌, ⊎_elim, List, [], ◌∷◌, ◌++◌, All, length, take, drop, refl, sym, ap, ◌∙◌, subst, arith, append_assoc}
+use Rattle.std.proofs.Common.{◌≡◌, ℕ, zero, suc, ◌+◌, ◌<◌, ◌≤◌, ⊎_elim, List, [], ◌∷◌, ◌++◌, All, length, take, drop, refl, sym, ap, ◌∙◌, subst, arith, append_assoc}
 use Rattle.std.proofs.lemmas.List.{append-nil, length-append, length-drop, take-append-drop}
 use Rattle.std.proofs.lemmas.List.Elements.{All-append, All-cons, All-head}
+use Rattle.std.proofs.Math.Nat.{lt_of_not-le}
 use Rattle.std.proofs.Math.Seq.{take-append_seam}
 use Rattle.tydi_reading.specs.declared.fault.Fault.{Fault}
 use Rattle.tydi_reading.specs.declared.fault.Fault.TheVariants as faults
@@ -103,3 +104,45 @@ module _ {T A : Type 0} (Good : T → Type 0) (read : Reader T A) (Spelled : A �
   -- a fault in memory is never one of the things
   pub memory-never : (ts rest : List T) → read ts ≡ stopped faults.Memory rest → ⊥
   memory-never ts rest is = rule.finishes ts rest faults.Memory is
+
+-- ---- things have one fault
+
+split-take : {T : Type 0} (i j : ℕ) (ts : List T) → i ≤ j → (more : List T) × (take j ts ≡ take i ts ++ more)
+split-take zero j ts le = (take j ts, refl)
+split-take (suc i) zero ts le = absurd (omega arith)
+split-take (suc i) (suc j) [] le = ([], refl)
+split-take (suc i) (suc j) (t ∷ ts) le = let m = split-take i j ts (omega arith) in (m.0, ap (λ l. t ∷ l) m.1)
+
+module _ {T A : Type 0} (Good : T → Type 0) (Spelled : A → Form T) (Deep : Form T) where
+  -- what goes on does not reach past a thing that is refused
+  refused-last : (k j : ℕ) (ts : List T) → All Good ts → IsRefusedAt Good Spelled Deep k ts → suc k ≤ j → GoesOn Good Spelled (take j ts) → ⊥
+  refused-last k j ts good r le g =
+      let m = split-take (suc k) j ts le in
+      let front = All-front Good ts (take j ts) (drop j ts) (sym (take-append-drop j ts)) good in
+      let back = All-back Good (take j ts) (take (suc k) ts) m.0 m.1 front in
+      r.ends g.value (m.0 ++ g.more) (All-append Good m.0 g.more back g.good)
+      (subst (Spelled g.value) (ap (λ l. l ++ g.more) m.1 ∙ append_assoc (take (suc k) ts) m.0 g.more) g.spelled)
+
+  pub refused-one : (k j : ℕ) (ts : List T) → All Good ts → IsRefusedAt Good Spelled Deep k ts → IsRefusedAt Good Spelled Deep j ts → k ≡ j
+  refused-one k j ts good r s =
+      let one : j < suc k = lt_of_not-le {n = suc k} {m = j} (λ le. refused-last k j ts good r le s.goes) in
+      let other : k < suc j = lt_of_not-le {n = suc j} {m = k} (λ le. refused-last j k ts good s le r.goes) in
+      omega arith
+
+  pub refused-cut_off : (k : ℕ) (ts : List T) → All Good ts → IsRefusedAt Good Spelled Deep k ts → IsCutOff Good Spelled Deep ts → ⊥
+  refused-cut_off k ts good r c =
+      let whole : take (length ts) ts ≡ ts = ap (take (length ts)) (sym (append-nil ts)) ∙ take-append_seam ts [] in
+      refused-last k (length ts) ts good r (omega (arith, r.there)) (subst (GoesOn Good Spelled) (sym whole) c.goes)
+
+  pub refused-too_deep : (k j : ℕ) (ts : List T) → All Good ts → IsRefusedAt Good Spelled Deep k ts → IsTooDeepAt Good Spelled Deep j ts → ⊥
+  refused-too_deep k j ts good r d =
+      r.shallow j (lt_of_not-le {n = k} {m = j} (λ le. refused-last k (suc j) ts good r (omega (arith, le)) d.goes)) d.deep
+
+  pub cut_off-too_deep : (j : ℕ) (ts : List T) → IsCutOff Good Spelled Deep ts → IsTooDeepAt Good Spelled Deep j ts → ⊥
+  cut_off-too_deep j ts c d = c.shallow j d.there d.deep
+
+  pub too_deep-one : (k j : ℕ) (ts : List T) → IsTooDeepAt Good Spelled Deep k ts → IsTooDeepAt Good Spelled Deep j ts → k ≡ j
+  too_deep-one k j ts d e =
+      let one : j < suc k = lt_of_not-le {n = suc k} {m = j} (λ le. e.shallow k (omega (arith, le)) d.deep) in
+      let other : k < suc j = lt_of_not-le {n = suc j} {m = k} (λ le. d.shallow j (omega (arith, le)) e.deep) in
+      omega arith

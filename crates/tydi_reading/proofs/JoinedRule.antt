@@ -3,12 +3,12 @@ use Rattle.std.proofs.Common.{◌≡◌, Bool, true, false, cond, List, [], ◌�
 use Rattle.std.specs.Prelude.{not}
 use Rattle.std.proofs.lemmas.List.{append-nil, length-append}
 use Rattle.tydi_reading.specs.Forms.{Form, ◌⋯◌, Never, Anything}
-use Rattle.tydi_reading.specs.Lists.{Each, EachIs, mark, Joined, repeated_turn, joined_turn, joined}
+use Rattle.tydi_reading.specs.Lists.{Each, EachTo, EachIs, mark, Joined, repeated_turn, joined_turn, joined}
 use Rattle.tydi_reading.specs.Reading.{Outcome, Reader, took, stopped, and_then, Turn, again, done, pure, choose, tells, ◌>>◌, ◌<$>◌, loop}
 use Rattle.tydi_reading.specs.Rules.{IsRule}
 use Rattle.tydi_reading.proofs.MarkLemmas.{IsMark, Mark-filled, mark-rule}
 use Rattle.tydi_reading.proofs.MarkRules.{skip-rule}
-use Rattle.tydi_reading.proofs.RepeatedRule.{Adds, Repeats, repeated_from-rule, EachDeep}
+use Rattle.tydi_reading.proofs.RepeatedRule.{Adds, Repeats, repeated_from-rule}
 use Rattle.tydi_reading.proofs.StepRules.{then-rule, read-rule}
 
 module _ {T A : Type 0} (Good : T → Type 0) (joins : T → Bool) (Joint : Form T) (item : Reader T A) (Item : A → Form T) (m : IsMark Good joins Joint)
@@ -115,7 +115,7 @@ module _ {T A : Type 0} (Good : T → Type 0) (joins : T → Bool) (Joint : Form
   joined-rule =
       then-rule Good item (λ x. loop (joined_turn joins item) (x ∷ [])) Item (λ _. Anything) (λ _. Unit {0}) Never
       (λ x. Adds (Each More) (x ∷ [])) (λ _ _ rest. tells (λ t. not (joins t)) true rest ≡ true) (λ _. EachIs (λ _. Unit {0}))
-      (λ _. EachDeep Good (λ t. not (joins t)) true (mark joins >> item) More (λ _. Unit {0}) (Joint ⋯ Never) repeats more-rule)
+      (λ _. EachTo More (Joint ⋯ Never))
       (Joined Joint Item) (λ _ rest. tells (λ t. not (joins t)) true rest ≡ true) (λ _. Unit {0}) Never
       (record {
         join = λ x all front back s a. subst (λ l. Joined Joint Item l (front ++ back)) (sym a.added) (joined-of a.items x front back (front ++ back) refl s a.spelled);
@@ -132,5 +132,5 @@ module _ {T A : Type 0} (Good : T → Type 0) (joins : T → Bool) (Joint : Form
       rule
       (λ x. read-rule Good (loop (repeated_turn (λ t. not (joins t)) true (mark joins >> item)) (x ∷ [])) (loop (joined_turn joins item) (x ∷ []))
       (Adds (Each More) (x ∷ [])) (λ _ rest. tells (λ t. not (joins t)) true rest ≡ true) (EachIs (λ _. Unit {0}))
-      (EachDeep Good (λ t. not (joins t)) true (mark joins >> item) More (λ _. Unit {0}) (Joint ⋯ Never) repeats more-rule) (loop-same x)
+      (EachTo More (Joint ⋯ Never)) (loop-same x)
       (repeated_from-rule Good (λ t. not (joins t)) true (mark joins >> item) More (λ _. Unit {0}) (Joint ⋯ Never) repeats more-rule (x ∷ []) (each_unit (x ∷ []))))

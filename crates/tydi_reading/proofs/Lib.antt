@@ -12,3 +12,5 @@ pub mod SeparatedRule
 pub mod JoinedRule
 pub mod CheckedRule
 pub mod FilledLemmas
+pub mod LedRule
+pub mod Example

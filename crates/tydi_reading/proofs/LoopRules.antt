@@ -3,7 +3,7 @@ use Rattle.std.proofs.Common.{◌≡◌, ℕ, zero, suc, ◌<◌, inl, inr, ⊎_
 use Rattle.std.proofs.lemmas.List.{append-nil, length-append}
 use Rattle.std.proofs.lemmas.List.Elements.{All-nil}
 use Rattle.tydi_reading.specs.declared.fault.Fault.{Fault}
-use Rattle.tydi_reading.specs.Forms.{Form, Never, GoesOn, Runs, Loop, RunsDeep, LoopDeep}
+use Rattle.tydi_reading.specs.Forms.{Form, Never, GoesOn, Runs, Loop, RunsTo, LoopTo}
 use Rattle.tydi_reading.specs.Reading.{Outcome, took, stopped, Reader, and_then, ◌>>=◌, Turn, again, done, turned, loop}
 use Rattle.tydi_reading.specs.Rules.{Local, Found, Reached, Finishes, Stops, IsRule}
 use Rattle.tydi_reading.proofs.LoopLemmas.{Advances, loop_unfolds}
@@ -19,7 +19,7 @@ pub record Turns {T S : Type 0} (Good : T → Type 0) (turn : S → Reader T (Tu
   pub ends : (s end : S) (front rest : List T) → Spelled s (done end) front → Next end rest → Follow s (done end) rest
   pub goes : (s next end : S) (front back rest : List T) → Spelled s (again next) front → Loop Spelled next end back → Next end rest
       → Follow s (again next) (back ++ rest)
-  pub goes_deep : (s next : S) (front back rest : List T) → Spelled s (again next) front → LoopDeep Spelled Deep next back
+  pub goes_deep : (s next : S) (front back rest : List T) → Spelled s (again next) front → LoopTo Spelled Deep next back
       → Follow s (again next) (back ++ rest)
   pub within_again : (s next : S) (front : List T) → Spelled s (again next) front → Inside s (again next) → Within s → Within next
   pub within_done : (s end : S) (front : List T) → Spelled s (done end) front → Inside s (done end) → Within s → Within end
@@ -47,7 +47,7 @@ module _ {T S : Type 0} (Good : T → Type 0) (turn : S → Reader T (Turn S)) (
   More (done x) end = Only x end
 
   abbrev Last : Turn S → Form T
-  Last (again next) = LoopDeep Spelled Deep next
+  Last (again next) = LoopTo Spelled Deep next
   Last (done x) = Never
 
   join : (s : S) (t : Turn S) (end : S) (front back : List T) → Spelled s t front → More t end back → Loop Spelled s end (front ++ back)
@@ -56,7 +56,7 @@ module _ {T S : Type 0} (Good : T → Type 0) (turn : S → Reader T (Turn S)) (
       let at_end = subst (λ y. Spelled s (done y) front) (sym more.0) spelled in
       (1, inl (subst (Spelled s (done end)) (sym (ap (λ l. front ++ l) more.1 ∙ append-nil front)) at_end))
 
-  join_deep : (s : S) (t : Turn S) (front back : List T) → Spelled s t front → Last t back → LoopDeep Spelled Deep s (front ++ back)
+  join_deep : (s : S) (t : Turn S) (front back : List T) → Spelled s t front → Last t back → LoopTo Spelled Deep s (front ++ back)
   join_deep s (again next) front back spelled last = (suc last.0, inr (next, record { front = front; back = back; all = refl; begins = spelled; ends = last.1 }))
   join_deep s (done x) front back spelled last = absurd last
 
@@ -132,10 +132,10 @@ module _ {T S : Type 0} (Good : T → Type 0) (turn : S → Reader T (Turn S)) (
       runs
 
   finishes-loop : (n : ℕ) (s : S) (ts : List T) → length ts < n → (rest : List T) (e : Fault) → loop turn s ts ≡ stopped e rest
-      → Finishes Good (Loop Spelled s) (LoopDeep Spelled Deep s) ts rest e
+      → Finishes Good (Loop Spelled s) (LoopTo Spelled Deep s) ts rest e
   finishes-loop zero s ts few rest e is = absurd (omega arith)
   finishes-loop (suc n) s ts few rest e is =
-      finishes-then (Spelled s) More (Loop Spelled s) (join s) Good (Inside s) (Deep s) Last (LoopDeep Spelled Deep s) (λ front d. (1, inl d)) (join_deep s)
+      finishes-then (Spelled s) More (Loop Spelled s) (join s) Good (Inside s) (Deep s) Last (LoopTo Spelled Deep s) (λ front d. (1, inl d)) (join_deep s)
       examples (turned (loop turn)) ts (turn s ts)
       (λ rest t made. (turns.rule s).sound ts rest t made)
       (λ rest e made. (turns.rule s).finishes ts rest e made)
@@ -149,13 +149,13 @@ module _ {T S : Type 0} (Good : T → Type 0) (turn : S → Reader T (Turn S)) (
       differ x middle rest e is = cc
 
       of_turn : ((next : S) (us : List T) → length us < n → (rest : List T) (e : Fault) → loop turn next us ≡ stopped e rest
-          → Finishes Good (Loop Spelled next) (LoopDeep Spelled Deep next) us rest e)
+          → Finishes Good (Loop Spelled next) (LoopTo Spelled Deep next) us rest e)
           → (middle rest : List T) (t : Turn S) (e : Fault) → turn s ts ≡ took t middle → turned (loop turn) t middle ≡ stopped e rest
           → Finishes Good (More t) (Last t) middle rest e
       of_turn more middle rest (again next) e made other = more next middle (shorter n s next ts middle few made) rest e other
       of_turn more middle rest (done x) e made other = absurd (differ x middle rest e other)
 
-  stops-loop : (k : ℕ) (s : S) (front rest : List T) → All Good front → RunsDeep Spelled Deep k s front → Stops rest (loop turn s (front ++ rest))
+  stops-loop : (k : ℕ) (s : S) (front rest : List T) → All Good front → RunsTo Spelled Deep k s front → Stops rest (loop turn s (front ++ rest))
   stops-loop zero s front rest good runs = absurd runs
   stops-loop (suc k) s front rest good runs =
       ⊎_elim
@@ -169,7 +169,7 @@ module _ {T S : Type 0} (Good : T → Type 0) (turn : S → Reader T (Turn S)) (
       (stops-loop k x b.back rest (All-back Good front b.front b.back b.all good) b.ends)))
       runs
 
-  pub loop-rule : (s : S) → Within s → IsRule Good (loop turn s) (Loop Spelled s) Next Within (LoopDeep Spelled Deep s)
+  pub loop-rule : (s : S) → Within s → IsRule Good (loop turn s) (Loop Spelled s) Next Within (LoopTo Spelled Deep s)
   loop-rule s within = record {
     example = turns.closes s;
     local = λ ts. local-loop (suc (length ts)) s ts (omega arith);

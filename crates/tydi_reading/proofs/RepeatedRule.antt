@@ -2,8 +2,8 @@
 use Rattle.std.proofs.Common.{◌≡◌, ℕ, zero, suc, ◌<◌, ◌⊎◌, inl, inr, ⊎_elim, Bool, true, false, List, [], ◌∷◌, ◌++◌, length, refl, sym, ap, ◌∙◌, subst, append_assoc}
 use Rattle.std.proofs.lemmas.List.{append-nil}
 use Rattle.std.proofs.lemmas.List.Elements.{All-nil}
-use Rattle.tydi_reading.specs.Forms.{Form, ◌⋯◌, Never, Anything, Runs, Loop, RunsDeep, LoopDeep}
-use Rattle.tydi_reading.specs.Lists.{Each, EachIs, repeated_turn, repeated}
+use Rattle.tydi_reading.specs.Forms.{Form, ◌⋯◌, Never, Anything, Runs, Loop, RunsTo, LoopTo}
+use Rattle.tydi_reading.specs.Lists.{Each, EachTo, EachIs, repeated_turn, repeated}
 use Rattle.tydi_reading.specs.Reading.{Reader, Turn, again, done, tells, pure, ◌<$>◌, loop}
 use Rattle.tydi_reading.specs.Rules.{IsRule}
 use Rattle.tydi_reading.proofs.ChoiceRules.{choose-rule}
@@ -127,11 +127,7 @@ module _ {T A : Type 0} (Good : T → Type 0) (test : T → Bool) (last : Bool) 
       subst (λ end. Loop TurnOf found end ts) (append_assoc found (x ∷ []) items)
       (suc more.0, inr (found ++ x ∷ [], record { front = s.front; back = s.back; all = s.all; begins = (x, refl, s.begins); ends = more.1 }))
 
-  -- items, and then what leads to something too deep in one
-  abbrev pub EachDeep : Form T
-  EachDeep ts = (items : List A) × ((Each Item items ⋯ Deep) ts)
-
-  adds_deep : (n : ℕ) (found : List A) (ts : List T) → RunsDeep TurnOf (λ _. Deep) n found ts → EachDeep ts
+  adds_deep : (n : ℕ) (found : List A) (ts : List T) → RunsTo TurnOf (λ _. Deep) n found ts → EachTo Item Deep ts
   adds_deep zero found ts walk = absurd walk
   adds_deep (suc n) found ts walk =
       ⊎_elim
@@ -151,7 +147,7 @@ module _ {T A : Type 0} (Good : T → Type 0) (test : T → Bool) (last : Bool) 
       ))
       walk
 
-  runs_deep : (items found : List A) (front back ts : List T) → ts ≡ front ++ back → Each Item items front → Deep back → LoopDeep TurnOf (λ _. Deep) found ts
+  runs_deep : (items found : List A) (front back ts : List T) → ts ≡ front ++ back → Each Item items front → Deep back → LoopTo TurnOf (λ _. Deep) found ts
   runs_deep [] found front back ts is s d = (1, inl (subst Deep (sym (is ∙ ap (λ l. l ++ back) s)) d))
   runs_deep (x ∷ items) found front back ts is s d =
       let more = runs_deep items (found ++ x ∷ []) s.back back (s.back ++ back) refl s.ends d in (
@@ -186,10 +182,10 @@ module _ {T A : Type 0} (Good : T → Type 0) (test : T → Bool) (last : Bool) 
 
   -- more items one after another up to where the test holds
   pub repeated_from-rule : (found : List A) → EachIs Within found
-      → IsRule Good (loop (repeated_turn test last item) found) (Adds (Each Item) found) (λ _ rest. tells test last rest ≡ true) (EachIs Within) EachDeep
+      → IsRule Good (loop (repeated_turn test last item) found) (Adds (Each Item) found) (λ _ rest. tells test last rest ≡ true) (EachIs Within) (EachTo Item Deep)
   repeated_from-rule found within =
       same-rule Good (loop (repeated_turn test last item) found) (Loop TurnOf found) (λ _ rest. tells test last rest ≡ true) (EachIs Within)
-      (LoopDeep TurnOf (λ _. Deep) found) (Adds (Each Item) found) (λ _ rest. tells test last rest ≡ true) (EachIs Within) EachDeep
+      (LoopTo TurnOf (λ _. Deep) found) (Adds (Each Item) found) (λ _ rest. tells test last rest ≡ true) (EachIs Within) (EachTo Item Deep)
       (record {
         there = λ end ts s. adds s.0 found end ts s.1;
         back = λ end ts s. subst (λ l. Loop TurnOf found l ts) (sym s.added) (runs found s.items ts s.spelled);
@@ -202,11 +198,11 @@ module _ {T A : Type 0} (Good : T → Type 0) (test : T → Bool) (last : Bool) 
       (loop-rule Good (repeated_turn test last item) TurnOf Follow Inside (λ _. Deep) (λ _ rest. tells test last rest ≡ true) (EachIs Within) turns found within)
 
   -- items one after another up to where the test holds
-  pub repeated-rule : IsRule Good (repeated test last item) (Each Item) (λ _ rest. tells test last rest ≡ true) (EachIs Within) EachDeep
+  pub repeated-rule : IsRule Good (repeated test last item) (Each Item) (λ _ rest. tells test last rest ≡ true) (EachIs Within) (EachTo Item Deep)
   unfolding repeated
   repeated-rule =
-      same-rule Good (loop (repeated_turn test last item) []) (Adds (Each Item) []) (λ _ rest. tells test last rest ≡ true) (EachIs Within) EachDeep
-      (Each Item) (λ _ rest. tells test last rest ≡ true) (EachIs Within) EachDeep
+      same-rule Good (loop (repeated_turn test last item) []) (Adds (Each Item) []) (λ _ rest. tells test last rest ≡ true) (EachIs Within) (EachTo Item Deep)
+      (Each Item) (λ _ rest. tells test last rest ≡ true) (EachIs Within) (EachTo Item Deep)
       (record {
         there = λ items ts a. subst (λ l. Each Item l ts) (sym a.added) a.spelled;
         back = λ items ts s. record { items = items; added = refl; spelled = s };

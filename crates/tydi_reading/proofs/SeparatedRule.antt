@@ -1,8 +1,8 @@
 -- Items with separators are a rule.
 use Rattle.std.proofs.Common.{◌≡◌, ℕ, zero, suc, ◌<◌, inl, inr, ⊎_elim, Bool, true, false, List, [], ◌∷◌, ◌++◌, length, refl, sym, ap, ◌∙◌, subst, arith, append_assoc}
 use Rattle.std.proofs.lemmas.List.{append-nil, length-append}
-use Rattle.tydi_reading.specs.Forms.{Form, ◌⋯◌, Runs, Loop, RunsDeep, LoopDeep}
-use Rattle.tydi_reading.specs.Lists.{Each, EachIs, Separated, LastSeparator, steps, separated}
+use Rattle.tydi_reading.specs.Forms.{Form, ◌⋯◌, Runs, Loop, RunsTo, LoopTo}
+use Rattle.tydi_reading.specs.Lists.{Each, EachIs, Separated, SeparatedTo, LastSeparator, steps, separated}
 use Rattle.tydi_reading.specs.Reading.{Reader, Turn, tells, ◌<$>◌}
 use Rattle.tydi_reading.specs.Rules.{IsRule}
 use Rattle.tydi_reading.proofs.MarkLemmas.{IsMark}
@@ -134,11 +134,7 @@ module _ {T A : Type 0} (Good : T → Type 0) (test : T → Bool) (last : Bool) 
 
   -- ---- something too deep in an item
 
-  -- items with a separator after each, and then what leads to something too deep in one
-  abbrev pub SeparatedDeep : Form T
-  SeparatedDeep ts = (items : List A) × ((Each (λ x. Item x ⋯ Separator) items ⋯ Deep) ts)
-
-  adds_deep : (n : ℕ) (found : List A) (ts : List T) → RunsDeep Turning (λ _. Deep) n found ts → SeparatedDeep ts
+  adds_deep : (n : ℕ) (found : List A) (ts : List T) → RunsTo Turning (λ _. Deep) n found ts → SeparatedTo Separator Item Deep ts
   adds_deep zero found ts walk = absurd walk
   adds_deep (suc n) found ts walk =
       ⊎_elim
@@ -166,7 +162,7 @@ module _ {T A : Type 0} (Good : T → Type 0) (test : T → Bool) (last : Bool) 
       walk
 
   runs_deep : (items found : List A) (front back ts : List T) → ts ≡ front ++ back → Each (λ x. Item x ⋯ Separator) items front → Deep back
-      → LoopDeep Turning (λ _. Deep) found ts
+      → LoopTo Turning (λ _. Deep) found ts
   runs_deep [] found front back ts is s d = (1, inl (subst Deep (sym (is ∙ ap (λ l. l ++ back) s)) d))
   runs_deep (x ∷ items) found front back ts is s d =
       let more = runs_deep items (found ++ x ∷ []) s.back back (s.back ++ back) refl s.ends d in (
@@ -184,11 +180,11 @@ module _ {T A : Type 0} (Good : T → Type 0) (test : T → Bool) (last : Bool) 
       )
 
   -- items with separators up to where the test holds
-  pub separated-rule : IsRule Good (separated test last separates item) (Separated Separator Item) (λ _ rest. tells test last rest ≡ true) (EachIs Within) SeparatedDeep
+  pub separated-rule : IsRule Good (separated test last separates item) (Separated Separator Item) (λ _ rest. tells test last rest ≡ true) (EachIs Within) (SeparatedTo Separator Item Deep)
   unfolding separated
   separated-rule =
       same-rule Good (steps test last separates (λ found. (λ x. found ++ x ∷ []) <$> item) []) (Loop Turning []) (λ _ rest. tells test last rest ≡ true) (EachIs Within)
-      (LoopDeep Turning (λ _. Deep) []) (Separated Separator Item) (λ _ rest. tells test last rest ≡ true) (EachIs Within) SeparatedDeep
+      (LoopTo Turning (λ _. Deep) []) (Separated Separator Item) (λ _ rest. tells test last rest ≡ true) (EachIs Within) (SeparatedTo Separator Item Deep)
       (record {
         there = λ items ts s. let a = adds s.0 [] items ts s.1 in subst (λ l. Separated Separator Item l ts) (sym a.added) a.spelled;
         back = λ items ts s. runs items [] ts s;

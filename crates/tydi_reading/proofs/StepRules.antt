@@ -264,3 +264,10 @@ module _ {T A : Type 0} (Good : T → Type 0) (p : Reader T A) (Spelled : A → 
     finishes = λ ts rest e is. finishes-same ts rest e (one.finishes ts rest e is);
     stops = λ front rest good d. one.stops front rest good (same.deep front d);
   }
+
+-- the same by another way to say what leads to something too deep
+pub deep-rule : {T A : Type 0} (Good : T → Type 0) (p : Reader T A) (Spelled : A → Form T) (Next : A → Form T) (Within : A → Type 0) (First Deep : Form T)
+    → ((ts : List T) → First ts → Deep ts) → ((ts : List T) → Deep ts → First ts) → IsRule Good p Spelled Next Within First → IsRule Good p Spelled Next Within Deep
+deep-rule Good p Spelled Next Within First Deep first deep =
+    same-rule Good p Spelled Next Within First Spelled Next Within Deep
+    (record { there = λ x ts s. s; back = λ x ts s. s; follow = λ x rest next. next; within = λ x w. w; apart = λ x w. w; first = first; deep = deep })

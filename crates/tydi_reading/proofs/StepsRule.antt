@@ -2,7 +2,7 @@
 use Rattle.std.proofs.Common.{◌≡◌, ◌<◌, ◌⊎◌, inl, inr, ⊎_elim, Bool, true, false, List, [], ◌∷◌, ◌++◌, length, refl, sym, ap, ◌∙◌, subst, arith, append_assoc}
 use Rattle.std.proofs.lemmas.List.{append-nil, length-append}
 use Rattle.std.proofs.lemmas.List.Elements.{All-nil}
-use Rattle.tydi_reading.specs.Forms.{Form, ◌⋯◌, Never, Anything, Loop, LoopDeep}
+use Rattle.tydi_reading.specs.Forms.{Form, ◌⋯◌, Never, Anything, Loop, LoopTo}
 use Rattle.tydi_reading.specs.Lists.{mark, separator_turn, steps_turn, steps}
 use Rattle.tydi_reading.specs.declared.fault.Fault.TheVariants as faults
 use Rattle.tydi_reading.specs.Reading.{Reader, stopped, and_then, Turn, again, done, tells, pure, ◌<$>◌, ◌>>=◌, choose}
@@ -268,7 +268,7 @@ module _ {T S : Type 0} (Good : T → Type 0) (test : T → Bool) (last : Bool) 
   }
 
   -- steps with separators up to where the test holds
-  pub steps-rule : (s : S) → Within s → IsRule Good (steps test last separates step s) (Loop TurnOf s) (λ _ rest. tells test last rest ≡ true) Within (LoopDeep TurnOf Deep s)
+  pub steps-rule : (s : S) → Within s → IsRule Good (steps test last separates step s) (Loop TurnOf s) (λ _ rest. tells test last rest ≡ true) Within (LoopTo TurnOf Deep s)
   unfolding steps
   steps-rule s within =
       loop-rule Good (steps_turn test last separates step) TurnOf (λ _. Follow) Inside Deep (λ _ rest. tells test last rest ≡ true) Within turns s within

@@ -33,23 +33,22 @@ pub record One {T A : Type 0} (meaning : T → Option A) (x : A) (ts : List T) :
   pub all : ts ≡ thing ∷ []
   pub is : meaning thing ≡ Some x
 
+-- turns of a loop up to where this form follows, so many at most
+abbrev pub RunsTo : {T S : Type 0} → (S → Turn S → Form T) → (S → Form T) → ℕ → S → Form T
+RunsTo Spelled Last zero s ts = ⊥
+RunsTo {T} {S} Spelled Last (suc n) s ts = Last s ts ⊎ ((next : S) × ((Spelled s (again next) ⋯ RunsTo Spelled Last n next) ts))
+
+-- turns of a loop up to where this form follows
+abbrev pub LoopTo : {T S : Type 0} → (S → Turn S → Form T) → (S → Form T) → S → Form T
+LoopTo Spelled Last s ts = (n : ℕ) × RunsTo Spelled Last n s ts
+
 -- turns of a loop from one state to another, so many at most
 abbrev pub Runs : {T S : Type 0} → (S → Turn S → Form T) → ℕ → S → S → Form T
-Runs Spelled zero s end ts = ⊥
-Runs {T} {S} Spelled (suc n) s end ts = Spelled s (done end) ts ⊎ ((next : S) × ((Spelled s (again next) ⋯ Runs Spelled n next end) ts))
+Runs Spelled n s end = RunsTo Spelled (λ s. Spelled s (done end)) n s
 
 -- turns of a loop from one state to another
 abbrev pub Loop : {T S : Type 0} → (S → Turn S → Form T) → S → S → Form T
-Loop Spelled s end ts = (n : ℕ) × Runs Spelled n s end ts
-
--- turns of a loop up to where something stands too deep, so many at most
-abbrev pub RunsDeep : {T S : Type 0} → (S → Turn S → Form T) → (S → Form T) → ℕ → S → Form T
-RunsDeep Spelled Deep zero s ts = ⊥
-RunsDeep {T} {S} Spelled Deep (suc n) s ts = Deep s ts ⊎ ((next : S) × ((Spelled s (again next) ⋯ RunsDeep Spelled Deep n next) ts))
-
--- turns of a loop up to where something stands too deep
-abbrev pub LoopDeep : {T S : Type 0} → (S → Turn S → Form T) → (S → Form T) → S → Form T
-LoopDeep Spelled Deep s ts = (n : ℕ) × RunsDeep Spelled Deep n s ts
+Loop Spelled s end = LoopTo Spelled (λ s. Spelled s (done end)) s
 
 -- things with which a form can go on after what stands: good ones, as texts have them
 pub record GoesOn {T A : Type 0} (Good : T → Type 0) (Spelled : A → Form T) (front : List T) : Type 0 where

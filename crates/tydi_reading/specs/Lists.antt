@@ -15,6 +15,10 @@ abbrev pub Each : {T A : Type 0} → (A → Form T) → List A → Form T
 Each Item [] = Nothing
 Each Item (item ∷ items) = Item item ⋯ Each Item items
 
+-- items, one after another, and then what leads on
+abbrev pub EachTo : {T A : Type 0} → (A → Form T) → Form T → Form T
+EachTo {T} {A} Item To ts = (items : List A) × ((Each Item items ⋯ To) ts)
+
 -- each item is such a one
 abbrev pub EachIs : {A : Type 0} → (A → Type 0) → List A → Type 0
 EachIs Is [] = Unit {0}
@@ -38,6 +42,10 @@ abbrev pub Separated : {T A : Type 0} → Form T → (A → Form T) → List A �
 Separated Separator Item [] = Nothing
 Separated Separator Item (item ∷ []) = Item item ⋯ LastSeparator Separator
 Separated Separator Item (item ∷ next ∷ items) = Item item ⋯ Separator ⋯ Separated Separator Item (next ∷ items)
+
+-- items with a separator after each, and then what leads on
+abbrev pub SeparatedTo : {T A : Type 0} → Form T → (A → Form T) → Form T → Form T
+SeparatedTo Separator Item = EachTo (λ item. Item item ⋯ Separator)
 
 -- after a step: a separator, with which the steps may go on, or their end
 unfoldable pub separator_turn : {T S : Type 0} → (T → Bool) → S → Reader T (Turn S)

@@ -17,6 +17,11 @@ abbrev pub Reads : {T A : Type 0} → Outcome T A → Result A Fault → List T 
 Reads outcome (Ok x) new = outcome ≡ took x new
 Reads outcome (Err e) new = e ≢ faults.Memory → outcome ≡ stopped e new
 
+-- a function that wants no memory did what the reader does
+abbrev pub ReadsAlways : {T A : Type 0} → Outcome T A → Result A Fault → List T → Type 0
+ReadsAlways outcome (Ok x) new = outcome ≡ took x new
+ReadsAlways outcome (Err e) new = (e ≢ faults.Memory) × (outcome ≡ stopped e new)
+
 -- what is read takes a thing at least
 pub record Shrinks {T A : Type 0} (read : Reader T A) : Type 0 where
   pub less : (ts rest : List T) (x : A) → read ts ≡ took x rest → length rest < length ts
@@ -112,6 +117,19 @@ checked meaning p = p >>= (λ x. λ rest. meant (meaning x) rest rest)
 -- takes the next thing, which is to have a meaning, and gives the meaning
 abbrev pub leaf : {T A : Type 0} → (T → Option A) → Reader T A
 leaf meaning = λ ts. meant (option_and_then meaning (first ts)) (rest_of ts) ts
+
+-- the meaning of the next thing, where it has one
+abbrev pub told_by : {T K : Type 0} → (T → Option K) → List T → Option K
+told_by meaning ts = option_and_then meaning (first ts)
+
+-- what a meaning asks for, after the thing that has it, or the other reader where there is none
+abbrev pub led_by : {T K A : Type 0} → Option K → (K → Reader T A) → Reader T A → Reader T A
+led_by (Some k) p q = λ ts. p k (rest_of ts)
+led_by None p q = q
+
+-- a next thing with a meaning is taken, and what that asks for follows; without one, the other reader
+abbrev pub led : {T K A : Type 0} → (T → Option K) → (K → Reader T A) → Reader T A → Reader T A
+led meaning p q = λ ts. led_by (told_by meaning ts) p q ts
 
 -- what may not stand here, inside as many others as are allowed: told where it begins
 abbrev pub too_deep : {T A : Type 0} → (T → Bool) → Reader T A

@@ -1,9 +1,9 @@
--- To given words and files there is one answer, the name and the place of the fault of tokens that spell no tree aside.
+-- To given words and files there is one answer.
 use Rattle.std.proofs.Common.{◌≡◌, ℕ, List, Option, None, Some, sym, ap, ◌∙◌, subst, refl, inl, inr, Bool, true, false, Result, Ok, Err}
 use Rattle.std.specs.Str.{IsUtf8, is_utf8}
 use Rattle.std.proofs.lemmas.Str.{IsUtf8-from_is_utf8}
 use Rattle.tydi_io.specs.Store.{Files}
-use Rattle.physical_stream.specs.First.{Offends}
+use Rattle.physical_stream.specs.First.{Offence, Offends}
 use Rattle.physical_stream.specs.Cycles.{StreamTrace}
 use Rattle.physical_stream.specs.declared.end.End.{End}
 use Rattle.physical_stream.specs.declared.end.End.TheVariants as ends
@@ -11,7 +11,7 @@ use Rattle.physical_stream.specs.declared.head.Head.{Head}
 use Rattle.physical_stream.proofs.FirstLemmas.{IsFirst-one}
 use Rattle.cycle_trace.specs.Trace.{TraceText, streams_of}
 use Rattle.cycle_trace.specs.TraceText.{trace_of}
-use Rattle.cycle_trace.specs.Survey.{Surveys, survey_of}
+use Rattle.cycle_trace.specs.Survey.{Surveys, counts_of, first_unfinished, survey_of}
 use Rattle.cycle_trace.specs.declared.counts.Counts.{Counts}
 use Rattle.cycle_trace.specs.declared.counts.SurveyFault.{SurveyFault}
 use Rattle.cycle_trace.specs.declared.counts.SurveyFault.TheVariants as faults
@@ -19,11 +19,13 @@ use Rattle.cycle_trace.specs.declared.fault.TraceFault.{TraceFault}
 use Rattle.til_lexer.specs.Tokens.{tokens_of}
 use Rattle.til_lexer.specs.declared.fault.LexFault.{LexFault}
 use Rattle.til_lexer.specs.declared.token.Token.{Token}
+use Rattle.til_parser.specs.Faults.{TreeOrFault}
 use Rattle.til_parser.specs.Grammar.{Spells}
 use Rattle.til_parser.specs.Laws.{IsTreeOf}
 use Rattle.til_parser.specs.Lexemes.{lexemes_of}
+use Rattle.til_parser.specs.declared.fault.ParseFault.{ParseFault}
 use Rattle.til_parser.specs.declared.tree.Ast.{Ast}
-use Rattle.til_parser.proofs.LawLemmas.{trees_apart}
+use Rattle.til_parser.proofs.LawLemmas.{trees_apart, trees_or_faults}
 use Rattle.tydi_tool.specs.declared.answer.Answer.{Answer}
 use Rattle.tydi_tool.specs.declared.answer.Answer.TheVariants as answers
 use Rattle.tydi_tool.specs.declared.traces.Survey.{Survey}
@@ -32,35 +34,31 @@ use Rattle.tydi_tool.specs.Refusals.{Refusal, refusal_line, refusal_of_trace, re
 use Rattle.tydi_tool.specs.Reading.{RefusesBy}
 use Rattle.tydi_tool.specs.Reports.{Reports, ReportsEnd, path_of_stream}
 use Rattle.tydi_tool.specs.Traces.{ReadsReading, ReadsTrace}
-use Rattle.tydi_tool.specs.Projects.{IsNoTreeLine, ReadsTokens, ReadsCoded, ReadsProject}
+use Rattle.tydi_tool.specs.Projects.{ReadsTokens, ReadsCoded, ReadsProject, refusal_of_parsing}
 use Rattle.tydi_tool.specs.Files.{Lack, file_of}
 use Rattle.tydi_tool.specs.Ask.{Ask, Ends, Asks, SaysOfBytes, SaysOfFile, SaysBy}
 use Rattle.tydi_tool.specs.Commands.{ask_of}
-use Rattle.tydi_tool.specs.Outcome.{out_of_answer}
-use Rattle.tydi_tool.specs.Laws.{AreOneLine, AreOne, ReadsOnce, AsksOnce}
+use Rattle.tydi_tool.specs.Laws.{ReadsOnce, AsksOnce}
 
 -- ---- whatever a command asks for
 
-refused_alike : (one other : List ℕ) → AreOneLine one other → AreOne (answers.Refused one) (answers.Refused other)
-refused_alike one other lines = inr (record { one = one; other = other; first = refl; second = refl; lines = lines })
-
 SaysOfBytes-one : {X : Type 0} (Reads : List ℕ → Result X (List ℕ) → Type 0) (next : X → Ask) (told : Files) (bytes : List ℕ) (a b : Answer) → ReadsOnce Reads →
-    ((x : X) → Reads bytes (Ok x) → SaysBy (Some told) (next x) a → SaysBy (Some told) (next x) b → AreOne a b) →
-    SaysOfBytes Reads (λ x. SaysBy (Some told) (next x) a) bytes a → SaysOfBytes Reads (λ x. SaysBy (Some told) (next x) b) bytes b → AreOne a b
+    ((x : X) → Reads bytes (Ok x) → SaysBy (Some told) (next x) a → SaysBy (Some told) (next x) b → a ≡ b) →
+    SaysOfBytes Reads (λ x. SaysBy (Some told) (next x) a) bytes a → SaysOfBytes Reads (λ x. SaysBy (Some told) (next x) b) bytes b → a ≡ b
 SaysOfBytes-one {X} Reads next told bytes a b once rest (inl p) (inl q) =
-    subst (λ (c : Answer). AreOne c b) (sym p.1.1) (subst (AreOne (answers.Refused p.0)) (sym q.1.1) (refused_alike p.0 q.0 (once.lines bytes p.0 q.0 p.1.0 q.1.0)))
+    p.1.1 ∙ ap answers.Refused (once.lines bytes p.0 q.0 p.1.0 q.1.0) ∙ sym q.1.1
 SaysOfBytes-one {X} Reads next told bytes a b once rest (inl p) (inr q) = absurd (once.apart bytes q.0 p.0 q.1.0 p.1.0)
 SaysOfBytes-one {X} Reads next told bytes a b once rest (inr p) (inl q) = absurd (once.apart bytes p.0 q.0 p.1.0 q.1.0)
 SaysOfBytes-one {X} Reads next told bytes a b once rest (inr p) (inr q) =
     rest p.0 p.1.0 p.1.1 (subst (λ (x : X). SaysBy (Some told) (next x) b) (once.same bytes q.0 p.0 q.1.0 p.1.0) q.1.1)
 
 SaysOfFile-one : {X : Type 0} (word : List ℕ) (Reads : List ℕ → Result X (List ℕ) → Type 0) (next : X → Ask) (told : Files) (found : Result (List ℕ) Lack) (a b : Answer) → ReadsOnce Reads →
-    ((bytes : List ℕ) (x : X) → Reads bytes (Ok x) → SaysBy (Some told) (next x) a → SaysBy (Some told) (next x) b → AreOne a b) →
-    SaysOfFile Reads (λ x. SaysBy (Some told) (next x) a) word found a → SaysOfFile Reads (λ x. SaysBy (Some told) (next x) b) word found b → AreOne a b
+    ((bytes : List ℕ) (x : X) → Reads bytes (Ok x) → SaysBy (Some told) (next x) a → SaysBy (Some told) (next x) b → a ≡ b) →
+    SaysOfFile Reads (λ x. SaysBy (Some told) (next x) a) word found a → SaysOfFile Reads (λ x. SaysBy (Some told) (next x) b) word found b → a ≡ b
 SaysOfFile-one {X} word Reads next told (Ok bytes) a b once rest p q = SaysOfBytes-one Reads next told bytes a b once (rest bytes) p q
-SaysOfFile-one {X} word Reads next told (Err lack) a b once rest p q = inl (p ∙ sym q)
+SaysOfFile-one {X} word Reads next told (Err lack) a b once rest p q = p ∙ sym q
 
-pub SaysBy-one : (told : Files) (ask : Ask) (a b : Answer) → AsksOnce ask → SaysBy (Some told) ask a → SaysBy (Some told) ask b → AreOne a b
+pub SaysBy-one : (told : Files) (ask : Ask) (a b : Answer) → AsksOnce ask → SaysBy (Some told) ask a → SaysBy (Some told) ask b → a ≡ b
 SaysBy-one told (Ends Tells) a b once p q = once a b p q
 SaysBy-one told (Asks file X Reads next) a b once p q =
     let here : SaysOfFile {X = X} Reads (λ x. SaysBy (Some told) (next x) a) file.word (file_of told file) a
@@ -85,8 +83,8 @@ RefusesBy-line X None one other r s = absurd r
 -- ---- a trace
 
 -- a survey finds one thing
-Surveys-one : (streams : List StreamTrace) (a b : Result Counts SurveyFault) → Surveys streams a → Surveys streams b → a ≡ b
-Surveys-one streams a b x y = x.says ∙ ap (survey_of streams) (IsFirst-one (Offends streams) x.first y.first x.is_first y.is_first) ∙ sym y.says
+Surveys-one : (streams : List StreamTrace) (a b : Result Counts SurveyFault) → Surveys (Offends streams) streams a → Surveys (Offends streams) streams b → a ≡ b
+Surveys-one streams a b x y = x.says ∙ ap (λ (first : Option Offence). survey_of first (first_unfinished 0 streams) (counts_of streams)) (IsFirst-one (Offends streams) x.first y.first x.is_first y.is_first) ∙ sym y.says
 
 survey_with : List Head → Result Counts SurveyFault → Survey
 survey_with heads found = record { heads = heads; found = found }
@@ -111,7 +109,7 @@ ReadsTrace-once : (word : List ℕ) → ReadsOnce (ReadsTrace word)
 ReadsTrace-once word = record {
   same = λ bytes x y p q. ReadsReading-same word (trace_of bytes) x y p q;
   apart = λ bytes x line p q. ReadsReading-apart word (trace_of bytes) x line p q;
-  lines = λ bytes one other p q. inl (ReadsReading-line word (trace_of bytes) one other p q);
+  lines = λ bytes one other p q. ReadsReading-line word (trace_of bytes) one other p q;
 }
 
 ReportsEnd-one : (path : List (List ℕ)) (end : End) (a b : Answer) → ReportsEnd path end a → ReportsEnd path end b → a ≡ b
@@ -139,59 +137,57 @@ same_ok a b e = cc
 not_both : (a : Ast) (line : List ℕ) → ◌≡◌ {A = Result Ast (List ℕ)} (Ok a) (Err line) → ⊥
 not_both a line e = cc
 
-ReadsTokens-same : (word text : List ℕ) (lexed : Result (List Token) LexFault) (a b : Ast) → IsUtf8 text → tokens_of text ≡ lexed → ReadsTokens word text lexed (Ok a) → ReadsTokens word text lexed (Ok b) → a ≡ b
+tree_or_fault : (text : List ℕ) (tokens : List Token) → is_utf8 text ≡ true → tokens_of text ≡ Ok tokens → TreeOrFault (lexemes_of text tokens)
+tree_or_fault text tokens utf8 lexed = trees_or_faults text tokens (IsUtf8-from_is_utf8 text utf8) lexed
+
+ReadsTokens-same : (word text : List ℕ) (lexed : Result (List Token) LexFault) (a b : Ast) → is_utf8 text ≡ true → tokens_of text ≡ lexed → ReadsTokens word text lexed (Ok a) → ReadsTokens word text lexed (Ok b) → a ≡ b
 ReadsTokens-same word text (Ok tokens) a b utf8 is (inl x) (inl y) =
-    same_ok a x.ast x.says ∙ same_tree text tokens x.ast y.ast utf8 is x.is.spelled y.is.spelled ∙ sym (same_ok b y.ast y.says)
-ReadsTokens-same word text (Ok tokens) a b utf8 is (inl x) (inr y) = absurd (not_both b y.line y.says)
-ReadsTokens-same word text (Ok tokens) a b utf8 is (inr x) q = absurd (not_both a x.line x.says)
+    same_ok a x.ast x.says ∙ same_tree text tokens x.ast y.ast (IsUtf8-from_is_utf8 text utf8) is x.is.spelled y.is.spelled ∙ sym (same_ok b y.ast y.says)
+ReadsTokens-same word text (Ok tokens) a b utf8 is (inl x) (inr y) = absurd (not_read (refusal_of_parsing word tokens y.fault) b y.says)
+ReadsTokens-same word text (Ok tokens) a b utf8 is (inr x) q = absurd (not_read (refusal_of_parsing word tokens x.fault) a x.says)
 ReadsTokens-same word text (Err fault) a b utf8 is p q = absurd (not_read (refusal_of_lexing word fault) a p)
 
 ReadsTokens-apart : (word text : List ℕ) (lexed : Result (List Token) LexFault) (a : Ast) (line : List ℕ) → ReadsTokens word text lexed (Ok a) → ReadsTokens word text lexed (Err line) → ⊥
 ReadsTokens-apart word text (Ok tokens) a line (inl x) (inl y) = not_both y.ast line (sym y.says)
 ReadsTokens-apart word text (Ok tokens) a line (inl x) (inr y) = y.none x.ast x.is
-ReadsTokens-apart word text (Ok tokens) a line (inr x) q = not_both a x.line x.says
+ReadsTokens-apart word text (Ok tokens) a line (inr x) q = not_read (refusal_of_parsing word tokens x.fault) a x.says
 ReadsTokens-apart word text (Err fault) a line p q = not_read (refusal_of_lexing word fault) a p
 
-ReadsTokens-lines : (word text : List ℕ) (lexed : Result (List Token) LexFault) (one other : List ℕ) → ReadsTokens word text lexed (Err one) → ReadsTokens word text lexed (Err other) → AreOneLine one other
-ReadsTokens-lines word text (Ok tokens) one other (inl x) q = absurd (not_both x.ast one (sym x.says))
-ReadsTokens-lines word text (Ok tokens) one other (inr x) (inl y) = absurd (not_both y.ast other (sym y.says))
-ReadsTokens-lines word text (Ok tokens) one other (inr x) (inr y) = inr (record {
-  word = word;
-  first = subst (λ (l : List ℕ). IsNoTreeLine word l) (sym (same_line {X = Ast} one x.line x.says)) x.is;
-  second = subst (λ (l : List ℕ). IsNoTreeLine word l) (sym (same_line {X = Ast} other y.line y.says)) y.is;
-})
-ReadsTokens-lines word text (Err fault) one other p q = inl (RefusesBy-line Ast (refusal_of_lexing word fault) one other p q)
+ReadsTokens-lines : (word text : List ℕ) (lexed : Result (List Token) LexFault) (one other : List ℕ) → is_utf8 text ≡ true → tokens_of text ≡ lexed
+    → ReadsTokens word text lexed (Err one) → ReadsTokens word text lexed (Err other) → one ≡ other
+ReadsTokens-lines word text (Ok tokens) one other utf8 is (inl x) q = absurd (not_both x.ast one (sym x.says))
+ReadsTokens-lines word text (Ok tokens) one other utf8 is (inr x) (inl y) = absurd (not_both y.ast other (sym y.says))
+ReadsTokens-lines word text (Ok tokens) one other utf8 is (inr x) (inr y) =
+    let same : y.fault ≡ x.fault = (tree_or_fault text tokens utf8 is).one y.fault x.fault y.is x.is in
+    RefusesBy-line Ast (refusal_of_parsing word tokens x.fault) one other x.says
+    (subst (λ (fault : ParseFault). RefusesBy {X = Ast} (refusal_of_parsing word tokens fault) (Err other)) same y.says)
+ReadsTokens-lines word text (Err fault) one other utf8 is p q = RefusesBy-line Ast (refusal_of_lexing word fault) one other p q
 
 ReadsCoded-same : (word bytes : List ℕ) (coded : Bool) (a b : Ast) → is_utf8 bytes ≡ coded → ReadsCoded word bytes coded (Ok a) → ReadsCoded word bytes coded (Ok b) → a ≡ b
-ReadsCoded-same word bytes true a b is p q = ReadsTokens-same word bytes (tokens_of bytes) a b (IsUtf8-from_is_utf8 bytes is) refl p q
+ReadsCoded-same word bytes true a b is p q = ReadsTokens-same word bytes (tokens_of bytes) a b is refl p q
 ReadsCoded-same word bytes false a b is p q = absurd (not_both a _ p)
 
 ReadsCoded-apart : (word bytes : List ℕ) (coded : Bool) (a : Ast) (line : List ℕ) → ReadsCoded word bytes coded (Ok a) → ReadsCoded word bytes coded (Err line) → ⊥
 ReadsCoded-apart word bytes true a line p q = ReadsTokens-apart word bytes (tokens_of bytes) a line p q
 ReadsCoded-apart word bytes false a line p q = not_both a _ p
 
-ReadsCoded-lines : (word bytes : List ℕ) (coded : Bool) (one other : List ℕ) → ReadsCoded word bytes coded (Err one) → ReadsCoded word bytes coded (Err other) → AreOneLine one other
-ReadsCoded-lines word bytes true one other p q = ReadsTokens-lines word bytes (tokens_of bytes) one other p q
-ReadsCoded-lines word bytes false one other p q = inl (same_line {X = Ast} one other (p ∙ sym q))
+ReadsCoded-lines : (word bytes : List ℕ) (coded : Bool) (one other : List ℕ) → is_utf8 bytes ≡ coded → ReadsCoded word bytes coded (Err one) → ReadsCoded word bytes coded (Err other) → one ≡ other
+ReadsCoded-lines word bytes true one other is p q = ReadsTokens-lines word bytes (tokens_of bytes) one other is refl p q
+ReadsCoded-lines word bytes false one other is p q = same_line {X = Ast} one other (p ∙ sym q)
 
 ReadsProject-once : (word : List ℕ) → ReadsOnce (ReadsProject word)
 ReadsProject-once word = record {
   same = λ bytes a b p q. ReadsCoded-same word bytes (is_utf8 bytes) a b refl p q;
   apart = λ bytes a line p q. ReadsCoded-apart word bytes (is_utf8 bytes) a line p q;
-  lines = λ bytes one other p q. ReadsCoded-lines word bytes (is_utf8 bytes) one other p q;
+  lines = λ bytes one other p q. ReadsCoded-lines word bytes (is_utf8 bytes) one other refl p q;
 }
 
 -- ---- the commands
 
 asks_once : (request : Request) → AsksOnce (ask_of request)
-asks_once (Check trace) = (ReadsTrace-once trace, λ bytes survey reads a b p q. inl (Reports-one survey.heads survey.found a b p q))
-asks_once (Read project) = (ReadsProject-once project, λ bytes ast reads a b p q. inl (p ∙ sym q))
+asks_once (Check trace) = (ReadsTrace-once trace, λ bytes survey reads a b p q. Reports-one survey.heads survey.found a b p q)
+asks_once (Read project) = (ReadsProject-once project, λ bytes ast reads a b p q. p ∙ sym q)
 
 -- one answer
-pub SaysBy-request : (told : Files) (request : Request) (a b : Answer) → SaysBy (Some told) (ask_of request) a → SaysBy (Some told) (ask_of request) b → AreOne a b
+pub SaysBy-request : (told : Files) (request : Request) (a b : Answer) → SaysBy (Some told) (ask_of request) a → SaysBy (Some told) (ask_of request) b → a ≡ b
 SaysBy-request told request a b p q = SaysBy-one told (ask_of request) a b (asks_once request) p q
-
--- of two such answers, if one gives nothing to out, so does the other
-pub same_out : (a b : Answer) → AreOne a b → out_of_answer a ≡ out_of_answer b
-same_out a b (inl same) = ap out_of_answer same
-same_out a b (inr both) = ap out_of_answer both.first ∙ ap out_of_answer (sym both.second)

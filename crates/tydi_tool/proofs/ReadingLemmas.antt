@@ -1,15 +1,16 @@
 -- How texts are read.
-use Rattle.std.proofs.Common.{◌≡◌, ◌≢◌, ℕ, ◌⊎◌, inl, inr, List, length, Bool, true, false, refl, sym, ap, subst, Option, None, Some, option_map, codes, Result, Ok, Err}
+use Rattle.std.proofs.Common.{◌≡◌, ◌≢◌, ℕ, ◌⊎◌, inl, inr, List, length, Bool, true, false, refl, sym, ap, ◌∙◌, subst, Option, None, Some, Result, Ok, Err}
 use Rattle.std.specs.Str.{IsUtf8, is_utf8}
 use Rattle.std.specs.Str.Lossy.{utf8_valid_len}
 use Rattle.std.proofs.lemmas.Str.{IsUtf8-from_is_utf8, is_utf8-from_IsUtf8}
-use Rattle.tydi_base.specs.declared.place.Place.{Place}
+use Rattle.std.proofs.lemmas.Option.{none-some}
 use Rattle.physical_stream.specs.declared.head.Head.{Head}
 use Rattle.cycle_trace.specs.Trace.{TraceText}
 use Rattle.cycle_trace.specs.TraceText.{trace_of}
 use Rattle.cycle_trace.specs.declared.fault.TraceFault.{TraceFault}
 use Rattle.til_lexer.specs.Tokens.{tokens_of}
 use Rattle.til_lexer.specs.declared.token.Token.{Token}
+use Rattle.til_parser.specs.Faults.{IsFaultOf}
 use Rattle.til_parser.specs.Grammar.{SpellNone}
 use Rattle.til_parser.specs.Lexemes.{lexemes_of}
 use Rattle.til_parser.specs.declared.fault.ParseFault.{ParseFault}
@@ -20,10 +21,10 @@ use Rattle.tydi_tool.specs.declared.answer.Reply.{Reply}
 use Rattle.tydi_tool.specs.declared.answer.Reply.TheVariants as replies
 use Rattle.tydi_tool.specs.declared.traces.Survey.{Survey}
 use Rattle.tydi_tool.specs.Reading.{RefusesBy, ReadsAs, IsRefusedBy}
-use Rattle.tydi_tool.specs.Refusals.{Refusal, At, of_file, of_file_with, not_utf8, refusal_line, refusal_of_trace}
+use Rattle.tydi_tool.specs.Refusals.{Refusal, not_utf8, refusal_line, refusal_of_trace}
 use Rattle.tydi_tool.specs.Reports.{IsFoundAmong}
 use Rattle.tydi_tool.specs.Traces.{ReadsReading, ReadsTrace}
-use Rattle.tydi_tool.specs.Projects.{IsParseRefusal, ReadsTokens, ReadsCoded, ReadsProject, place_of, refusal_of_parsing}
+use Rattle.tydi_tool.specs.Projects.{ReadsTokens, ReadsCoded, ReadsProject, refusal_of_parsing}
 use Rattle.tydi_tool.proofs.ReportLemmas.{IsFoundAmong-heads}
 
 -- ---- a trace
@@ -65,34 +66,26 @@ ReadsProject-other word bytes front reply other length (inl says) =
     (subst (λ (coded : Bool). ReadsCoded word bytes coded (Err line)) (sym (not_coded bytes (is_utf8 bytes) refl other)) reads)
 ReadsProject-other word bytes front reply other length (inr memory) = subst (λ (r : Reply). ReadsAs (ReadsProject word bytes) (Err r)) (sym memory) tt
 
--- tokens that spell no tree, refused by such a refusal
-no_tree : (word text : List ℕ) (tokens : List Token) (refusal : Refusal) (reply : Reply) → IsParseRefusal word refusal → SpellNone (lexemes_of text tokens) →
-    (reply ≡ replies.Says (answers.Refused (refusal_line refusal))) ⊎ (reply ≡ replies.Memory) → ReadsAs (ReadsTokens word text (Ok tokens)) (Err reply)
-no_tree word text tokens refusal reply is none (inl says) =
-    subst (λ (r : Reply). ReadsAs (ReadsTokens word text (Ok tokens)) (Err r)) (sym says)
-    (inr (record {
-      none = λ ast project. none ast project.spelled project.within;
-      line = refusal_line refusal;
-      is = record { refusal = refusal; is = is; says = refl };
-      says = refl;
-    }))
-no_tree word text tokens refusal reply is none (inr memory) = subst (λ (r : Reply). ReadsAs (ReadsTokens word text (Ok tokens)) (Err r)) (sym memory) tt
-
 wanted : (word text : List ℕ) (tokens : List Token) (reply : Reply) → reply ≡ replies.Memory → ReadsAs (ReadsTokens word text (Ok tokens)) (Err reply)
 wanted word text tokens reply memory = subst (λ (r : Reply). ReadsAs (ReadsTokens word text (Ok tokens)) (Err r)) (sym memory) tt
 
+no_tree : (word text : List ℕ) (tokens : List Token) (fault : ParseFault) (reply : Reply) (refusal : Option Refusal) → refusal_of_parsing word tokens fault ≡ refusal
+    → IsRefusedBy refusal reply → (fault ≢ parsing.Memory → SpellNone (lexemes_of text tokens)) → (fault ≢ parsing.Memory → IsFaultOf (lexemes_of text tokens) fault)
+    → ReadsAs (ReadsTokens word text (Ok tokens)) (Err reply)
+no_tree word text tokens fault reply (Some refusal) is (inl says) none exact =
+    let other : fault ≢ parsing.Memory = λ memory. none-some refusal (sym (ap (refusal_of_parsing word tokens) memory) ∙ is) in
+    subst (λ (r : Reply). ReadsAs (ReadsTokens word text (Ok tokens)) (Err r)) (sym says)
+    (inr (record {
+      none = λ ast project. none other ast project.spelled project.within;
+      fault = fault;
+      is = exact other;
+      says = subst (λ (o : Option Refusal). RefusesBy {X = Ast} o (Err (refusal_line refusal))) (sym is) refl;
+    }))
+no_tree word text tokens fault reply (Some refusal) is (inr memory) none exact = wanted word text tokens reply memory
+no_tree word text tokens fault reply None is memory none exact = wanted word text tokens reply memory
+
+-- tokens that spell no tree, refused for their fault
 pub ReadsTokens-unparsed : (word text : List ℕ) (tokens : List Token) (fault : ParseFault) (reply : Reply) → IsRefusedBy (refusal_of_parsing word tokens fault) reply →
-    (fault ≢ parsing.Memory → SpellNone (lexemes_of text tokens)) → ReadsAs (ReadsTokens word text (Ok tokens)) (Err reply)
-ReadsTokens-unparsed word text tokens (parsing.Unexpected index) reply refused none = by_place (place_of tokens index) refused
-  where
-    by_place : (place : Option Place) → IsRefusedBy (option_map (λ place. of_file_with (codes "Unexpected") word (At place)) place) reply → ReadsAs (ReadsTokens word text (Ok tokens)) (Err reply)
-    by_place (Some place) r = no_tree word text tokens (of_file_with (codes "Unexpected") word (At place)) reply (inl (record { place = place; is = refl })) (none (λ e. cc)) r
-    by_place None r = wanted word text tokens reply r
-ReadsTokens-unparsed word text tokens parsing.EndOfText reply refused none =
-    no_tree word text tokens (of_file (codes "EndOfText") word) reply (inr (inl refl)) (none (λ e. cc)) refused
-ReadsTokens-unparsed word text tokens (parsing.TooDeep index) reply refused none = by_place (place_of tokens index) refused
-  where
-    by_place : (place : Option Place) → IsRefusedBy (option_map (λ place. of_file_with (codes "TooDeep") word (At place)) place) reply → ReadsAs (ReadsTokens word text (Ok tokens)) (Err reply)
-    by_place (Some place) r = no_tree word text tokens (of_file_with (codes "TooDeep") word (At place)) reply (inr (inr (record { place = place; is = refl }))) (none (λ e. cc)) r
-    by_place None r = wanted word text tokens reply r
-ReadsTokens-unparsed word text tokens parsing.Memory reply refused none = wanted word text tokens reply refused
+    (fault ≢ parsing.Memory → SpellNone (lexemes_of text tokens)) → (fault ≢ parsing.Memory → IsFaultOf (lexemes_of text tokens) fault) →
+    ReadsAs (ReadsTokens word text (Ok tokens)) (Err reply)
+ReadsTokens-unparsed word text tokens fault reply refused none exact = no_tree word text tokens fault reply (refusal_of_parsing word tokens fault) refl refused none exact

@@ -14,7 +14,7 @@ use Rattle.tydi_tool.specs.Ask.{AsksFor, AsksSome, Decides}
 use Rattle.tydi_tool.specs.Commands.{ask_of, Says}
 use Rattle.tydi_tool.specs.Started.{IsPulledOut, IsGivenOne, NamesStarted, StartsWithin, Leaves}
 use Rattle.tydi_tool.specs.Run.{Runs, EndsAsked, EndsUnasked, EndsInAnswer, IsAnswered, IsComplete, ReportsRead, OutFront, IsRefusal, IsLine, ErrFront, StartedAtEnd}
-use Rattle.tydi_tool.proofs.AnswerLemmas.{SaysBy-request, same_out}
+use Rattle.tydi_tool.proofs.AnswerLemmas.{SaysBy-request}
 use Rattle.tydi_tool.proofs.AskLemmas.{SaysBy-decided}
 use Rattle.tydi_tool.proofs.DeliveryLemmas.{AddsFront-all}
 use Rattle.tydi_tool.proofs.FileLemmas.{IsGiven-pulled_out}
@@ -232,7 +232,7 @@ empty bytes none some = omega (arith, ap length none)
 nothing_out : (known : Files) (request : Request) (old new : Option (List ℕ × ℕ)) (rose : Type 0) (reply : Reply) (a : Answer) → Decides (Some known) old new rose (ask_of request) reply →
     Says (Some known) (Some request) a → IsRefusal a → out_of reply ≡ []
 nothing_out known request old new rose (replies.Says b) a d says refusal =
-    same_out b a (SaysBy-request known request b a (SaysBy-decided (Some known) new rose (new ≡ old) (ask_of request) b d) says) ∙ no_out a refusal
+    ap out_of_answer (SaysBy-request known request b a (SaysBy-decided (Some known) new rose (new ≡ old) (ask_of request) b d) says) ∙ no_out a refusal
 nothing_out known request old new rose (replies.ReadFault line) a d says refusal = refl
 nothing_out known request old new rose replies.Memory a d says refusal = refl
 

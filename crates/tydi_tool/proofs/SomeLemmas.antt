@@ -1,5 +1,7 @@
 -- To given words and files there is an answer.
-use Rattle.std.proofs.Common.{◌≡◌, ℕ, List, length, Some, codes, ap, ◌∙◌, refl, inl, inr, Bool, true, false, Result, Ok, Err}
+use Rattle.std.proofs.Common.{◌≡◌, ℕ, ◌<◌, List, [], ◌∷◌, length, get_or, Option, Some, option_map, codes, sym, ap, ◌∙◌, subst, refl, inl, inr, ⊎_elim, Bool, true, false, Result, Ok, Err, arith}
+use Rattle.std.proofs.lemmas.Option.{slice_get-get_or}
+use Rattle.std.proofs.lemmas.Str.{IsUtf8-from_is_utf8}
 use Rattle.std.specs.Str.{is_utf8}
 use Rattle.tydi_io.specs.Store.{Files}
 use Rattle.physical_stream.specs.First.{Offends}
@@ -8,7 +10,7 @@ use Rattle.physical_stream.specs.declared.end.End.TheVariants as ends
 use Rattle.physical_stream.specs.declared.head.Head.{Head}
 use Rattle.cycle_trace.specs.Trace.{TraceText, streams_of}
 use Rattle.cycle_trace.specs.TraceText.{trace_of}
-use Rattle.cycle_trace.specs.Survey.{survey_of}
+use Rattle.cycle_trace.specs.Survey.{counts_of, first_unfinished, survey_of}
 use Rattle.cycle_trace.specs.declared.counts.Counts.{Counts}
 use Rattle.cycle_trace.specs.declared.counts.SurveyFault.{SurveyFault}
 use Rattle.cycle_trace.specs.declared.counts.SurveyFault.TheVariants as faults
@@ -19,16 +21,21 @@ use Rattle.til_lexer.specs.declared.fault.LexFault.{LexFault}
 use Rattle.til_lexer.specs.declared.fault.LexFault.TheVariants as lexing
 use Rattle.til_lexer.specs.declared.token.Token.{Token}
 use Rattle.til_parser.specs.Canonical.{canonical}
+use Rattle.til_parser.specs.Faults.{NamesToken, IsFaultOf}
+use Rattle.til_parser.specs.Lexemes.{lexemes_of}
+use Rattle.til_parser.specs.declared.fault.ParseFault.{ParseFault}
+use Rattle.til_parser.specs.declared.fault.ParseFault.TheVariants as parsing
 use Rattle.til_parser.specs.declared.tree.Ast.{Ast}
 use Rattle.tydi_tool.specs.declared.answer.Answer.{Answer}
 use Rattle.tydi_tool.specs.declared.answer.Answer.TheVariants as answers
 use Rattle.tydi_tool.specs.declared.traces.Survey.{Survey}
 use Rattle.tydi_tool.specs.Words.{Request, Check, Read, FileWord}
-use Rattle.tydi_tool.specs.Refusals.{Refusal, of_file, refusal_line, refusal_of_trace, refusal_of_lexing}
+use Rattle.til_parser.proofs.LawLemmas.{trees_or_faults, names_token}
+use Rattle.tydi_tool.specs.Refusals.{At, of_file_with, refusal_line, refusal_of_trace, refusal_of_lexing}
 use Rattle.tydi_tool.specs.Reading.{RefusesBy}
 use Rattle.tydi_tool.specs.Reports.{Reports, ReportsEnd, IsUnfinished, IsFoundAmong, path_of_stream}
 use Rattle.tydi_tool.specs.Traces.{ReadsReading}
-use Rattle.tydi_tool.specs.Projects.{IsProject, ReadsTokens, ReadsCoded}
+use Rattle.tydi_tool.specs.Projects.{ReadsTokens, ReadsCoded, place_of, refusal_of_parsing}
 use Rattle.tydi_tool.specs.Files.{Lack, lack_line, file_of}
 use Rattle.tydi_tool.specs.Ask.{Ask, Ends, Asks, SaysBy}
 use Rattle.tydi_tool.specs.Commands.{ask_of}
@@ -71,7 +78,7 @@ RefusesBy-trace word reading.Memory some = absurd (some refl)
 
 ReadsReading-some : (word text : List ℕ) (read : Result TraceText TraceFault) → trace_of text ≡ read → HasSome (Result Survey (List ℕ)) (ReadsReading word read)
 ReadsReading-some word text (Ok trace) is = λ none. first_of_all (Offends (streams_of trace)) (λ first is_first.
-    none (Ok (record { heads = trace.heads; found = survey_of (streams_of trace) first })) (record { heads = refl; found = record { first = first; is_first = is_first; says = refl } }))
+    none (Ok (record { heads = trace.heads; found = survey_of first (first_unfinished 0 (streams_of trace)) (counts_of (streams_of trace)) })) (record { heads = refl; found = record { first = first; is_first = is_first; says = refl } }))
 ReadsReading-some word text (Err fault) is = λ none.
     let refused = RefusesBy-trace word fault (λ same. trace_free text (is ∙ ap Err same)) in none (Err refused.0) refused.1
 
@@ -97,22 +104,42 @@ RefusesBy-lexing word (lexing.BadName place) some = (_, refl)
 RefusesBy-lexing word (lexing.NumberTooLong place) some = (_, refl)
 RefusesBy-lexing word lexing.Memory some = absurd (some refl)
 
-ReadsTokens-some : (word text : List ℕ) (lexed : Result (List Token) LexFault) → tokens_of text ≡ lexed → HasSome (Result Ast (List ℕ)) (ReadsTokens word text lexed)
-ReadsTokens-some word text (Ok tokens) is = λ none.
-    let no_tree : (ast : Ast) → IsProject text tokens ast → ⊥ = λ ast project. none (Ok ast) (inl (record { ast = ast; is = project; says = refl })) in
-    let refusal : Refusal = of_file (codes "EndOfText") word in
-    none (Err (refusal_line refusal)) (inr (record {
-      none = no_tree;
-      line = refusal_line refusal;
-      is = record { refusal = refusal; is = inr (inl refl); says = refl };
-      says = refl;
-    }))
-ReadsTokens-some word text (Err fault) is = λ none.
+at_place : (name word : List ℕ) (tokens : List Token) (index : ℕ) → index < length tokens
+    → (line : List ℕ) × RefusesBy {X = Ast} (option_map (λ place. of_file_with name word (At place)) (place_of tokens index)) (Err line)
+at_place name word [] index names = absurd (omega arith)
+at_place name word (token ∷ tokens) index names =
+    let there = slice_get-get_or (token ∷ tokens) index token names in (
+      refusal_line (of_file_with name word (At (get_or (token ∷ tokens) index token).place)),
+      subst (λ (o : Option Token). RefusesBy {X = Ast} (option_map (λ place. of_file_with name word (At place)) (option_map (λ (t : Token). t.place) o))
+          (Err (refusal_line (of_file_with name word (At (get_or (token ∷ tokens) index token).place))))) (sym there) refl,
+    )
+
+RefusesBy-parsing : (word : List ℕ) (tokens : List Token) (fault : ParseFault) → (fault ≡ parsing.Memory → ⊥) → NamesToken (length tokens) fault
+    → (line : List ℕ) × RefusesBy {X = Ast} (refusal_of_parsing word tokens fault) (Err line)
+RefusesBy-parsing word tokens (parsing.Unexpected index) some names = at_place (codes "Unexpected") word tokens index names
+RefusesBy-parsing word tokens parsing.EndOfText some names = (_, refl)
+RefusesBy-parsing word tokens (parsing.TooDeep index) some names = at_place (codes "TooDeep") word tokens index names
+RefusesBy-parsing word tokens parsing.Memory some names = absurd (some refl)
+
+ReadsTokens-some : (word text : List ℕ) (lexed : Result (List Token) LexFault) → is_utf8 text ≡ true → tokens_of text ≡ lexed → HasSome (Result Ast (List ℕ)) (ReadsTokens word text lexed)
+ReadsTokens-some word text (Ok tokens) utf8 is = λ none.
+    let said = trees_or_faults text tokens (IsUtf8-from_is_utf8 text utf8) is in
+    ⊎_elim
+    (λ t. none (Ok t.0) (inl (record { ast = t.0; is = record { spelled = t.1; within = t.2 }; says = refl })))
+    (λ f. let refused = RefusesBy-parsing word tokens f.0 (λ memory. subst (IsFaultOf (lexemes_of text tokens)) memory f.1) (names_token text tokens f.0 f.1) in
+    none (Err refused.0) (inr (record {
+      none = λ ast project. said.apart f.0 f.1 ast project.spelled project.within;
+      fault = f.0;
+      is = f.1;
+      says = refused.1;
+    })))
+    said.either
+ReadsTokens-some word text (Err fault) utf8 is = λ none.
     let refused = RefusesBy-lexing word fault (λ same. tokens_free text (is ∙ ap Err same)) in none (Err refused.0) refused.1
 
-ReadsCoded-some : (word bytes : List ℕ) (coded : Bool) → HasSome (Result Ast (List ℕ)) (ReadsCoded word bytes coded)
-ReadsCoded-some word bytes true = ReadsTokens-some word bytes (tokens_of bytes) refl
-ReadsCoded-some word bytes false = λ none. none (Err _) refl
+ReadsCoded-some : (word bytes : List ℕ) (coded : Bool) → is_utf8 bytes ≡ coded → HasSome (Result Ast (List ℕ)) (ReadsCoded word bytes coded)
+ReadsCoded-some word bytes true is = ReadsTokens-some word bytes (tokens_of bytes) is refl
+ReadsCoded-some word bytes false is = λ none. none (Err _) refl
 
 -- ---- the commands
 
@@ -121,7 +148,7 @@ asks_always (Check trace) = (
   λ bytes. ReadsReading-some trace bytes (trace_of bytes) refl,
   λ bytes survey reads none. let a = Reports-some survey.heads survey.found (IsFoundAmong-read trace bytes survey reads) in none a.0 a.1,
 )
-asks_always (Read project) = (λ bytes. ReadsCoded-some project bytes (is_utf8 bytes), λ bytes ast reads none. none (output_answer (canonical ast)) refl)
+asks_always (Read project) = (λ bytes. ReadsCoded-some project bytes (is_utf8 bytes) refl, λ bytes ast reads none. none (output_answer (canonical ast)) refl)
 
 -- some answer
 pub SaysBy-request-some : (told : Files) (request : Request) → HasSome Answer (SaysBy (Some told) (ask_of request))

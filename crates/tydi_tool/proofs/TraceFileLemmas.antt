@@ -1,9 +1,10 @@
 -- A trace that is read as its text comes.
-use Rattle.std.proofs.Common.{ℕ, inl, inr, List, [], Option, Result, Ok, Err, sym, subst}
+use Rattle.std.proofs.Common.{ℕ, inl, inr, List, [], Option, Result, Ok, Err, OnOk, sym, subst}
 use Rattle.std.proofs.lemmas.List.{append-nil}
 use Rattle.tydi_io.specs.Store.{Files}
 use Rattle.cycle_trace.specs.ReaderView.{Finishes, StandsFor}
 use Rattle.cycle_trace.specs.SurveyorView.{SurveyorStands}
+use Rattle.cycle_trace.specs.Trace.{TraceText}
 use Rattle.cycle_trace.specs.TraceText.{trace_of}
 use Rattle.cycle_trace.specs.declared.fault.TraceFault.{TraceFault}
 use Rattle.cycle_trace.specs.declared.surveyor.Surveyor.{Surveyor}
@@ -15,7 +16,7 @@ use Rattle.tydi_tool.specs.declared.traces.TraceFile.{TraceFile}
 use Rattle.tydi_tool.specs.Words.{FileWord}
 use Rattle.tydi_tool.specs.Ask.{IsAsked}
 use Rattle.tydi_tool.specs.Reading.{ReadsAs}
-use Rattle.tydi_tool.specs.TraceFiles.{StandsForBytes, reads_after, IsNew}
+use Rattle.tydi_tool.specs.TraceFiles.{HasTrace, StandsForBytes, reads_after, IsNew}
 use Rattle.tydi_tool.specs.Traces.{ReadsTrace}
 
 -- of a new reader
@@ -28,7 +29,15 @@ IsAsked-new word reader told file old new rose (Ok survey) is asked = (asked.0, 
 IsAsked-new word reader told file old new rose (Err reply) is (inl s) = inl s
 IsAsked-new word reader told file old new rose (Err reply) is (inr d) = inr (d.0, (d.1.0, (d.1.1.0, (read_new word reader d.0 (Err d.1.1.0) is d.1.1.1.0, d.1.1.1.1))))
 
+pub on_ok_any : {A E : Type 0} (r : Result A E) (P : Type 0) → P → OnOk r P
+on_ok_any (Ok x) P h = h
+on_ok_any (Err e) P h = tt
+
 -- at the end
+pub HasTrace-finished : (finished : Result Surveyor TraceFault) (read : Result TraceText TraceFault) → Finishes SurveyorStands read finished → HasTrace finished
+HasTrace-finished (Ok surveyor) read h = (h.0, h.1.1)
+HasTrace-finished (Err fault) read h = tt
+
 pub ReadsAs-finished : (file : TraceFile) (finished : Result Surveyor TraceFault) (read : Result Survey Reply) → StandsForBytes file →
     ((bytes : List ℕ) → StandsFor SurveyorStands file.reader bytes → Finishes SurveyorStands (trace_of bytes) finished) →
     ((bytes : List ℕ) → Finishes SurveyorStands (trace_of bytes) finished → ReadsAs (ReadsTrace file.word.now bytes) read) → ReadsAs (reads_after file []) read

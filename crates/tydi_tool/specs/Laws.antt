@@ -1,44 +1,20 @@
 -- Laws of the definitions: to given words and files there is an answer, and one.
-use Rattle.std.specs.Prelude.{◌≡◌, ℕ, ◌⊎◌, List, Some, Result, Ok, Err}
+use Rattle.std.specs.Prelude.{◌≡◌, ℕ, List, Some, Result, Ok, Err}
 use Rattle.tydi_io.specs.Store.{Files}
 use Rattle.tydi_tool.specs.declared.answer.Answer.{Answer}
-use Rattle.tydi_tool.specs.declared.answer.Answer.TheVariants as answers
 use Rattle.tydi_tool.specs.Words.{Request}
 use Rattle.tydi_tool.specs.Ask.{Ask, Ends, Asks, SaysBy}
 use Rattle.tydi_tool.specs.Commands.{ask_of}
-use Rattle.tydi_tool.specs.Projects.{IsNoTreeLine}
-
--- two lines are both such refusals of one project
-pub record AreNoTrees (one other : List ℕ) : Type 0 where
-  pub word : List ℕ
-  pub first : IsNoTreeLine word one
-  pub second : IsNoTreeLine word other
-
--- two lines are the same, the name and the place of the fault of tokens that spell no tree aside
-abbrev pub AreOneLine : List ℕ → List ℕ → Type 0
-AreOneLine one other = (one ≡ other) ⊎ AreNoTrees one other
-
--- two answers refuse with such lines
-pub record AreRefusals (a b : Answer) : Type 0 where
-  pub one : List ℕ
-  pub other : List ℕ
-  pub first : a ≡ answers.Refused one
-  pub second : b ≡ answers.Refused other
-  pub lines : AreOneLine one other
-
--- two answers are the same, such lines aside
-abbrev pub AreOne : Answer → Answer → Type 0
-AreOne a b = (a ≡ b) ⊎ AreRefusals a b
 
 -- bytes are read in one way
 pub record ReadsOnce {X : Type 0} (Reads : List ℕ → Result X (List ℕ) → Type 0) : Type 0 where
   pub same : (bytes : List ℕ) (x y : X) → Reads bytes (Ok x) → Reads bytes (Ok y) → x ≡ y
   pub apart : (bytes : List ℕ) (x : X) (line : List ℕ) → Reads bytes (Ok x) → Reads bytes (Err line) → ⊥
-  pub lines : (bytes one other : List ℕ) → Reads bytes (Err one) → Reads bytes (Err other) → AreOneLine one other
+  pub lines : (bytes one other : List ℕ) → Reads bytes (Err one) → Reads bytes (Err other) → one ≡ other
 
 -- a command reads each file in one way, and says one thing at its end
 abbrev pub AsksOnce : Ask → Type 0
-AsksOnce (Ends Tells) = (a b : Answer) → Tells a → Tells b → AreOne a b
+AsksOnce (Ends Tells) = (a b : Answer) → Tells a → Tells b → a ≡ b
 AsksOnce (Asks file X Reads next) = ReadsOnce Reads × ((bytes : List ℕ) (x : X) → Reads bytes (Ok x) → AsksOnce (next x))
 
 -- it is not so that there is none
@@ -53,7 +29,7 @@ AsksAlways (Asks file X Reads next) =
 
 -- to given words and files there is one answer
 abbrev pub OneAnswer : Type 0
-OneAnswer = (request : Request) (told : Files) (a b : Answer) → SaysBy (Some told) (ask_of request) a → SaysBy (Some told) (ask_of request) b → AreOne a b
+OneAnswer = (request : Request) (told : Files) (a b : Answer) → SaysBy (Some told) (ask_of request) a → SaysBy (Some told) (ask_of request) b → a ≡ b
 
 -- to given words and files there is an answer
 abbrev pub SomeAnswer : Type 0

@@ -6,6 +6,7 @@ use Rattle.tydi_base.specs.declared.place.Place.{Place}
 use Rattle.til_lexer.specs.Tokens.{tokens_of}
 use Rattle.til_lexer.specs.declared.fault.LexFault.{LexFault}
 use Rattle.til_lexer.specs.declared.token.Token.{Token}
+use Rattle.til_parser.specs.Faults.{IsFaultOf}
 use Rattle.til_parser.specs.Grammar.{Spells, IsWithin, most_levels}
 use Rattle.til_parser.specs.Lexemes.{lexemes_of}
 use Rattle.til_parser.specs.declared.fault.ParseFault.{ParseFault}
@@ -19,32 +20,28 @@ pub record IsProject (text : List ℕ) (tokens : List Token) (ast : Ast) : Type 
   pub spelled : Spells ast (lexemes_of text tokens)
   pub within : IsWithin most_levels ast
 
--- a refusal that names a token, with its place
-pub record NamesPlace (name word : List ℕ) (refusal : Refusal) : Type 0 where
-  pub place : Place
-  pub is : refusal ≡ of_file_with name word (At place)
+-- the place of the token of this number
+abbrev pub place_of : List Token → ℕ → Option Place
+place_of tokens index = option_map (λ token. token.place) (slice_get tokens index)
 
--- the refusals of tokens that spell no tree
-abbrev pub IsParseRefusal : List ℕ → Refusal → Type 0
-IsParseRefusal word refusal =
-    NamesPlace (codes "Unexpected") word refusal ⊎ ((refusal ≡ of_file (codes "EndOfText") word) ⊎ NamesPlace (codes "TooDeep") word refusal)
-
--- the line of one of these. Which of them, and its place, is not claimed.
-pub record IsNoTreeLine (word line : List ℕ) : Type 0 where
-  pub refusal : Refusal
-  pub is : IsParseRefusal word refusal
-  pub says : line ≡ refusal_line refusal
+-- the refusal of tokens with this fault of their tree; want of memory is none
+abbrev pub refusal_of_parsing : List ℕ → List Token → ParseFault → Option Refusal
+refusal_of_parsing word tokens (parsing.Unexpected index) = option_map (λ place. of_file_with (codes "Unexpected") word (At place)) (place_of tokens index)
+refusal_of_parsing word tokens parsing.EndOfText = Some (of_file (codes "EndOfText") word)
+refusal_of_parsing word tokens (parsing.TooDeep index) = option_map (λ place. of_file_with (codes "TooDeep") word (At place)) (place_of tokens index)
+refusal_of_parsing word tokens parsing.Memory = None
 
 pub record ReadsTree (text : List ℕ) (tokens : List Token) (read : Result Ast (List ℕ)) : Type 0 where
   pub ast : Ast
   pub is : IsProject text tokens ast
   pub says : read ≡ Ok ast
 
+-- tokens that spell no such tree are refused for their fault
 pub record ReadsNoTree (word text : List ℕ) (tokens : List Token) (read : Result Ast (List ℕ)) : Type 0 where
   pub none : (ast : Ast) → IsProject text tokens ast → ⊥
-  pub line : List ℕ
-  pub is : IsNoTreeLine word line
-  pub says : read ≡ Err line
+  pub fault : ParseFault
+  pub is : IsFaultOf (lexemes_of text tokens) fault
+  pub says : RefusesBy (refusal_of_parsing word tokens fault) read
 
 -- by the tokens of a text, or the first fault of them
 abbrev pub ReadsTokens : List ℕ → List ℕ → Result (List Token) LexFault → Result Ast (List ℕ) → Type 0
@@ -59,14 +56,3 @@ ReadsCoded word bytes false read = read ≡ Err (refusal_line (not_utf8 word (ut
 -- the text of a project is read as its tree
 abbrev pub ReadsProject : List ℕ → List ℕ → Result Ast (List ℕ) → Type 0
 ReadsProject word bytes read = ReadsCoded word bytes (is_utf8 bytes) read
-
--- the place of the token of this number
-abbrev pub place_of : List Token → ℕ → Option Place
-place_of tokens index = option_map (λ token. token.place) (slice_get tokens index)
-
--- the refusal of tokens with this fault of their tree; want of memory is none
-abbrev pub refusal_of_parsing : List ℕ → List Token → ParseFault → Option Refusal
-refusal_of_parsing word tokens (parsing.Unexpected index) = option_map (λ place. of_file_with (codes "Unexpected") word (At place)) (place_of tokens index)
-refusal_of_parsing word tokens parsing.EndOfText = Some (of_file (codes "EndOfText") word)
-refusal_of_parsing word tokens (parsing.TooDeep index) = option_map (λ place. of_file_with (codes "TooDeep") word (At place)) (place_of tokens index)
-refusal_of_parsing word tokens parsing.Memory = None

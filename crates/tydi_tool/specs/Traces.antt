@@ -3,6 +3,7 @@ use Rattle.std.specs.Prelude.{◌≡◌, ◌≢◌, ℕ, List, Result, Ok, Err}
 use Rattle.cycle_trace.specs.Trace.{TraceText, streams_of}
 use Rattle.cycle_trace.specs.TraceText.{trace_of}
 use Rattle.cycle_trace.specs.Survey.{Surveys}
+use Rattle.cycle_trace.specs.Surveying.{offends_in}
 use Rattle.physical_stream.specs.declared.head.Head.{Head}
 use Rattle.cycle_trace.specs.declared.counts.Counts.{Counts}
 use Rattle.cycle_trace.specs.declared.counts.SurveyFault.{SurveyFault}
@@ -17,7 +18,7 @@ use Rattle.tydi_tool.specs.Refusals.{refusal_of_trace}
 -- the heads of a trace, and what a survey of its streams finds
 pub record IsSurvey (trace : TraceText) (survey : Survey) : Type 0 where
   pub heads : survey.heads ≡ trace.heads
-  pub found : Surveys (streams_of trace) survey.found
+  pub found : Surveys (offends_in trace) (streams_of trace) survey.found
 
 abbrev pub ReadsSurvey : TraceText → Result Survey (List ℕ) → Type 0
 ReadsSurvey trace (Ok survey) = IsSurvey trace survey

@@ -1,7 +1,7 @@
--- Ports and bodies are printed as what spelled them.
-use Rattle.std.proofs.Common.{◌≡◌, ℕ, ◌≤◌, Bool, true, false, List, [], ◌∷◌, ◌++◌, Option, Some, None, refl, sym, subst, append_assoc}
+-- Ports and bodies are printed so that they are read again.
+use Rattle.std.proofs.Common.{◌≡◌, ℕ, Bool, true, false, List, [], ◌∷◌, ◌++◌, Option, Some, None, refl, sym, subst, append_assoc}
 use Rattle.std.specs.Prelude.{codes}
-use Rattle.til_lexer.specs.Words.{has_name_form}
+use Rattle.tydi_base.specs.Name.{has_name_form}
 use Rattle.til_lexer.specs.declared.token.TokenKind.TheVariants as kinds
 use Rattle.til_parser.specs.declared.ltype.AstType.{AstType}
 use Rattle.til_parser.specs.declared.tree.AstBody.{AstBody}
@@ -12,12 +12,14 @@ use Rattle.til_parser.specs.declared.tree.AstPort.{AstPort}
 use Rattle.til_parser.specs.declared.tree.AstStmt.{AstStmt}
 use Rattle.til_parser.specs.declared.tree.AstStmt.TheVariants as stmts
 use Rattle.til_parser.specs.Canonical.{body_text, doc_text, end_text, names_text, port_text, ports_text, stmt_text, type_text}
-use Rattle.til_parser.specs.Grammar.{Of, PortsWithin, SpellsBody, SpellsEnd, SpellsPort, SpellsPorts, SpellsStmt, SpellsType, way_word}
+use Rattle.til_parser.specs.Grammar.{Of, SpellsBody, SpellsEnd, SpellsPort, SpellsPorts, SpellsStmt, SpellsType, way_word}
 use Rattle.til_parser.specs.Same.{Alike, SameBody, SameEnd, SamePort, SameStmt, SameType}
-use Rattle.til_parser.specs.Tree.{depth, plain}
+use Rattle.tydi_reading.specs.Lists.{EachIs}
+use Rattle.til_parser.specs.Tree.{plain}
+use Rattle.til_parser.specs.Trees.{IsType, IsPort, IsEnd, IsStmt, IsBody}
 use Rattle.til_parser.proofs.PlainLemmas.{of_plain, plain-of_plain}
-use Rattle.til_parser.proofs.printed.PrintedLeaves.{Again, Spelt, first_of, inside_of, printed_doc, printed_name, printed_path, printed_quoted, second_of}
-use Rattle.til_parser.proofs.printed.PrintedLists.{alike_as, printed_commas, printed_each}
+use Rattle.til_parser.proofs.printed.PrintedLeaves.{Again, printed_doc, printed_name, printed_path, printed_quoted}
+use Rattle.til_parser.proofs.printed.PrintedLists.{printed_commas, printed_each}
 use Rattle.til_parser.proofs.printed.PrintedTypes.{printed_type}
 use Rattle.til_parser.proofs.printed.PrintedForms.{Printed, bracketed, colon, ends_as, free, indented, joined, made, nothing, of_text, prefixed}
 use Rattle.til_parser.proofs.printed.PrintedForms.{spaced, suffixed}
@@ -25,28 +27,16 @@ use Rattle.til_parser.proofs.printed.PrintedForms.{symbol, word}
 
 -- ---- a type
 
--- a type that is read again: the same, and as deep
-pub record AgainAst (one : AstType) : Type 0 where
-  pub again : AstType
-  pub same : SameType (plain one) (plain again)
-  pub deep : depth (plain one) ≡ depth (plain again)
+-- two types are the same
+abbrev pub SameAst : AstType → AstType → Type 0
+SameAst one other = SameType (plain one) (plain other)
 
-pub printed_ast : (one : AstType) → Spelt (SpellsType (plain one))
-    → Printed kinds.Word (type_text (plain one)) (λ (a : AgainAst one). SpellsType (plain a.again))
-printed_ast one spelt = made (printed_type (plain one) spelt)
-    (λ a. let back = sym (plain-of_plain a.again) in record {
-      again = of_plain a.again;
-      same = subst (SameType (plain one)) back a.same;
-      deep = subst (λ t. depth (plain one) ≡ depth t) back a.deep;
-    })
+pub printed_ast : (one : AstType) → IsType (plain one) → Printed kinds.Word (type_text (plain one)) (λ (a : Again SameAst one). SpellsType (plain a.again))
+printed_ast one is = made (printed_type (plain one) is)
+    (λ a. record { again = of_plain a.again; same = subst (SameType (plain one)) (sym (plain-of_plain a.again)) a.same })
     (λ a ts is. subst (λ t. SpellsType t ts) (sym (plain-of_plain a.again)) is)
 
 -- ---- ports
-
--- a port is the same as another, and its type as deep
-pub record LikePort (one other : AstPort) : Type 0 where
-  pub same : SamePort one other
-  pub deep : depth (plain one.ltype) ≡ depth (plain other.ltype)
 
 way_form : (inward : Bool) → has_name_form (way_word inward) ≡ true
 way_form true = refl
@@ -56,34 +46,23 @@ port_flat : (doc name colon way space ltype : List ℕ)
     → doc ++ (name ++ (colon ++ ((way ++ space) ++ ltype))) ≡ doc ++ name ++ colon ++ way ++ space ++ ltype
 port_flat doc name colon way space ltype = simp append_assoc refl
 
-printed_port : (port : AstPort) → Spelt (SpellsPort port) → Printed kinds.Word (port_text port) (λ (a : Again LikePort port). SpellsPort a.again)
-printed_port port spelt =
-    let ltype = printed_ast port.ltype (second_of (second_of (second_of (second_of spelt)))) in
+printed_port : (port : AstPort) → IsPort port → Printed kinds.Word (port_text port) (λ (a : Again SamePort port). SpellsPort a.again)
+printed_port port is =
     let way = spaced (codes " ") refl (λ rest. refl) (word (way_word port.inward) (way_form port.inward)) in
-    let named = joined (printed_name port.name (first_of (second_of spelt))) (prefixed colon (prefixed way ltype (λ rest _. refl)) (λ rest _. refl))
+    let named = joined (printed_name port.name is.name) (prefixed colon (prefixed way (printed_ast port.ltype is.ltype) (λ rest _. refl)) (λ rest _. refl))
     (λ rest _. refl) in
     of_text (port_flat (doc_text port.doc (codes " ")) port.name.name (codes ": ") (way_word port.inward) (codes " ") (type_text (plain port.ltype)))
-    (made (prefixed (printed_doc port.doc (codes " ") refl (first_of spelt)) named (λ rest _. refl))
+    (made (prefixed (printed_doc port.doc (codes " ") refl is.doc) named (λ rest _. refl))
     (λ both. record {
       again = record { doc = port.doc; name = both.0.again; inward = port.inward; ltype = both.1.again };
-      same = record { same = record { doc = refl; name = both.0.same; inward = refl; ltype = both.1.same }; deep = both.1.deep };
+      same = record { doc = refl; name = both.0.same; inward = refl; ltype = both.1.same };
     })
     (λ both ts is. is))
 
-pub printed_ports : (all : List AstPort) → Spelt (SpellsPorts all)
-    → Printed free (ports_text all) (λ (a : Again (Alike LikePort) all). SpellsPorts a.again)
-printed_ports [] spelt = made (bracketed {last = free} (λ rest. refl) nothing) (λ a. record { again = []; same = tt }) (λ a ts is. is)
-printed_ports (first ∷ more) spelt = bracketed (λ rest. refl) (printed_commas LikePort SpellsPort port_text first more printed_port (inside_of spelt))
-
-pub ports_same : (ones others : List AstPort) → Alike LikePort ones others → Alike SamePort ones others
-ports_same = alike_as LikePort SamePort (λ one other like. like.same)
-
-pub ports_within : (levels : ℕ) (ones others : List AstPort) → Alike LikePort ones others → PortsWithin levels ones → PortsWithin levels others
-ports_within levels [] [] like within = tt
-ports_within levels [] (other ∷ others) like within = absurd like
-ports_within levels (one ∷ ones) [] like within = absurd like
-ports_within levels (one ∷ ones) (other ∷ others) like within =
-    (subst (λ n. n ≤ levels) like.0.deep within.0, ports_within levels ones others like.1 within.1)
+pub printed_ports : (all : List AstPort) → EachIs IsPort all
+    → Printed free (ports_text all) (λ (a : Again (Alike SamePort) all). SpellsPorts a.again)
+printed_ports [] are = made (bracketed {last = free} (λ rest. refl) nothing) (λ a. record { again = []; same = tt }) (λ a ts is. is)
+printed_ports (first ∷ more) are = bracketed (λ rest. refl) (printed_commas SamePort IsPort SpellsPort port_text first more printed_port are)
 
 -- ---- statements
 
@@ -97,44 +76,42 @@ apart_dashes = indented (codes " ") refl (spaced (codes " ") refl (λ rest. refl
 pub semicolon : Printed {A = Unit {0}} free (codes ";") (λ _. Of kinds.Semicolon)
 semicolon = ends_as free (λ rest _. refl) (symbol kinds.Semicolon (codes ";") refl)
 
-end_printed : (first : AstName) (second : Option AstName) → Spelt (SpellsEnd (record { first = first; second = second }))
+end_printed : (first : AstName) (second : Option AstName) → IsEnd (record { first = first; second = second })
     → Printed kinds.Word (end_text (record { first = first; second = second }))
     (λ (a : Again SameEnd (record { first = first; second = second })). SpellsEnd a.again)
-end_printed first None spelt = made (suffixed (printed_name first (first_of spelt)) nothing (λ rest stops. stops))
+end_printed first None is = made (suffixed (printed_name first is.0) nothing (λ rest stops. stops))
     (λ a. record { again = record { first = a.again; second = None }; same = (a.same, tt) }) (λ a ts is. is)
-end_printed first (Some name) spelt =
-    let after = prefixed (symbol kinds.Point (codes ".") refl) (printed_name name (second_of (second_of spelt))) (λ rest _. refl) in
-    made (joined (printed_name first (first_of spelt)) after (λ rest _. refl))
+end_printed first (Some name) is =
+    let after = prefixed (symbol kinds.Point (codes ".") refl) (printed_name name is.1) (λ rest _. refl) in
+    made (joined (printed_name first is.0) after (λ rest _. refl))
     (λ both. record { again = record { first = both.0.again; second = Some both.1.again }; same = (both.0.same, both.1.same) }) (λ both ts is. is)
 
-printed_end : (end : AstEnd) → Spelt (SpellsEnd end) → Printed kinds.Word (end_text end) (λ (a : Again SameEnd end). SpellsEnd a.again)
-printed_end end spelt = end_printed end.first end.second spelt
+printed_end : (end : AstEnd) → IsEnd end → Printed kinds.Word (end_text end) (λ (a : Again SameEnd end). SpellsEnd a.again)
+printed_end end is = end_printed end.first end.second is
 
 pub four_flat : (a b c d : List ℕ) → (a ++ (b ++ (c ++ d))) ≡ a ++ b ++ c ++ d
 four_flat a b c d = simp append_assoc refl
 
-printed_stmt : (stmt : AstStmt) → Spelt (SpellsStmt stmt) → Printed free (stmt_text stmt) (λ (a : Again SameStmt stmt). SpellsStmt a.again)
-printed_stmt (stmts.Instance name streamlet) spelt =
-    let target = printed_path streamlet.names (first_of (second_of (second_of spelt))) in
+printed_stmt : (stmt : AstStmt) → IsStmt stmt → Printed free (stmt_text stmt) (λ (a : Again SameStmt stmt). SpellsStmt a.again)
+printed_stmt (stmts.Instance name streamlet) is =
     of_text (four_flat name.name (codes " = ") (names_text streamlet.names) (codes ";"))
-    (made (joined (printed_name name (first_of spelt)) (prefixed apart_equals (suffixed target semicolon (λ rest _. refl)) (λ rest _. refl))
+    (made (joined (printed_name name is.0) (prefixed apart_equals (suffixed (printed_path streamlet.names is.1) semicolon (λ rest _. refl)) (λ rest _. refl))
     (λ rest _. refl))
     (λ both. record { again = stmts.Instance both.0.again (record { names = both.1.again }); same = (both.0.same, both.1.same) }) (λ both ts is. is))
-printed_stmt (stmts.Link first second) spelt =
-    let other = printed_end second (first_of (second_of (second_of spelt))) in
+printed_stmt (stmts.Link first second) is =
     of_text (four_flat (end_text first) (codes " -- ") (end_text second) (codes ";"))
-    (made (joined (printed_end first (first_of spelt)) (prefixed apart_dashes (suffixed other semicolon (λ rest _. refl)) (λ rest _. refl))
+    (made (joined (printed_end first is.0) (prefixed apart_dashes (suffixed (printed_end second is.1) semicolon (λ rest _. refl)) (λ rest _. refl))
     (λ rest _. refl))
     (λ both. record { again = stmts.Link both.0.again both.1.again; same = (both.0.same, both.1.same) }) (λ both ts is. is))
 
 -- ---- bodies
 
-pub printed_body : (body : AstBody) → Spelt (SpellsBody body) → Printed free (body_text body) (λ (a : Again SameBody body). SpellsBody a.again)
-printed_body (bodies.Linked text) spelt = made (ends_as free (λ rest _. refl) (printed_quoted text spelt))
+pub printed_body : (body : AstBody) → IsBody body → Printed free (body_text body) (λ (a : Again SameBody body). SpellsBody a.again)
+printed_body (bodies.Linked text) is = made (ends_as free (λ rest _. refl) (printed_quoted text is))
     (λ a. record { again = bodies.Linked text; same = refl }) (λ a ts is. is)
-printed_body (bodies.Structural all) spelt =
-    let spaced_stmt = λ (stmt : AstStmt) (s : Spelt (SpellsStmt stmt)). spaced (codes " ") refl (λ rest. refl) (printed_stmt stmt s) in
-    let inside = printed_each SameStmt SpellsStmt (λ stmt. stmt_text stmt ++ codes " ") all spaced_stmt (first_of (second_of spelt)) in
+printed_body (bodies.Structural all) is =
+    let spaced_stmt = λ (stmt : AstStmt) (s : IsStmt stmt). spaced (codes " ") refl (λ rest. refl) (printed_stmt stmt s) in
+    let inside = printed_each SameStmt IsStmt SpellsStmt (λ stmt. stmt_text stmt ++ codes " ") all spaced_stmt is in
     let close = ends_as free (λ rest _. refl) (symbol kinds.CloseBrace (codes "}") refl) in
     let open_brace = spaced (codes " ") refl (λ rest. refl) (symbol kinds.OpenBrace (codes "{") refl) in
     made (prefixed open_brace (suffixed inside close (λ rest _. refl)) (λ rest _. refl))

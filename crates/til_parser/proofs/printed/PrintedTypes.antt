@@ -1,11 +1,9 @@
--- Types are printed as what spelled them.
-use Rattle.std.proofs.Common.{◌≡◌, ℕ, suc, ◌^◌, ◌<◌, max, ◌⊎◌, inl, inr, Bool, true, false, List, [], ◌∷◌, ◌++◌, refl, sym, ap, subst, ◌∙◌}
-use Rattle.std.proofs.Common.{append_assoc}
+-- Types are printed so that they are read again.
+use Rattle.std.proofs.Common.{◌≡◌, ℕ, Bool, true, false, List, [], ◌∷◌, ◌++◌, refl, append_assoc}
 use Rattle.std.specs.Prelude.{codes}
 use Rattle.std.specs.Fmt.{decimal}
 use Rattle.std.proofs.lemmas.List.{append-nil}
-use Rattle.tydi_base.specs.Level.{IsLevel}
-use Rattle.til_lexer.specs.Words.{has_name_form}
+use Rattle.tydi_base.specs.Name.{has_name_form}
 use Rattle.til_lexer.specs.declared.token.TokenKind.{TokenKind}
 use Rattle.til_lexer.specs.declared.token.TokenKind.TheVariants as kinds
 use Rattle.til_parser.specs.declared.ltype.AstSync.{AstSync}
@@ -16,32 +14,20 @@ use Rattle.tydi_reading.specs.Forms.{◌⋯◌}
 use Rattle.til_parser.specs.Grammar.{Form, Arguments, Bracketed, Name, Of, SpellsParts, SpellsType, Word, direction_word, sync_word, truth_word}
 use Rattle.til_parser.specs.Lexemes.{Lexeme}
 use Rattle.til_parser.specs.Same.{SameName, SameParts, SameType}
-use Rattle.til_parser.specs.Tree.{Ltype, null, bits, group, union, stream, path, Parts, no_parts, part, Settings, depth, depth_of_parts}
-use Rattle.til_parser.proofs.texts.NumberTextLemmas.{IsNumberText}
-use Rattle.til_parser.proofs.printed.PrintedLeaves.{Again, Spelt, first_of, inside_of, printed_level, printed_name, printed_number, printed_path}
-use Rattle.til_parser.proofs.printed.PrintedLeaves.{printed_whole, printed_whole_below, second_of}
+use Rattle.til_parser.specs.Tree.{Ltype, null, bits, group, union, stream, path, Parts, no_parts, part, Settings}
+use Rattle.til_parser.specs.Trees.{HasName, AreSettings, IsType, AreParts}
+use Rattle.til_parser.proofs.printed.PrintedLeaves.{Again, printed_level, printed_name, printed_number, printed_path, printed_whole}
 use Rattle.til_parser.proofs.printed.PrintedLists.{with_no_comma}
 use Rattle.til_parser.proofs.printed.PrintedForms.{Printed, Stops, bracketed, colon, comma, ends_as, joined, labelled, made, nothing, of_text}
 use Rattle.til_parser.proofs.printed.PrintedForms.{prefixed, suffixed}
 use Rattle.til_parser.proofs.printed.PrintedForms.{word}
-use Rattle.til_parser.proofs.printed.StreamArguments.{all_arguments, all_arguments-all, all_arguments-apart, arguments-found}
-
--- a type that is read again: the same, and as deep
-pub record AgainType (one : Ltype) : Type 0 where
-  pub again : Ltype
-  pub same : SameType one again
-  pub deep : depth one ≡ depth again
-
-pub record AgainParts (ones : Parts) : Type 0 where
-  pub again : Parts
-  pub same : SameParts ones again
-  pub deep : depth_of_parts ones ≡ depth_of_parts again
+use Rattle.til_parser.proofs.printed.StreamArguments.{all_arguments, all_arguments-all, all_arguments-apart}
 
 abbrev pub PrintedType : Ltype → Type 0
-PrintedType one = Printed kinds.Word (type_text one) (λ (a : AgainType one). SpellsType a.again)
+PrintedType one = Printed kinds.Word (type_text one) (λ (a : Again SameType one). SpellsType a.again)
 
 abbrev pub PrintedParts : Parts → Type 0
-PrintedParts ones = Printed kinds.Word (parts_text ones) (λ (a : AgainParts ones). SpellsParts a.again)
+PrintedParts ones = Printed kinds.Word (parts_text ones) (λ (a : Again SameParts ones). SpellsParts a.again)
 
 -- ---- the arguments of a Stream
 
@@ -59,12 +45,6 @@ truth_form : (truth : Bool) → has_name_form (truth_word truth) ≡ true
 truth_form true = refl
 truth_form false = refl
 
--- what printing a Stream asks of its arguments that hold no type
-record ArePrintable (settings : Settings) : Type 0 where
-  throughput : IsNumberText settings.throughput (number_text settings.throughput)
-  dims : settings.dims < 10 ^ 18
-  level : IsLevel settings.level
-
 -- the text of arguments, from that of each
 abbrev arguments_text : (element user : List ℕ) → Settings → List ℕ
 arguments_text element user settings =
@@ -78,9 +58,9 @@ followed : {F : Form} {A : Type 0} {P : A → Form} {last next : TokenKind} {one
     → Printed {A = Unit {0}} last one (λ _. F) → Printed next other P → Printed next (one ++ (codes ", " ++ other)) (λ a. F ⋯ Of kinds.Comma ⋯ P a)
 followed {other = other} stop first more = prefixed first (prefixed comma more (λ rest _. refl)) (λ rest _. stop (32 ∷ other ++ rest))
 
-printed_arguments : (element user : Ltype) (settings : Settings) → ArePrintable settings → PrintedType element → PrintedType user
+printed_arguments : (element user : Ltype) (settings : Settings) → AreSettings settings → PrintedType element → PrintedType user
     → Printed kinds.Word (arguments_text (type_text element) (type_text user) settings)
-    (λ (both : AgainType element × AgainType user). Arguments (SpellsType both.0.again) (SpellsType both.1.again) both.1.again settings)
+    (λ (both : Again SameType element × Again SameType user). Arguments (SpellsType both.0.again) (SpellsType both.1.again) both.1.again settings)
 printed_arguments element user settings are of_element of_user =
     let kept = made (labelled (codes "keep") refl (word (truth_word settings.keep) (truth_form settings.keep))) (λ a. a)
     (λ a ts is. with_no_comma _ ts is) in
@@ -89,7 +69,7 @@ printed_arguments element user settings are of_element of_user =
     let directed = followed (λ rest. refl) (labelled (codes "direction") refl way) used in
     let levelled = followed (λ rest. refl) (labelled (codes "complexity") refl (printed_level settings.level are.level)) directed in
     let tied = followed (λ rest. refl) (labelled (codes "synchronicity") refl (word (sync_word settings.sync) (sync_form settings.sync))) levelled in
-    let nested = followed (λ rest. refl) (labelled (codes "dimensionality") refl (printed_whole_below settings.dims are.dims)) tied in
+    let nested = followed (λ rest. refl) (labelled (codes "dimensionality") refl (printed_whole settings.dims are.dims)) tied in
     let counted = followed (λ rest. refl) (labelled (codes "throughput") refl (printed_number settings.throughput are.throughput)) nested in
     made (joined (labelled (codes "data") refl of_element) (prefixed comma counted (λ rest _. refl)) (λ rest _. refl)) (λ both. both)
     (λ both ts is. record {
@@ -115,7 +95,7 @@ stream_flat : (a element b throughput c dims d sync e level f direction g user h
     ≡ a ++ element ++ (b ++ throughput ++ c ++ dims ++ d ++ sync ++ e ++ level ++ f ++ direction ++ g) ++ user ++ h ++ keep ++ i
 stream_flat a element b throughput c dims d sync e level f direction g user h keep i = simp append_assoc refl
 
-printed_stream : (element user : Ltype) (settings : Settings) → ArePrintable settings → PrintedType element → PrintedType user
+printed_stream : (element user : Ltype) (settings : Settings) → AreSettings settings → PrintedType element → PrintedType user
     → PrintedType (stream element user settings)
 printed_stream element user settings are of_element of_user = of_text
     (stream_flat (codes "Stream(data: ") (type_text element) (codes ", throughput: ") (number_text settings.throughput) (codes ", dimensionality: ")
@@ -123,19 +103,11 @@ printed_stream element user settings are of_element of_user = of_text
     (codes ", direction: ") (direction_word settings.reverse) (codes ", user: ") (type_text user) (codes ", keep: ")
     (truth_word settings.keep) (codes ")"))
     (made (called (codes "Stream") refl (λ rest. refl) (printed_arguments element user settings are of_element of_user))
-    (λ both. record {
-      again = stream both.0.again both.1.again settings;
-      same = (both.0.same, both.1.same, refl);
-      deep = ap (λ n. suc (max n (depth user))) both.0.deep ∙ ap (λ n. suc (max (depth both.0.again) n)) both.1.deep;
-    })
+    (λ both. record { again = stream both.0.again both.1.again settings; same = (both.0.same, both.1.same, refl) })
     (λ both ts is. is))
 
 printed_null : PrintedType null
-printed_null = made (word (codes "Null") refl) (λ a. record { again = null; same = tt; deep = refl }) (λ a ts is. is)
-
-user_printed : (user : Ltype) → (Spelt (SpellsType user) → PrintedType user) → Spelt (SpellsType user) ⊎ (user ≡ null) → PrintedType user
-user_printed user printed (inl spelt) = printed spelt
-user_printed user printed (inr default) = subst PrintedType (sym default) printed_null
+printed_null = made (word (codes "Null") refl) (λ a. record { again = null; same = tt }) (λ a ts is. is)
 
 one_part : (name ltype : List ℕ) → name ++ (codes ": " ++ ltype) ≡ name ++ codes ": " ++ ltype ++ []
 one_part name ltype = simp (append_assoc, append-nil) refl
@@ -149,45 +121,32 @@ parts_again : (next : AstName) (other : Ltype) (more : Parts) (name : AstName) (
 parts_again next other more name ltype no_parts ts same is = absurd same
 parts_again next other more name ltype (part _ _ _) ts same is = is
 
-printed_part : (name : AstName) (ltype : Ltype) → Spelt (Name name) → PrintedType ltype
+printed_part : (name : AstName) (ltype : Ltype) → HasName name → PrintedType ltype
     → Printed kinds.Word (name.name ++ (codes ": " ++ type_text ltype))
-    (λ (both : Again SameName name × AgainType ltype). Name both.0.again ⋯ Of kinds.Colon ⋯ SpellsType both.1.again)
-printed_part name ltype spelt printed = joined (printed_name name spelt) (prefixed colon printed (λ rest _. refl)) (λ rest _. refl)
+    (λ (both : Again SameName name × Again SameType ltype). Name both.0.again ⋯ Of kinds.Colon ⋯ SpellsType both.1.again)
+printed_part name ltype named printed = joined (printed_name name named) (prefixed colon printed (λ rest _. refl)) (λ rest _. refl)
 
 mutual
-  pub printed_type : (one : Ltype) → Spelt (SpellsType one) → PrintedType one
-  printed_type null spelt = printed_null
-  printed_type (bits width) spelt = made (called (codes "Bits") refl (λ rest. refl) (printed_whole width (inside_of (second_of spelt))))
-      (λ a. record { again = bits width; same = refl; deep = refl }) (λ a ts is. is)
-  printed_type (group parts) spelt = made (called (codes "Group") refl (λ rest. refl) (printed_parts parts (inside_of (second_of spelt))))
-      (λ a. record { again = group a.again; same = a.same; deep = ap suc a.deep }) (λ a ts is. is)
-  printed_type (union parts) spelt = made (called (codes "Union") refl (λ rest. refl) (printed_parts parts (inside_of (second_of spelt))))
-      (λ a. record { again = union a.again; same = a.same; deep = ap suc a.deep }) (λ a ts is. is)
-  printed_type (stream element user settings) spelt =
-      let found = arguments-found (SpellsType element) (SpellsType user) user settings (inside_of (second_of spelt)) in
-      printed_stream element user settings (record { throughput = found.throughput; dims = found.dims; level = found.level })
-      (printed_type element found.element) (user_printed user (printed_type user) found.user_type)
-  printed_type (path names) spelt = made (printed_path names spelt)
-      (λ a. record { again = path a.again; same = a.same; deep = refl }) (λ a ts is. is)
+  pub printed_type : (one : Ltype) → IsType one → PrintedType one
+  printed_type null is = printed_null
+  printed_type (bits width) is = made (called (codes "Bits") refl (λ rest. refl) (printed_whole width is)) (λ a. record { again = bits width; same = refl }) (λ a ts is. is)
+  printed_type (group parts) is = made (called (codes "Group") refl (λ rest. refl) (printed_parts parts is)) (λ a. record { again = group a.again; same = a.same }) (λ a ts is. is)
+  printed_type (union parts) is = made (called (codes "Union") refl (λ rest. refl) (printed_parts parts is)) (λ a. record { again = union a.again; same = a.same }) (λ a ts is. is)
+  printed_type (stream element user settings) is = printed_stream element user settings is.2 (printed_type element is.0) (printed_type user is.1)
+  printed_type (path names) is = made (printed_path names is) (λ a. record { again = path a.again; same = a.same }) (λ a ts is. is)
 
-  pub printed_parts : (ones : Parts) → Spelt (SpellsParts ones) → PrintedParts ones
-  printed_parts no_parts spelt = made nothing (λ a. record { again = no_parts; same = tt; deep = refl }) (λ a ts is. is)
-  printed_parts (part name ltype no_parts) spelt = of_text (one_part name.name (type_text ltype))
-      (made (printed_part name ltype (first_of (first_of spelt)) (printed_type ltype (second_of (second_of (first_of spelt)))))
-      (λ both. record {
-        again = part both.0.again both.1.again no_parts;
-        same = (both.0.same, both.1.same, tt);
-        deep = ap (λ n. max n 0) both.1.deep;
-      })
+  pub printed_parts : (ones : Parts) → AreParts ones → PrintedParts ones
+  printed_parts no_parts are = made nothing (λ a. record { again = no_parts; same = tt }) (λ a ts is. is)
+  printed_parts (part name ltype no_parts) are = of_text (one_part name.name (type_text ltype))
+      (made (printed_part name ltype are.0 (printed_type ltype are.1))
+      (λ both. record { again = part both.0.again both.1.again no_parts; same = (both.0.same, both.1.same, tt) })
       (λ both ts is. with_no_comma _ ts is))
-  printed_parts (part name ltype (part next other more)) spelt =
-      let first = printed_part name ltype (first_of (first_of spelt)) (printed_type ltype (second_of (second_of (first_of spelt)))) in
-      let rest = prefixed comma (printed_parts (part next other more) (second_of (second_of spelt))) (λ rest _. refl) in
+  printed_parts (part name ltype (part next other more)) are =
+      let rest = prefixed comma (printed_parts (part next other more) are.2) (λ rest _. refl) in
       of_text (more_parts name.name (type_text ltype) (codes ", " ++ parts_text (part next other more)))
-      (made (joined first rest (λ rest _. refl))
+      (made (joined (printed_part name ltype are.0 (printed_type ltype are.1)) rest (λ rest _. refl))
       (λ both. record {
         again = part both.0.0.again both.0.1.again both.1.again;
         same = (both.0.0.same, both.0.1.same, both.1.same);
-        deep = ap (λ n. max n (depth_of_parts (part next other more))) both.0.1.deep ∙ ap (λ n. max (depth both.0.1.again) n) both.1.deep;
       })
       (λ both ts is. parts_again next other more both.0.0.again both.0.1.again both.1.again ts both.1.same is))

@@ -2,7 +2,7 @@
 use Rattle.std.proofs.Common.{◌≡◌, ◌⊎◌, inl, inr, ℕ, zero, suc, ◌<◌, Bool, false, List, [], ◌∷◌, get_or, Option, Some, None, option_map, refl, sym}
 use Rattle.std.proofs.Common.{ap, ◌∙◌, subst, arith}
 use Rattle.std.proofs.lemmas.List.Elements.{Contains-append_right, Contains-append_cases}
-use Rattle.std.proofs.lemmas.Option.{same_Some, none-some}
+use Rattle.std.proofs.lemmas.Option.{none-some}
 use Rattle.std.specs.List.{Contains}
 use Rattle.std.specs.Option.{unwrap_or}
 use Rattle.tydi_base.specs.Frac.{Fraction}
@@ -16,8 +16,8 @@ use Rattle.til_parser.specs.Grammar.{Argument, data_type, throughput, dimensiona
 use Rattle.til_parser.specs.Grammar.{IsDefault}
 use Rattle.til_parser.specs.Numbers.{lowest, divisor_from}
 use Rattle.til_parser.specs.ReadTypes.{none_given, filled, stream_of}
-use Rattle.til_parser.specs.Tree.{plain}
-use Rattle.til_parser.proofs.PlainLemmas.{settings_of, plain-Null, plain-injective}
+use Rattle.til_parser.specs.Tree.{plain, settings_of}
+use Rattle.til_parser.proofs.PlainLemmas.{plain-Null, plain-injective}
 
 -- ---- the value of an argument, and its field
 
@@ -112,16 +112,20 @@ one_or_two _ _ = inr (λ e. absurd cc)
 -- ---- the defaults
 
 -- what is given is the Stream's
+pub value-filled_any : (given : Arguments) (a : Argument) (x : Value a) → field a given ≡ Some x → value (filled (unwrap_or given.element types.Null) given) a ≡ x
+value-filled_any given data_type x e = ap (λ o. unwrap_or o types.Null) e
+value-filled_any given throughput x e = ap (λ o. unwrap_or o (lowest 1 1)) e
+value-filled_any given dimensionality x e = ap (λ o. unwrap_or o 0) e
+value-filled_any given synchronicity x e = ap (λ o. unwrap_or o syncs.Sync) e
+value-filled_any given complexity x e = ap (λ o. unwrap_or o 4) e
+value-filled_any given direction x e = ap (λ o. unwrap_or o false) e
+value-filled_any given user_type x e = ap (λ o. unwrap_or o types.Null) e
+value-filled_any given keep x e = ap (λ o. unwrap_or o false) e
+
 pub value-filled : (given : Arguments) (element : AstType) (a : Argument) (x : Value a) →
     given.element ≡ Some element → field a given ≡ Some x → value (filled element given) a ≡ x
-value-filled given element data_type x is e = same_Some element x (sym is ∙ e)
-value-filled given element throughput x is e = ap (λ o. unwrap_or o (lowest 1 1)) e
-value-filled given element dimensionality x is e = ap (λ o. unwrap_or o 0) e
-value-filled given element synchronicity x is e = ap (λ o. unwrap_or o syncs.Sync) e
-value-filled given element complexity x is e = ap (λ o. unwrap_or o 4) e
-value-filled given element direction x is e = ap (λ o. unwrap_or o false) e
-value-filled given element user_type x is e = ap (λ o. unwrap_or o types.Null) e
-value-filled given element keep x is e = ap (λ o. unwrap_or o false) e
+value-filled given element a x is e =
+    subst (λ t. value (filled t given) a ≡ x) (ap (λ o. unwrap_or o types.Null) is) (value-filled_any given a x e)
 
 lowest-whole : lowest 1 1 ≡ record { num = 1; den = 1 }
 unfolding lowest divisor_from
@@ -203,7 +207,7 @@ Contains-cases order b a h = elim (Contains-append_cases (b ∷ []) order a h) [
   | inr c ↦ inr c
 ]
 
-Contains-neither : (order : List Argument) (b a : Argument) → (b ≡ a → ⊥) → (Contains order a → ⊥) → Contains (b ∷ order) a → ⊥
+pub Contains-neither : (order : List Argument) (b a : Argument) → (b ≡ a → ⊥) → (Contains order a → ⊥) → Contains (b ∷ order) a → ⊥
 Contains-neither order b a apart out c = elim (Contains-cases order b a c) [ inl e ↦ apart e | inr d ↦ out d ]
 
 pub Contains-or : (order : List Argument) (a : Argument) → Contains order a ⊎ (Contains order a → ⊥)

@@ -1,15 +1,12 @@
--- The rules of ports and declarations.
-use Rattle.std.proofs.Common.{◌≡◌, ℕ, ◌⊎◌, inl, inr, ⊎_elim, Bool, true, false, List, [], ◌∷◌, ◌++◌, Option, Some, None, refl, sym, subst, codes, append_assoc}
-use Rattle.til_lexer.specs.Words.{has_name_form}
+-- The rules of what follows the keyword of a declaration.
+use Rattle.std.proofs.Common.{◌≡◌, ℕ, ◌⊎◌, ⊎_elim, List, ◌++◌, Some, refl, codes, append_assoc}
 use Rattle.tydi_reading.specs.Forms.{Never, Anything, ◌⋯◌}
-use Rattle.tydi_reading.specs.Lists.{EachIs}
-use Rattle.tydi_reading.specs.Reading.{tells, ◌>>◌, ◌<$>◌, ◌<&>◌}
+use Rattle.tydi_reading.specs.Reading.{◌>>◌, ◌<&>◌}
 use Rattle.tydi_reading.specs.Rules.{IsRule}
-use Rattle.tydi_reading.proofs.ChoiceRules.{choose-rule, both-rule}
-use Rattle.tydi_reading.proofs.FilledLemmas.{filled-first, filled-second}
+use Rattle.tydi_reading.proofs.ChoiceRules.{both-rule}
 use Rattle.tydi_reading.proofs.MarkRules.{skip-rule}
-use Rattle.tydi_reading.proofs.StepRules.{map-rule, same-rule}
-use Rattle.til_lexer.specs.declared.token.TokenKind.{TokenKind}
+use Rattle.tydi_reading.proofs.StepRules.{map-rule}
+use Rattle.std.proofs.lemmas.Option.{none-some}
 use Rattle.til_lexer.specs.declared.token.TokenKind.TheVariants as kinds
 use Rattle.til_parser.specs.declared.keyword.Keyword.{Keyword}
 use Rattle.til_parser.specs.declared.keyword.Keyword.TheVariants as keywords
@@ -21,207 +18,22 @@ use Rattle.til_parser.specs.declared.tree.AstName.{AstName}
 use Rattle.til_parser.specs.declared.tree.AstPath.{AstPath}
 use Rattle.til_parser.specs.declared.tree.AstPort.{AstPort}
 use Rattle.til_parser.specs.declared.tree.AstPorts.{AstPorts}
-use Rattle.til_parser.specs.declared.tree.AstPorts.TheVariants as ports
-use Rattle.til_parser.specs.Grammar.{Form, Of, Word, Name, Path, Doc, Quoted, SpellsType, SpellsPort, SpellsPorts, SpellsBody, SpellsStreamletPorts, StreamletWithin, PortsWithin, way_word, SpellsKind, KindWithin}
+use Rattle.til_parser.specs.Grammar.{Form, Of, Word, Name, Path, Quoted, SpellsType, SpellsPorts, SpellsBody, SpellsStreamletPorts, StreamletWithin, PortsWithin, SpellsKind, KindWithin}
 use Rattle.til_parser.specs.Lexemes.{Lexeme, IsFormed}
-use Rattle.til_parser.specs.Reading.{same_kind, is_kind, expect, expect_word}
-use Rattle.til_parser.specs.ReadTypes.{name, path, doc, quoted, either_word, bracketed, ltype}
+use Rattle.til_parser.specs.Nesting.{TypeTo, PortsTo}
+use Rattle.til_parser.specs.Reading.{same_kind, expect, expect_word}
+use Rattle.til_parser.specs.ReadTypes.{name, path, quoted, bracketed, ltype}
 use Rattle.til_parser.specs.ReadDecls.{body, port, streamlet_ports, keyword, impl_kind, test_kind, kind_of}
 use Rattle.til_parser.specs.Tree.{plain}
-use Rattle.til_parser.proofs.rules.BodyRules.{Name-not, Name-filled, front-tells, Of-tells, body-rule, no_deep-rule}
-use Rattle.til_parser.proofs.rules.LeafRules.{PathNext, NoDoc, Fixed, plain-same, word_or-rule, fixed-rule, name-rule, path-rule, doc-rule, quoted-rule, either-rule}
-use Rattle.til_parser.proofs.rules.ListRules.{Lists, BracketedDeep, bracketed-rule, Of-path}
-use Rattle.til_parser.proofs.rules.TokenRules.{kind-rule, word-rule, Word-not_word}
-use Rattle.til_parser.proofs.rules.TypeRules.{S, Fits, ltype-rule}
-
--- ---- ports
-
-way_formed : (b : Bool) → has_name_form (way_word b) ≡ true
-way_formed true = refl
-way_formed false = refl
-
-module _ (n : ℕ) where
-  abbrev D : Form
-  D = (ltype-rule n).Deep
-
-  abbrev PartsOf : Bool × AstType → Form
-  PartsOf z = Word (way_word z.0) ⋯ S z.1
-
-  ways-rule : IsRule IsFormed (either_word (codes "in") (codes "out") <&> ltype n) PartsOf (λ _. PathNext) (λ z. Unit {0} × Fits n z.1)
-      (λ ts. Never ts ⊎ ((b : Bool) × ((Word (way_word b) ⋯ D) ts)))
-  ways-rule =
-      both-rule IsFormed (either_word (codes "in") (codes "out")) (ltype n) (λ b. Word (way_word b)) (λ _. Anything) (λ _. Unit {0}) Never S (λ _. PathNext) (Fits n) D
-      (λ x y back rest s next. tt) (λ x back rest d. tt) (either-rule way_word way_formed refl) (ltype-rule n).rule
-
-  named_ways-rule : IsRule IsFormed (name <&> (expect kinds.Colon >> (either_word (codes "in") (codes "out") <&> ltype n)))
-      (λ (z : AstName × (Bool × AstType)). Name z.0 ⋯ (Of kinds.Colon ⋯ PartsOf z.1)) (λ _. PathNext) (λ z. Unit {0} × (Unit {0} × Fits n z.1.1))
-      (λ ts. Never ts ⊎ ((x : AstName) × ((Name x ⋯ (Of kinds.Colon ⋯ (λ ts. Never ts ⊎ ((b : Bool) × ((Word (way_word b) ⋯ D) ts))))) ts)))
-  named_ways-rule =
-      both-rule IsFormed name (expect kinds.Colon >> (either_word (codes "in") (codes "out") <&> ltype n)) Name (λ _. Anything) (λ _. Unit {0}) Never
-      (λ z. Of kinds.Colon ⋯ PartsOf z) (λ _. PathNext) (λ z. Unit {0} × Fits n z.1) _ (λ x y back rest s next. tt) (λ x back rest d. tt) name-rule
-      (skip-rule IsFormed (expect kinds.Colon) (either_word (codes "in") (codes "out") <&> ltype n) (Of kinds.Colon) PartsOf (λ _. PathNext) (λ z. Unit {0} × Fits n z.1) _
-      (kind-rule kinds.Colon (codes ":") refl) ways-rule)
-
-  name_no_doc : (x : AstName) (Second : Form) (back rest : List Lexeme) → (Name x ⋯ Second) back → NoDoc (back ++ rest)
-  unfolding same_kind
-  name_no_doc x Second back rest s = front-tells (is_kind kinds.Doc) false (Name x) Second back rest (Name-not x kinds.Doc refl) s
-
-  -- what leads to something too deep in the type of a port
-  abbrev pub PortTo : Form
-  PortTo ts = (d : Option (List ℕ)) × (x : AstName) × (b : Bool) × ((Doc d ⋯ (Name x ⋯ (Of kinds.Colon ⋯ (Word (way_word b) ⋯ D)))) ts)
-
-  port_first : (ts : List Lexeme)
-      → (Never ts ⊎ ((d : Option (List ℕ)) × ((Doc d ⋯ (λ ts. Never ts ⊎ ((x : AstName) × ((Name x ⋯ (Of kinds.Colon ⋯ (λ ts. Never ts ⊎ ((b : Bool) × ((Word (way_word b) ⋯ D) ts))))) ts)))) ts)))
-      → PortTo ts
-  port_first ts = ⊎_elim (λ d. absurd d) (λ d.
-      ⊎_elim (λ e. absurd e) (λ e.
-      ⊎_elim (λ f. absurd f) (λ f. (
-        d.0,
-        e.0,
-        f.0,
-        record {
-          front = d.1.front;
-          back = d.1.back;
-          all = d.1.all;
-          begins = d.1.begins;
-          ends = record {
-            front = e.1.front;
-            back = e.1.back;
-            all = e.1.all;
-            begins = e.1.begins;
-            ends = record { front = e.1.ends.front; back = e.1.ends.back; all = e.1.ends.all; begins = e.1.ends.begins; ends = f.1 };
-          };
-        },
-      )) e.1.ends.ends) d.1.ends)
-
-  port_deep : (ts : List Lexeme) → PortTo ts
-      → (Never ts ⊎ ((d : Option (List ℕ)) × ((Doc d ⋯ (λ ts. Never ts ⊎ ((x : AstName) × ((Name x ⋯ (Of kinds.Colon ⋯ (λ ts. Never ts ⊎ ((b : Bool) × ((Word (way_word b) ⋯ D) ts))))) ts)))) ts)))
-  port_deep ts p =
-      let s = p.3 in
-      let m = s.ends in
-      inr (
-        p.0,
-        record {
-          front = s.front;
-          back = s.back;
-          all = s.all;
-          begins = s.begins;
-          ends = inr (
-            p.1,
-            record {
-              front = m.front;
-              back = m.back;
-              all = m.all;
-              begins = m.begins;
-              ends = record { front = m.ends.front; back = m.ends.back; all = m.ends.all; begins = m.ends.begins; ends = inr (p.2, m.ends.ends) };
-            },
-          );
-        },
-      )
-
-  pub port-rule : IsRule IsFormed (port n) SpellsPort (λ _. PathNext) (λ p. Fits n p.ltype) PortTo
-  unfolding port
-  port-rule =
-      map-rule IsFormed (λ (p : Option (List ℕ) × (AstName × (Bool × AstType))). record { doc = p.0; name = p.1.0; inward = p.1.1.0; ltype = p.1.1.1 })
-      (doc <&> (name <&> (expect kinds.Colon >> (either_word (codes "in") (codes "out") <&> ltype n))))
-      (λ (p : Option (List ℕ) × (AstName × (Bool × AstType))). Doc p.0 ⋯ (Name p.1.0 ⋯ (Of kinds.Colon ⋯ PartsOf p.1.1))) (λ _. PathNext)
-      (λ p. Unit {0} × (Unit {0} × (Unit {0} × Fits n p.1.1.1))) _ SpellsPort (λ _. PathNext) (λ p. Fits n p.ltype) PortTo
-      (record {
-        there = λ x ts s. s;
-        back = λ y ts s. ((y.doc, (y.name, (y.inward, y.ltype))), refl, s);
-        follow = λ x rest next. next;
-        within = λ x w. w.1.1.1;
-        apart = λ x w. (tt, (tt, (tt, w)));
-        first = port_first;
-        deep = port_deep;
-      })
-      (both-rule IsFormed doc (name <&> (expect kinds.Colon >> (either_word (codes "in") (codes "out") <&> ltype n))) Doc (λ _. NoDoc) (λ _. Unit {0}) Never
-      (λ (z : AstName × (Bool × AstType)). Name z.0 ⋯ (Of kinds.Colon ⋯ PartsOf z.1)) (λ _. PathNext) (λ z. Unit {0} × (Unit {0} × Fits n z.1.1)) _
-      (λ x y back rest s next. name_no_doc y.0 _ back rest s) (λ x back rest. ⊎_elim (λ d. absurd d) (λ d. name_no_doc d.0 _ back rest d.1)) doc-rule named_ways-rule)
-
-  pub doc_tells : (d : Option (List ℕ)) (kind : TokenKind) (Second : Form) (front rest : List Lexeme) → same_kind kinds.Doc kind ≡ false
-      → ((front rest : List Lexeme) → Second front → tells (is_kind kind) false (front ++ rest) ≡ false) → (Doc d ⋯ Second) front → tells (is_kind kind) false (front ++ rest) ≡ false
-  doc_tells None kind Second front rest apart second s = rw (s.all, s.begins) (second s.back rest s.ends)
-  doc_tells (Some text) kind Second front rest apart second s =
-      front-tells (is_kind kind) false (Doc (Some text)) Second front rest (λ f r o. rw (o.all, o.is.kind_is) apart) s
-
-  pub port-lists : Lists SpellsPort PortTo
-  unfolding same_kind
-  port-lists = record {
-    filled = λ p front s. filled-second (Doc p.doc) _ front (λ back m. filled-first (Name p.name) _ back (Name-filled p.name) m) s;
-    starts = λ p front rest s. doc_tells p.doc kinds.CloseParen _ front rest refl (λ f r m. front-tells (is_kind kinds.CloseParen) false (Name p.name) _ f r (Name-not p.name kinds.CloseParen refl) m) s;
-    starts_deep = λ front rest d. doc_tells d.0 kinds.CloseParen _ front rest refl (λ f r m. front-tells (is_kind kinds.CloseParen) false (Name d.1) _ f r (Name-not d.1 kinds.CloseParen refl) m) d.3;
-  }
-
-  abbrev pub PortsTo : Form
-  PortsTo = BracketedDeep (port n) SpellsPort (λ p. Fits n p.ltype) PortTo port-lists port-rule
-
-  ports_within : (all : List AstPort) → EachIs (λ p. Fits n p.ltype) all → PortsWithin n all
-  ports_within [] each = tt
-  ports_within (p ∷ all) each = (each.0, ports_within all each.1)
-
-  within_ports : (all : List AstPort) → PortsWithin n all → EachIs (λ p. Fits n p.ltype) all
-  within_ports [] each = tt
-  within_ports (p ∷ all) each = (each.0, within_ports all each.1)
-
-  ports-rule : IsRule IsFormed (bracketed (port n)) SpellsPorts (λ _. Anything) (PortsWithin n) PortsTo
-  ports-rule =
-      same-rule IsFormed (bracketed (port n)) SpellsPorts (λ _. Anything) (EachIs (λ p. Fits n p.ltype)) PortsTo SpellsPorts (λ _. Anything) (PortsWithin n) PortsTo
-      (record { there = λ x ts s. s; back = λ x ts s. s; follow = λ x rest next. tt; within = ports_within; apart = within_ports; first = λ ts d. d; deep = λ ts d. d })
-      (bracketed-rule (port n) SpellsPort (λ p. Fits n p.ltype) PortTo port-lists port-rule)
-
-  -- ---- a streamlet's ports
-
-  OwnPorts : AstPorts → Form
-  OwnPorts x ts = (all : List AstPort) × (x ≡ ports.Own all) × SpellsPorts all ts
-
-  NamedPorts : AstPorts → Form
-  NamedPorts x ts = (p : AstPath) × (x ≡ ports.Named p) × Path p.names ts
-
-  which_ports : (x : AstPorts) (ts : List Lexeme) → SpellsStreamletPorts x ts → OwnPorts x ts ⊎ NamedPorts x ts
-  unfolding OwnPorts NamedPorts
-  which_ports (ports.Own all) ts s = inl (all, refl, s)
-  which_ports (ports.Named p) ts s = inr (p, refl, s)
-
-  of_own : (x : AstPorts) (ts : List Lexeme) → OwnPorts x ts → SpellsStreamletPorts x ts
-  unfolding OwnPorts
-  of_own x ts s = subst (λ y. SpellsStreamletPorts y ts) (sym s.1) s.2
-
-  of_named : (x : AstPorts) (ts : List Lexeme) → NamedPorts x ts → SpellsStreamletPorts x ts
-  unfolding NamedPorts
-  of_named x ts s = subst (λ y. SpellsStreamletPorts y ts) (sym s.1) s.2
-
-  path_not : (names : List AstName) (front rest : List Lexeme) → Path names front → tells (is_kind kinds.OpenParen) false (front ++ rest) ≡ false
-  unfolding same_kind
-  path_not [] front rest s = absurd s
-  path_not (x ∷ []) front rest s = Name-not x kinds.OpenParen refl front rest s
-  path_not (x ∷ next ∷ names) front rest s = front-tells (is_kind kinds.OpenParen) false (Name x) _ front rest (Name-not x kinds.OpenParen refl) s
-
-  streamlet-rule : IsRule IsFormed (streamlet_ports n) SpellsStreamletPorts (λ _. PathNext) (StreamletWithin n) PortsTo
-  unfolding streamlet_ports OwnPorts NamedPorts
-  streamlet-rule =
-      choose-rule IsFormed (is_kind kinds.OpenParen) false (ports.Own <$> bracketed (port n)) (ports.Named <$> path) OwnPorts (λ _. PathNext) PortsTo
-      NamedPorts (λ _. PathNext) Never SpellsStreamletPorts (λ _. PathNext) (StreamletWithin n) PortsTo
-      (record {
-        one = of_own;
-        other = of_named;
-        which = which_ports;
-        one_next = λ x front rest s next. next;
-        other_next = λ x front rest s next. next;
-        one_begins = λ x front rest s next. front-tells (is_kind kinds.OpenParen) true (Of kinds.OpenParen) _ front rest (Of-tells kinds.OpenParen) s.2;
-        other_begins = λ x front rest s next. path_not s.0.names front rest s.2;
-        one_deep = λ ts d. d;
-        other_deep = λ ts d. absurd d;
-        which_deep = λ ts d. inl d;
-        one_deep_begins = λ front rest d. front-tells (is_kind kinds.OpenParen) true (Of kinds.OpenParen) _ front rest (Of-tells kinds.OpenParen) d;
-        other_deep_begins = λ front rest d. absurd d;
-      })
-      (map-rule IsFormed ports.Own (bracketed (port n)) SpellsPorts (λ _. Anything) (PortsWithin n) PortsTo OwnPorts (λ _. PathNext) (StreamletWithin n) PortsTo
-      (record { there = λ x ts s. (x, refl, s); back = λ y ts s. s; follow = λ x rest next. tt; within = λ x w. w; apart = λ x w. w; first = λ ts d. d; deep = λ ts d. d })
-      ports-rule)
-      (map-rule IsFormed ports.Named path (λ p. Path p.names) (λ _. PathNext) (λ _. Unit {0}) Never NamedPorts (λ _. PathNext) (StreamletWithin n) Never
-      (record { there = λ x ts s. (x, refl, s); back = λ y ts s. s; follow = λ x rest next. next; within = λ x w. tt; apart = λ x w. tt; first = λ ts d. d; deep = λ ts d. d })
-      path-rule)
+use Rattle.til_parser.specs.Words.{keyword_of}
+use Rattle.til_parser.proofs.rules.BodyRules.{body-rule, no_deep-rule}
+use Rattle.til_parser.proofs.rules.LeafRules.{PathNext, name-rule, path-rule, quoted-rule}
+use Rattle.til_parser.proofs.rules.ListRules.{Of-path}
+use Rattle.til_parser.proofs.rules.TokenRules.{made, kind-rule, word-rule, token-rule, word_entry, word_token}
+use Rattle.til_parser.proofs.rules.PartRules.{S}
+use Rattle.til_parser.proofs.rules.TypeRules.{Fits}
+use Rattle.til_parser.proofs.rules.LevelRules.{ltype-rule}
+use Rattle.til_parser.proofs.rules.PortRules.{ports-rule, streamlet-rule}
 
 -- ---- keywords
 
@@ -232,56 +44,33 @@ keyword_word keywords.Streamlet = codes "streamlet"
 keyword_word keywords.Impl = codes "impl"
 keyword_word keywords.Test = codes "test"
 
-abbrev K4 : Keyword → Form
-K4 = Fixed keywords.Test (codes "test")
+keyword_of-word : (word : List ℕ) (x : Keyword) → keyword_of word ≡ Some x → word ≡ keyword_word x
+unfolding keyword_of
+keyword_of-word word x is =
+    word_entry keyword_word word keywords.Type x _ is (λ is. word_entry keyword_word word keywords.Interface x _ is (λ is.
+    word_entry keyword_word word keywords.Streamlet x _ is (λ is. word_entry keyword_word word keywords.Impl x _ is (λ is.
+    word_entry keyword_word word keywords.Test x _ is (λ is. absurd (none-some x is))))))
 
-abbrev K3 : Keyword → Form
-K3 x ts = Fixed keywords.Impl (codes "impl") x ts ⊎ K4 x ts
-
-abbrev K2 : Keyword → Form
-K2 x ts = Fixed keywords.Streamlet (codes "streamlet") x ts ⊎ K3 x ts
-
-abbrev K1 : Keyword → Form
-K1 x ts = Fixed keywords.Interface (codes "interface") x ts ⊎ K2 x ts
-
-keyword_parts : (x : Keyword) (ts : List Lexeme) → Word (keyword_word x) ts → Fixed keywords.Type (codes "type") x ts ⊎ K1 x ts
-keyword_parts keywords.Type ts s = inl (refl, s)
-keyword_parts keywords.Interface ts s = inr (inl (refl, s))
-keyword_parts keywords.Streamlet ts s = inr (inr (inl (refl, s)))
-keyword_parts keywords.Impl ts s = inr (inr (inr (inl (refl, s))))
-keyword_parts keywords.Test ts s = inr (inr (inr (inr (refl, s))))
-
-of_keyword : (x y : Keyword) (word : List ℕ) (ts : List Lexeme) → keyword_word x ≡ word → Fixed x word y ts → Word (keyword_word y) ts
-of_keyword x y word ts is s = subst (λ z. Word (keyword_word z) ts) (sym s.0) (subst (λ w. Word w ts) (sym is) s.1)
+keyword_of-is : (x : Keyword) → keyword_of (keyword_word x) ≡ Some x
+unfolding keyword_of
+keyword_of-is keywords.Type = refl
+keyword_of-is keywords.Interface = refl
+keyword_of-is keywords.Streamlet = refl
+keyword_of-is keywords.Impl = refl
+keyword_of-is keywords.Test = refl
 
 pub keyword-rule : IsRule IsFormed keyword (λ x. Word (keyword_word x)) (λ _. Anything) (λ _. Unit {0}) Never
-unfolding keyword
-keyword-rule =
-    plain-same keyword (λ x ts. Fixed keywords.Type (codes "type") x ts ⊎ K1 x ts) (λ x. Word (keyword_word x))
-    (λ x ts. ⊎_elim (of_keyword keywords.Type x (codes "type") ts refl) (⊎_elim (of_keyword keywords.Interface x (codes "interface") ts refl)
-    (⊎_elim (of_keyword keywords.Streamlet x (codes "streamlet") ts refl) (⊎_elim (of_keyword keywords.Impl x (codes "impl") ts refl) (of_keyword keywords.Test x (codes "test") ts refl)))))
-    keyword_parts
-    (word_or-rule keywords.Type (codes "type") _ K1 refl
-    (λ y front rest. ⊎_elim (λ s. Word-not_word (codes "interface") (codes "type") refl front rest s.1)
-    (⊎_elim (λ s. Word-not_word (codes "streamlet") (codes "type") refl front rest s.1)
-    (⊎_elim (λ s. Word-not_word (codes "impl") (codes "type") refl front rest s.1) (λ s. Word-not_word (codes "test") (codes "type") refl front rest s.1))))
-    (word_or-rule keywords.Interface (codes "interface") _ K2 refl
-    (λ y front rest. ⊎_elim (λ s. Word-not_word (codes "streamlet") (codes "interface") refl front rest s.1)
-    (⊎_elim (λ s. Word-not_word (codes "impl") (codes "interface") refl front rest s.1) (λ s. Word-not_word (codes "test") (codes "interface") refl front rest s.1)))
-    (word_or-rule keywords.Streamlet (codes "streamlet") _ K3 refl
-    (λ y front rest. ⊎_elim (λ s. Word-not_word (codes "impl") (codes "streamlet") refl front rest s.1) (λ s. Word-not_word (codes "test") (codes "streamlet") refl front rest s.1))
-    (word_or-rule keywords.Impl (codes "impl") _ K4 refl
-    (λ y front rest s. Word-not_word (codes "test") (codes "impl") refl front rest s.1)
-    (fixed-rule keywords.Test (codes "test") refl)))))
+keyword-rule = token-rule kinds.Word (λ place spelling. keyword_of spelling) (λ x. Word (keyword_word x)) (word_token keyword_of keyword_word keyword_of-word keyword_of-is)
+    (made kinds.Word (codes "type")) keywords.Type refl refl (keyword_of-is keywords.Type)
 
 -- ---- what follows the keyword and the name
 
-abbrev pub keyword_of : AstKind → Keyword
-keyword_of (decls.Alias ltype) = keywords.Type
-keyword_of (decls.Interface all) = keywords.Interface
-keyword_of (decls.Streamlet all) = keywords.Streamlet
-keyword_of (decls.Impl target inside) = keywords.Impl
-keyword_of (decls.Test target port value plan) = keywords.Test
+abbrev pub keyword_for : AstKind → Keyword
+keyword_for (decls.Alias ltype) = keywords.Type
+keyword_for (decls.Interface all) = keywords.Interface
+keyword_for (decls.Streamlet all) = keywords.Streamlet
+keyword_for (decls.Impl target inside) = keywords.Impl
+keyword_for (decls.Test target port value plan) = keywords.Test
 
 abbrev pub SpellsRest : AstKind → Form
 SpellsRest (decls.Alias ltype) = Of kinds.Equals ⋯ SpellsType (plain ltype)
@@ -291,14 +80,14 @@ SpellsRest (decls.Impl target inside) = Word (codes "of") ⋯ Path target.names 
 SpellsRest (decls.Test target port value plan) =
     Word (codes "of") ⋯ Path target.names ⋯ Word (codes "drive") ⋯ Name port ⋯ Of kinds.Equals ⋯ Quoted value ⋯ Word (codes "plan") ⋯ Quoted plan
 
-pub kind_parts : (called : AstName) (kind : AstKind) (ts : List Lexeme) → SpellsKind called kind ts → (Word (keyword_word (keyword_of kind)) ⋯ Name called ⋯ SpellsRest kind) ts
+pub kind_parts : (called : AstName) (kind : AstKind) (ts : List Lexeme) → SpellsKind called kind ts → (Word (keyword_word (keyword_for kind)) ⋯ Name called ⋯ SpellsRest kind) ts
 kind_parts called (decls.Alias ltype) ts s = s
 kind_parts called (decls.Interface all) ts s = s
 kind_parts called (decls.Streamlet all) ts s = s
 kind_parts called (decls.Impl target inside) ts s = s
 kind_parts called (decls.Test target port value plan) ts s = s
 
-pub kind_of_parts : (called : AstName) (kind : AstKind) (ts : List Lexeme) → (Word (keyword_word (keyword_of kind)) ⋯ Name called ⋯ SpellsRest kind) ts → SpellsKind called kind ts
+pub kind_of_parts : (called : AstName) (kind : AstKind) (ts : List Lexeme) → (Word (keyword_word (keyword_for kind)) ⋯ Name called ⋯ SpellsRest kind) ts → SpellsKind called kind ts
 kind_of_parts called (decls.Alias ltype) ts s = s
 kind_of_parts called (decls.Interface all) ts s = s
 kind_of_parts called (decls.Streamlet all) ts s = s
@@ -307,7 +96,7 @@ kind_of_parts called (decls.Test target port value plan) ts s = s
 
 -- a declaration of this keyword
 abbrev pub KindForm : Keyword → AstKind → Form
-KindForm begun kind ts = (keyword_of kind ≡ begun) × SpellsRest kind ts
+KindForm begun kind ts = (keyword_for kind ≡ begun) × SpellsRest kind ts
 
 module _ (n : ℕ) where
   abbrev EqualsTo : Form → Form
@@ -356,12 +145,12 @@ module _ (n : ℕ) where
   test_back (decls.Test target port value plan) ts s = ((target, (port, (value, plan))), refl, s.1)
 
   -- what leads to something too deep in a declaration of this keyword
-  abbrev pub KindTo : Keyword → Form
-  KindTo keywords.Type = Of kinds.Equals ⋯ (ltype-rule n).Deep
-  KindTo keywords.Interface = Of kinds.Equals ⋯ PortsTo n
-  KindTo keywords.Streamlet = Of kinds.Equals ⋯ PortsTo n
-  KindTo keywords.Impl = Never
-  KindTo keywords.Test = Never
+  abbrev pub RestTo : Keyword → Form
+  RestTo keywords.Type = Of kinds.Equals ⋯ (TypeTo n)
+  RestTo keywords.Interface = Of kinds.Equals ⋯ PortsTo n
+  RestTo keywords.Streamlet = Of kinds.Equals ⋯ PortsTo n
+  RestTo keywords.Impl = Never
+  RestTo keywords.Test = Never
 
   equals-rule : IsRule IsFormed (expect kinds.Equals) (λ _. Of kinds.Equals) (λ _. Anything) (λ _. Unit {0}) Never
   equals-rule = kind-rule kinds.Equals (codes "=") refl
@@ -416,21 +205,21 @@ module _ (n : ℕ) where
       (λ (t : AstName × (List ℕ × List ℕ)). Name t.0 ⋯ (Of kinds.Equals ⋯ (Quoted t.1.0 ⋯ (Word (codes "plan") ⋯ Quoted t.1.1)))) (λ _. Anything) (λ _. Unit {0}) Never
       (word-rule (codes "drive") refl) driven-rule)))
 
-  pub kind-rule_of : (begun : Keyword) → IsRule IsFormed (kind_of n begun) (KindForm begun) (λ _. PathNext) (KindWithin n) (KindTo begun)
+  pub kind-rule_of : (begun : Keyword) → IsRule IsFormed (kind_of n begun) (KindForm begun) (λ _. PathNext) (KindWithin n) (RestTo begun)
   unfolding impl_kind test_kind
   kind-rule_of keywords.Type =
-      map-rule IsFormed decls.Alias (expect kinds.Equals >> ltype n) (λ x. Of kinds.Equals ⋯ S x) (λ _. PathNext) (Fits n) (Of kinds.Equals ⋯ (ltype-rule n).Deep)
-      (KindForm keywords.Type) (λ _. PathNext) (KindWithin n) (KindTo keywords.Type)
+      map-rule IsFormed decls.Alias (expect kinds.Equals >> ltype n) (λ x. Of kinds.Equals ⋯ S x) (λ _. PathNext) (Fits n) (Of kinds.Equals ⋯ (TypeTo n))
+      (KindForm keywords.Type) (λ _. PathNext) (KindWithin n) (RestTo keywords.Type)
       (record { there = λ x ts s. (refl, s); back = alias_back; follow = λ x rest next. next; within = λ x w. w; apart = λ x w. w; first = λ ts d. d; deep = λ ts d. d })
-      (skip-rule IsFormed (expect kinds.Equals) (ltype n) (Of kinds.Equals) S (λ _. PathNext) (Fits n) (ltype-rule n).Deep equals-rule (ltype-rule n).rule)
+      (skip-rule IsFormed (expect kinds.Equals) (ltype n) (Of kinds.Equals) S (λ _. PathNext) (Fits n) (TypeTo n) equals-rule (ltype-rule n))
   kind-rule_of keywords.Interface =
       map-rule IsFormed decls.Interface (expect kinds.Equals >> bracketed (port n)) (λ x. Of kinds.Equals ⋯ SpellsPorts x) (λ _. Anything) (PortsWithin n) (Of kinds.Equals ⋯ PortsTo n)
-      (KindForm keywords.Interface) (λ _. PathNext) (KindWithin n) (KindTo keywords.Interface)
+      (KindForm keywords.Interface) (λ _. PathNext) (KindWithin n) (RestTo keywords.Interface)
       (record { there = λ x ts s. (refl, s); back = interface_back; follow = λ x rest next. tt; within = λ x w. w; apart = λ x w. w; first = λ ts d. d; deep = λ ts d. d })
       (skip-rule IsFormed (expect kinds.Equals) (bracketed (port n)) (Of kinds.Equals) SpellsPorts (λ _. Anything) (PortsWithin n) (PortsTo n) equals-rule (ports-rule n))
   kind-rule_of keywords.Streamlet =
       map-rule IsFormed decls.Streamlet (expect kinds.Equals >> streamlet_ports n) (λ x. Of kinds.Equals ⋯ SpellsStreamletPorts x) (λ _. PathNext) (StreamletWithin n) (Of kinds.Equals ⋯ PortsTo n)
-      (KindForm keywords.Streamlet) (λ _. PathNext) (KindWithin n) (KindTo keywords.Streamlet)
+      (KindForm keywords.Streamlet) (λ _. PathNext) (KindWithin n) (RestTo keywords.Streamlet)
       (record { there = λ x ts s. (refl, s); back = streamlet_back; follow = λ x rest next. next; within = λ x w. w; apart = λ x w. w; first = λ ts d. d; deep = λ ts d. d })
       (skip-rule IsFormed (expect kinds.Equals) (streamlet_ports n) (Of kinds.Equals) SpellsStreamletPorts (λ _. PathNext) (StreamletWithin n) (PortsTo n) equals-rule (streamlet-rule n))
   kind-rule_of keywords.Impl =

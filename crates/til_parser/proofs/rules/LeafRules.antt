@@ -12,7 +12,7 @@ use Rattle.std.proofs.lemmas.Int.Digits.{digits_value-lt}
 use Rattle.tydi_base.specs.Decimal.{read_on, below}
 use Rattle.tydi_base.specs.Frac.{IsReduced}
 use Rattle.tydi_base.specs.Level.{IsLevel}
-use Rattle.tydi_base.specs.Name.{is_name, name_of}
+use Rattle.tydi_base.specs.Name.{is_name, name_of, has_name_form}
 use Rattle.tydi_base.specs.declared.place.Place.{Place}
 use Rattle.tydi_base.proofs.DecimalLaws.{own}
 use Rattle.tydi_reading.specs.Forms.{Never, Anything}
@@ -25,7 +25,6 @@ use Rattle.tydi_reading.proofs.StepRules.{Only, pure-rule, map-rule, read-rule, 
 use Rattle.til_lexer.specs.Spelling.{HasForm, IsWholeNumber, IsPointNumber, IsBetween}
 use Rattle.til_lexer.specs.Spans.{digits_at}
 use Rattle.til_lexer.specs.Places.{start}
-use Rattle.til_lexer.specs.Words.{has_name_form}
 use Rattle.til_lexer.specs.declared.token.TokenKind.TheVariants as kinds
 use Rattle.til_parser.specs.declared.ltype.AstSync.{AstSync}
 use Rattle.til_parser.specs.declared.ltype.AstSync.TheVariants as syncs
@@ -36,8 +35,9 @@ use Rattle.til_parser.specs.Lexemes.{Lexeme, IsFormed, between_marks}
 use Rattle.til_parser.specs.Numbers.{whole_of, numerator_of, denominator_of, lowest}
 use Rattle.til_parser.specs.ReadTypes.{name_at, name, whole, number, level_of, level, quoted, doc_of, doc, path, either_word, sync}
 use Rattle.til_parser.specs.Reading.{same_kind, is_kind, is_word, expect_word, token}
+use Rattle.til_parser.specs.Words.{sync_of}
 use Rattle.til_parser.proofs.numbers.FractionLemmas.{IsReduced-lowest, lowest_from_IsReduced}
-use Rattle.til_parser.proofs.rules.TokenRules.{both, one, made, same_kind-is, is_word-is, kind-mark, word-rule, IsToken, token-rule, Word-not_word}
+use Rattle.til_parser.proofs.rules.TokenRules.{both, one, made, same_kind-is, is_word-is, kind-mark, word-rule, IsToken, token-rule, word_entry, word_token, Word-not_word}
 
 -- ---- names
 
@@ -348,40 +348,22 @@ module _ (word : Bool → List ℕ) (form : (b : Bool) → has_name_form (word b
       (word_or-rule true (word true) ((λ _. false) <$> expect_word (word false)) (Fixed false (word false)) (form true)
       (λ y front rest s. Word-not_word (word false) (word true) apart front rest s.1) (fixed-rule false (word false) (form false)))
 
-Flat : AstSync → Form
-Flat = Fixed syncs.FlatDesync (codes "FlatDesync")
+sync_of-word : (word : List ℕ) (x : AstSync) → sync_of word ≡ Some x → word ≡ sync_word x
+unfolding sync_of
+sync_of-word word x is =
+    word_entry sync_word word syncs.Sync x _ is (λ is. word_entry sync_word word syncs.Flatten x _ is (λ is.
+    word_entry sync_word word syncs.Desync x _ is (λ is. word_entry sync_word word syncs.FlatDesync x _ is (λ is. absurd (none-some x is)))))
 
-Desynced : AstSync → Form
-Desynced x ts = Fixed syncs.Desync (codes "Desync") x ts ⊎ Flat x ts
-
-Flattened : AstSync → Form
-Flattened x ts = Fixed syncs.Flatten (codes "Flatten") x ts ⊎ Desynced x ts
-
-sync_of : (x : AstSync) (ts : List Lexeme) → Word (sync_word x) ts → Fixed syncs.Sync (codes "Sync") x ts ⊎ Flattened x ts
-unfolding Flattened Desynced Flat
-sync_of syncs.Sync ts s = inl (refl, s)
-sync_of syncs.Flatten ts s = inr (inl (refl, s))
-sync_of syncs.Desync ts s = inr (inr (inl (refl, s)))
-sync_of syncs.FlatDesync ts s = inr (inr (inr (refl, s)))
-
-of_sync : (x y : AstSync) (word : List ℕ) (ts : List Lexeme) → sync_word x ≡ word → Fixed x word y ts → Word (sync_word y) ts
-of_sync x y word ts is s = subst (λ z. Word (sync_word z) ts) (sym s.0) (subst (λ w. Word w ts) (sym is) s.1)
+sync_of-is : (x : AstSync) → sync_of (sync_word x) ≡ Some x
+unfolding sync_of
+sync_of-is syncs.Sync = refl
+sync_of-is syncs.Flatten = refl
+sync_of-is syncs.Desync = refl
+sync_of-is syncs.FlatDesync = refl
 
 pub sync-rule : IsRule IsFormed sync (λ x. Word (sync_word x)) (λ _. Anything) (λ _. Unit {0}) Never
-unfolding sync Flattened Desynced Flat
-sync-rule =
-    plain-same sync (λ x ts. Fixed syncs.Sync (codes "Sync") x ts ⊎ Flattened x ts) (λ x. Word (sync_word x))
-    (λ x ts. ⊎_elim (of_sync syncs.Sync x (codes "Sync") ts refl) (⊎_elim (of_sync syncs.Flatten x (codes "Flatten") ts refl)
-    (⊎_elim (of_sync syncs.Desync x (codes "Desync") ts refl) (of_sync syncs.FlatDesync x (codes "FlatDesync") ts refl))))
-    sync_of
-    (word_or-rule syncs.Sync (codes "Sync") _ Flattened refl
-    (λ y front rest. ⊎_elim (λ s. Word-not_word (codes "Flatten") (codes "Sync") refl front rest s.1)
-    (⊎_elim (λ s. Word-not_word (codes "Desync") (codes "Sync") refl front rest s.1) (λ s. Word-not_word (codes "FlatDesync") (codes "Sync") refl front rest s.1)))
-    (word_or-rule syncs.Flatten (codes "Flatten") _ Desynced refl
-    (λ y front rest. ⊎_elim (λ s. Word-not_word (codes "Desync") (codes "Flatten") refl front rest s.1) (λ s. Word-not_word (codes "FlatDesync") (codes "Flatten") refl front rest s.1))
-    (word_or-rule syncs.Desync (codes "Desync") _ Flat refl
-    (λ y front rest s. Word-not_word (codes "FlatDesync") (codes "Desync") refl front rest s.1)
-    (fixed-rule syncs.FlatDesync (codes "FlatDesync") refl))))
+sync-rule = token-rule kinds.Word (λ place spelling. sync_of spelling) (λ x. Word (sync_word x)) (word_token sync_of sync_word sync_of-word sync_of-is)
+    (made kinds.Word (codes "Sync")) syncs.Sync refl refl (sync_of-is syncs.Sync)
 
 -- ---- paths
 

@@ -5,12 +5,13 @@ use Rattle.tydi_reading.specs.Lists.{Each, EachIs, repeated, separated}
 use Rattle.tydi_reading.specs.Reading.{Reader, tells, ◌<<◌}
 use Rattle.tydi_reading.specs.Rules.{IsRule}
 use Rattle.tydi_reading.proofs.MarkRules.{skip-rule, close-rule}
-use Rattle.tydi_reading.proofs.RepeatedRule.{Repeats, EachDeep, repeated-rule}
-use Rattle.tydi_reading.proofs.SeparatedRule.{Between, SeparatedDeep, separated-rule}
+use Rattle.tydi_reading.proofs.RepeatedRule.{Repeats, repeated-rule}
+use Rattle.tydi_reading.proofs.SeparatedRule.{Between, separated-rule}
 use Rattle.til_lexer.specs.declared.token.TokenKind.{TokenKind}
 use Rattle.til_lexer.specs.declared.token.TokenKind.TheVariants as kinds
 use Rattle.til_parser.specs.Grammar.{Form, Of, Commas, Bracketed, Braced}
 use Rattle.til_parser.specs.Lexemes.{Lexeme, IsFormed}
+use Rattle.til_parser.specs.Nesting.{BracketedTo, BracedTo}
 use Rattle.til_parser.specs.ReadTypes.{bracketed}
 use Rattle.til_parser.specs.ReadDecls.{braced}
 use Rattle.til_parser.specs.Reading.{same_kind, is_kind, expect}
@@ -52,13 +53,10 @@ module _ {A : Type 0} (item : Reader Lexeme A) (Item : A → Form) (Within : A �
     apart = λ rest is. kind-not kinds.CloseParen kinds.Comma refl rest is;
   }
 
-  abbrev pub BracketedDeep : Form
-  BracketedDeep = Of kinds.OpenParen ⋯ SeparatedDeep IsFormed (is_kind kinds.CloseParen) false (is_kind kinds.Comma) (Of kinds.Comma) item Item PathNext Within Deep between rule
-
   closes : (back rest : List Lexeme) → Of kinds.CloseParen back → tells (is_kind kinds.CloseParen) false (back ++ rest) ≡ true
   closes back rest s = rw (s.all) (same_kind-is s.lexeme.kind kinds.CloseParen s.is)
 
-  pub bracketed-rule : IsRule IsFormed (bracketed item) (λ items. Bracketed (Commas Item items)) (λ _. Anything) (EachIs Within) BracketedDeep
+  pub bracketed-rule : IsRule IsFormed (bracketed item) (λ items. Bracketed (Commas Item items)) (λ _. Anything) (EachIs Within) (BracketedTo Item Deep)
   unfolding bracketed
   bracketed-rule =
       skip-rule IsFormed (expect kinds.OpenParen) (separated (is_kind kinds.CloseParen) false (is_kind kinds.Comma) item << expect kinds.CloseParen)
@@ -83,13 +81,10 @@ module _ {A : Type 0} (item : Reader Lexeme A) (Item : A → Form) (Within : A �
   pub repeats : Repeats (is_kind kinds.CloseBrace) false Item Deep
   repeats = record { filled = braces.filled; starts = braces.starts; starts_deep = braces.starts_deep }
 
-  abbrev pub BracedDeep : Form
-  BracedDeep = Of kinds.OpenBrace ⋯ EachDeep IsFormed (is_kind kinds.CloseBrace) false item Item Within Deep repeats rule
-
   ends : (back rest : List Lexeme) → Of kinds.CloseBrace back → tells (is_kind kinds.CloseBrace) false (back ++ rest) ≡ true
   ends back rest s = rw (s.all) (same_kind-is s.lexeme.kind kinds.CloseBrace s.is)
 
-  pub braced-rule : IsRule IsFormed (braced item) (λ items. Braced (Each Item items)) (λ _. Anything) (EachIs Within) BracedDeep
+  pub braced-rule : IsRule IsFormed (braced item) (λ items. Braced (Each Item items)) (λ _. Anything) (EachIs Within) (BracedTo Item Deep)
   unfolding braced
   braced-rule =
       skip-rule IsFormed (expect kinds.OpenBrace) (repeated (is_kind kinds.CloseBrace) false item << expect kinds.CloseBrace)

@@ -1,6 +1,6 @@
 -- The rules of one token: of a kind, a word, or a token of a kind with a meaning.
-use Rattle.std.proofs.Common.{◌≡◌, ℕ, Bool, true, false, cond, ◌&&◌, List, [], ◌∷◌, ◌++◌, All, Option, Some, None, option_and_then, refl, sym, subst, bytes_eq, T}
-use Rattle.std.proofs.lemmas.Option.{none-some}
+use Rattle.std.proofs.Common.{◌≡◌, ℕ, Bool, true, false, cond, ◌&&◌, List, [], ◌∷◌, ◌++◌, All, Option, Some, None, option_and_then, refl, sym, ap, ◌∙◌, subst, bytes_eq, T}
+use Rattle.std.proofs.lemmas.Option.{none-some, same_Some}
 use Rattle.std.proofs.lemmas.Slice.Eq.{bytes_eq-Decides}
 use Rattle.std.proofs.lemmas.List.Elements.{All-head}
 use denote.Enum.Bare.{same_true, true_same}
@@ -15,7 +15,7 @@ use Rattle.til_lexer.specs.declared.token.TokenKind.{TokenKind}
 use Rattle.til_lexer.specs.declared.token.TokenKind.TheVariants as kinds
 use Rattle.til_lexer.specs.Places.{start}
 use Rattle.til_lexer.specs.Spelling.{HasForm}
-use Rattle.til_lexer.specs.Words.{has_name_form}
+use Rattle.tydi_base.specs.Name.{has_name_form}
 use Rattle.til_parser.specs.Grammar.{Form, One, Of, IsWord, Word}
 use Rattle.til_parser.specs.Lexemes.{Lexeme, IsFormed}
 use Rattle.til_parser.specs.Reading.{same_kind, is_kind, is_word, expect, expect_word, token}
@@ -134,3 +134,22 @@ module _ {A : Type 0} (kind : TokenKind) (meaning : Place → List ℕ → Optio
             let form = All-head IsFormed o.0 [] (subst (All IsFormed) o.1 each) in
             (o.0, o.1, rw (same_kind-is o.0.kind kind o.2) (o.3 form));
       }))
+
+-- ---- tables of words
+
+-- where a table has a meaning for a word, the word is that of the meaning
+pub word_entry : {K : Type 0} (own : K → List ℕ) (word : List ℕ) (k x : K) (o : Option K) → cond (bytes_eq word (own k)) (Some k) o ≡ Some x
+    → (o ≡ Some x → word ≡ own x) → word ≡ own x
+word_entry {K} own word k x o is more = by_test (bytes_eq word (own k)) refl is
+  where
+    by_test : (b : Bool) → bytes_eq word (own k) ≡ b → cond b (Some k) o ≡ Some x → word ≡ own x
+    by_test true same is = (bytes_eq-Decides word (own k)).0 same ∙ ap own (same_Some k x is)
+    by_test false same is = more is
+
+-- a token that is a word of a table
+pub word_token : {K : Type 0} (meaning : List ℕ → Option K) (own : K → List ℕ) → ((word : List ℕ) (x : K) → meaning word ≡ Some x → word ≡ own x)
+    → ((x : K) → meaning (own x) ≡ Some x) → IsToken kinds.Word (λ place spelling. meaning spelling) (λ x. Word (own x))
+word_token meaning own to from = record {
+  there = λ x lexeme is means. one (IsWord (own x)) lexeme (record { kind = is; text = to lexeme.spelling x means });
+  back = λ x ts s. (s.lexeme, s.all, s.is.kind, λ formed. ap meaning s.is.text ∙ from x);
+}

@@ -24,6 +24,7 @@ use Rattle.til_lexer.specs.declared.token.TokenKind.TheVariants as kinds
 use Rattle.til_lexer.proofs.SpelledPieces.{prefix_up_to}
 use Rattle.til_parser.specs.Canonical.{behind_point, digits_of_rest, number_text}
 use Rattle.til_parser.specs.Numbers.{denominator_of, digits_before, digits_behind, numerator_of}
+use Rattle.til_parser.specs.Trees.{IsNumberText}
 
 -- ---- the digits of a division
 
@@ -197,11 +198,6 @@ whole_below num den value before behind some below same =
     let both : value * den < 10 ^ before * 10 ^ behind * den = subst (λ n. value * den < n * den) split times in
     let less : num * 10 ^ behind < 10 ^ before * den * 10 ^ behind = omega (arith, both, same) in
     (div-lt_iff_lt-mul some).1 (lt_of_mul-lt-mul_right (10 ^ behind) less)
-
--- a text is read as a number
-pub record IsNumberText (number : Fraction) (text : List ℕ) : Type 0 where
-  pub form : HasForm kinds.Number text
-  pub value : IsReduced (numerator_of text) (denominator_of text) number
 
 -- the digits before the point and behind it of the text of a number are the number
 text_is : (number : Fraction) (before : ℕ) (behind : List ℕ) (count : ℕ) → IsLowest number → 0 < before → before + count ≤ 18

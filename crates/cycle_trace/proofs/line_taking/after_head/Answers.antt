@@ -9,16 +9,16 @@ use Rattle.cycle_trace.proofs.HeaderLemmas.{head_after-fits}
 use Rattle.cycle_trace.proofs.ReaderLemmas.{after_row-line, plain-none}
 use Rattle.cycle_trace.proofs.line_taking.after_head.Goals as goal
 
-pub returns-in_err-head : goal.returns-in_err-head
-returns-in_err-head g c bytes stands =
+pub returns-in_err-head-clause-stands : goal.returns-in_err-head-clause-stands
+returns-in_err-head-clause-stands g c bytes stands =
     let text = c.args.text.now in
     let h = subst (λ (s : Stage). StandsAt g.K.RowSink.stands_for c.args.sink.now text s c.args.line.now bytes) c.requires.heads stands in
     let p = err_from_is_err_and c.from_residual.result c.from_residual.ensures.1 in
     let wrong = rw c.len.ensures at (c.in_err-head.ensures.gives h.2.paths h.2.told (h.2.many ∙ sym c.len.ensures)) in
     rw (p.1, p.2) (head-fails bytes c.args.line.now h.1 text.cycles text.heads text.paths h.2 c.in_err-head.field-0.0 (sym c.is_head_line.ensures ∙ c.if-is_head_line.true) wrong)
 
-pub returns-then-is_head_line : goal.returns-then-is_head_line
-returns-then-is_head_line g c bytes stands =
+pub returns-then-is_head_line-clause-stands : goal.returns-then-is_head_line-clause-stands
+returns-then-is_head_line-clause-stands g c bytes stands =
     let text = c.args.text.now in
     let h = subst (λ (s : Stage). StandsAt g.K.RowSink.stands_for c.args.sink.now text s c.args.line.now bytes) c.requires.heads stands in
     let read = rw c.len.ensures at (c.in_ok-head.ensures.gives h.2.paths h.2.told (h.2.many ∙ sym c.len.ensures)) in
@@ -27,8 +27,8 @@ returns-then-is_head_line g c bytes stands =
     subst (λ (s : Stage). StandsAt g.K.RowSink.stands_for c.args.sink.now (record { stage = text.stage; cycles = text.cycles; heads = c.push.new.self; paths = c.next_head.new.paths; rows = text.rows }) s [] (bytes ++ 10 ∷ [])) (sym c.requires.heads)
     (h.0, plain-none, subst (λ (heads : List Head). OpensWith (bytes ++ 10 ∷ []) [] text.cycles heads c.next_head.new.paths) (sym c.in_ok-push.ensures.ok) opens)
 
-pub returns-then-text-gt-MOST_CYCLES : goal.returns-then-text-gt-MOST_CYCLES
-returns-then-text-gt-MOST_CYCLES g c bytes stands =
+pub returns-then-text-gt-MOST_CYCLES-clause-stands : goal.returns-then-text-gt-MOST_CYCLES-clause-stands
+returns-then-text-gt-MOST_CYCLES-clause-stands g c bytes stands =
     let text = c.args.text.now in
     let h = subst (λ (s : Stage). StandsAt g.K.RowSink.stands_for c.args.sink.now text s c.args.line.now bytes) c.requires.heads stands in
     header-many bytes c.args.line.now h.1 text.cycles text.heads text.paths h.2 (sym c.is_head_line.ensures ∙ c.if-is_head_line.false) c.if-text-gt-MOST_CYCLES.true
@@ -39,10 +39,10 @@ start_rows-requires-clause-streams g c =
     let h = subst (λ (s : Stage). StandsAt g.K.RowSink.stands_for c.args.sink.now text s c.args.line.now c.requires.stands.0) c.requires.heads c.requires.stands.1 in
     heads-stand c.requires.stands.0 c.args.line.now h.1 text.cycles text.heads text.paths h.2 (sym c.is_head_line.ensures ∙ c.if-is_head_line.false)
 
-pub returns : goal.returns
-returns g c bytes stands =
+pub returns-clause-stands : goal.returns-clause-stands
+returns-clause-stands g c bytes stands =
     let text = c.args.text.now in
     let h = subst (λ (s : Stage). StandsAt g.K.RowSink.stands_for c.args.sink.now text s c.args.line.now bytes) c.requires.heads stands in
     let goes = header-ok bytes c.args.line.now h.1 text.cycles text.heads text.paths h.2 (sym c.is_head_line.ensures ∙ c.if-is_head_line.false) c.if-text-gt-MOST_CYCLES.false in
-    let started = c.in_ok-start_rows.ensures in
-    after_row-line g.K.RowSink.stands_for c.after_row.new.sink _ bytes c.after_row.result started.0 (c.after_row.ensures (begun text.cycles text.heads) bytes started.2 started.1 goes)
+    let started = c.in_ok-start_rows.ensures.ok in
+    after_row-line g.K.RowSink.stands_for c.after_row.new.sink _ bytes c.after_row.result started.0 (c.after_row.ensures.stands (begun text.cycles text.heads) bytes started.2 started.1 goes)

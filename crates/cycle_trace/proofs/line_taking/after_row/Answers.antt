@@ -9,14 +9,14 @@ use Rattle.cycle_trace.proofs.KeepLemmas.{length-owed_heads}
 use Rattle.cycle_trace.proofs.RowsReadLemmas.{can_take, less_of, not_whole, stream_in, turn_params}
 use Rattle.cycle_trace.proofs.line_taking.after_row.Goals as goal
 
-pub returns-then-is_whole : goal.returns-then-is_whole
-returns-then-is_whole g c t bytes stands h goes more =
+pub returns-then-is_whole-clause-stands : goal.returns-then-is_whole-clause-stands
+returns-then-is_whole-clause-stands g c t bytes stands h goes more =
     let whole = c.if-is_whole.ensures.0 refl in
     let all : length (owed (params_of_heads t.heads) t.cycles) ≤ length t.rows = omega (arith, whole, h.got, h.want, length-owed_heads t) in
     left-fails t all bytes c.args.line.now goes more ∙ ap (λ (n : ℕ). Err (RowsLeft n)) (sym (c.line_number.ensures t h))
 
-pub returns-in_err-bits : goal.returns-in_err-bits
-returns-in_err-bits g c t bytes stands h goes =
+pub returns-in_err-bits-clause-stands : goal.returns-in_err-bits-clause-stands
+returns-in_err-bits-clause-stands g c t bytes stands h goes =
     let p = err_from_is_err_and c.from_residual.result c.from_residual.ensures.1 in
     let turn = turn_params c.args.rows.now t h (less_of c.args.rows.now t h (not_whole _ c.if-is_whole.ensures)) in
     rw (p.1, p.2) (row-fails t turn.0 turn.1 bytes c.args.line.now c.in_err-bits.field-0.0 goes (c.in_err-bits.ensures.gives t turn.0 h turn.1))
@@ -44,15 +44,15 @@ advance-requires g c =
     let read = c.in_ok-bits.ensures.gives t turn.0 h turn.1 ∙ ap Ok (sym c.row.ensures) in
     (t, (cycle_in c.row.result, (c.read_row.ensures.reads t h, can_take t (3 + length t.heads + length t.rows) turn.0 c.args.line.now (cycle_in c.row.result) turn.1 read)))
 
-pub returns : goal.returns
-returns g c t bytes stands h goes =
+pub returns-clause-stands : goal.returns-clause-stands
+returns-clause-stands g c t bytes stands h goes =
     let turn = turn_params c.args.rows.now t h (less_of c.args.rows.now t h (not_whole _ c.if-is_whole.ensures)) in
     let read = c.in_ok-bits.ensures.gives t turn.0 h turn.1 ∙ ap Ok (sym c.row.ensures) in
     let can = can_take t (3 + length t.heads + length t.rows) turn.0 c.args.line.now (cycle_in c.row.result) turn.1 read in (
       with_row t (cycle_in c.row.result),
       (
         c.in_ok-row.ensures.taken t stands can,
-        c.advance.ensures t (cycle_in c.row.result) (c.read_row.ensures.reads t h) can,
+        c.advance.ensures.reads t (cycle_in c.row.result) (c.read_row.ensures.reads t h) can,
         row-ok t turn.0 turn.1 bytes c.args.line.now (cycle_in c.row.result) goes read,
       ),
     )

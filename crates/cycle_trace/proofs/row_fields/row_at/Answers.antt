@@ -1,7 +1,7 @@
 use Rattle.std.proofs.Common.{IsSome, sym, subst}
 use Rattle.cycle_trace.specs.Faults.{fault_in}
 use Rattle.cycle_trace.specs.declared.fault.TraceFault.{TraceFault}
-use Rattle.cycle_trace.proofs.FormLemmas.{row_fault-some}
+use Rattle.cycle_trace.proofs.RowFormLemmas.{row_fault-some}
 use Rattle.cycle_trace.proofs.row_fields.row_at.Goals as goal
 
 pub returns-in-Err-clause-calm : goal.returns-in-Err-clause-calm

@@ -1,8 +1,12 @@
-use Rattle.cycle_trace.proofs.EndLemmas.{answers_fault, surveys_counts}
+use Rattle.std.proofs.Common.{Some, None, option_map, refl, sym, ap, ◌∙◌}
+use Rattle.cycle_trace.specs.Survey.{counts_of}
+use Rattle.cycle_trace.specs.Surveying.{unfinished_of}
+use Rattle.cycle_trace.specs.Trace.{streams_of}
+use Rattle.cycle_trace.proofs.EndLemmas.{surveys_legal}
 use Rattle.cycle_trace.proofs.survey_outcome.count.Goals as goal
 
 pub returns-in-Some : goal.returns-in-Some
-returns-in-Some c t at legal = answers_fault t c.in-Some.fault legal (c.in-Some.ensures t at)
+returns-in-Some c t at legal = surveys_legal t (Some _) (counts_of (streams_of t)) legal (sym (ap (option_map unfinished_of) c.in-Some.is) ∙ c.unfinished.ensures t at) refl
 
-pub returns : goal.returns
-returns c t at legal = surveys_counts t c.in_ok-counts_of.field-0 legal (c.in_default.ensures t at) (c.in_ok-counts_of.ensures t at)
+pub returns-in_ok-counts_of-in-None : goal.returns-in_ok-counts_of-in-None
+returns-in_ok-counts_of-in-None c t at legal = surveys_legal t None c.in_ok-counts_of-in-None.field-0 legal (sym (ap (option_map unfinished_of) c.in-None.is) ∙ c.unfinished.ensures t at) (c.in_ok-counts_of-in-None.ensures t at)

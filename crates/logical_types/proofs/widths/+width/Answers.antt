@@ -1,5 +1,6 @@
 use Rattle.std.proofs.Common.{ap, sym, ◌∙◌}
 use Rattle.logical_types.specs.Tree.{union, plain, plain_parts}
+use Rattle.tydi_base.specs.Width.{index_width}
 use Rattle.logical_types.specs.Width.{width_of, total_width, tag_width, saturated}
 use Rattle.logical_types.proofs.PlainLemmas.{plain-Group, plain-Union, number_of_parts-plain}
 use Rattle.logical_types.proofs.WidthLemmas.{greatest-past, union_saturated}
@@ -14,6 +15,7 @@ saturated_width-returns-in-Union k c = c.union_width.ensures ∙ ap (λ parts. s
     ∙ ap (λ ltype. saturated (width_of ltype)) (sym (plain-Union c.in-Union.parts)) ∙ ap (λ ltype. saturated (width_of (plain ltype))) (sym c.in-Union.is)
 
 pub union_width-returns : goal.union_width-returns
-union_width-returns k c = union_saturated c.saturating_add.result c.parts.greatest c.tag_width.result _ _ c.saturating_add.ensures
+unfolding tag_width
+union_width-returns k c = union_saturated c.saturating_add.result c.parts.greatest c.index_width.result _ _ c.saturating_add.ensures
     (greatest-past c.args.parts.now c.parts.part-index c.parts.greatest c.parts-test.false _ c.parts.invariant)
-    (c.tag_width.ensures ∙ ap tag_width (sym (number_of_parts-plain c.args.parts.now)))
+    (c.index_width.ensures.value ∙ ap index_width (sym (number_of_parts-plain c.args.parts.now)))

@@ -1,8 +1,7 @@
 use Rattle.std.proofs.Common.{take, sym, ◌∙◌, ap, arith}
 use Rattle.std.specs.List.{prefix_len}
-use Rattle.tydi_base.specs.Name.{is_name_byte}
-use Rattle.til_lexer.specs.Words.{has_name_form}
-use Rattle.til_lexer.proofs.WordLemmas.{name_cut, prefix_names, word-none, word-other, word-name, word-bad}
+use Rattle.tydi_base.specs.Name.{is_name_byte, has_name_form}
+use Rattle.til_lexer.proofs.WordLemmas.{name_cut, word-none, word-other, word-name, word-bad}
 use Rattle.til_lexer.proofs.words.word_at.Goals as goal
 use Rattle.til_lexer.proofs.words.word_at.Goals.{then-count-eq0-via-then-count-eq0, then-count-eq0-via-else-count-eq0+then-continues}
 
@@ -20,9 +19,6 @@ returns-then-count-eq0 c =
           let some = w.if-count-eq0.false in
           word-other c.args.place c.args.text.now c.name_bytes_at-count.result c.utf8.text is (omega arith) (sym w.continues.ensures ∙ w.if-continues.true)
     ]
-
-pub has_name_form-requires : goal.has_name_form-requires
-has_name_form-requires c = prefix_names c.as_bytes-bytes.result.now c.name_bytes_at-count.result c.name_bytes_at-count.ensures.value
 
 pub returns-then-has_name_form : goal.returns-then-has_name_form
 returns-then-has_name_form c =

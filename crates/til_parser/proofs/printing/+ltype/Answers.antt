@@ -1,8 +1,8 @@
 use Rattle.std.proofs.Common.{◌++◌, ap, sym, ◌∙◌, codes, map, refl, rules}
 use Rattle.std.proofs.lemmas.Result.{on_ok_weaker}
 use Rattle.til_parser.specs.Canonical.{type_text, listed_text, stream_text, settings_text, next_part_text}
-use Rattle.til_parser.specs.Tree.{plain, plain_of_part, plain_of_stream, PlainStream}
-use Rattle.til_parser.proofs.PlainLemmas.{settings_of, stream_fold-is}
+use Rattle.til_parser.specs.Tree.{plain, plain_of_part, plain_of_stream, PlainStream, settings_of}
+use Rattle.til_parser.proofs.PlainLemmas.{stream_fold-is}
 use Rattle.til_parser.proofs.texts.TypeTexts.{group_text, union_text, stream_text-plain}
 use Rattle.til_parser.proofs.texts.WrittenLemmas.{all_taken, bracketed, front_before, parts_written, stream_written}
 use Rattle.til_parser.proofs.printing.+ltype.Goals as goal

@@ -1,24 +1,24 @@
-use Rattle.std.proofs.Common.{true, false, refl}
-use Rattle.complexity_rules.proofs.CheckerLemmas.{Steps-seen, Steps-kept, none_kept, none_seen, some_kept, some_seen}
+use Rattle.std.proofs.Common.{◌∙◌, true, false, refl, None, sym}
+use Rattle.complexity_rules.proofs.CheckerLemmas.{IsStep-seen, IsStep-kept, IsStep-hold, waiting_none, waiting_some}
+use Rattle.complexity_rules.proofs.LowestLemmas.{lowest_held}
 use Rattle.complexity_rules.proofs.checker.Checker.step_pause.Goals as goal
 
-pub returns-then-is_none-clause-steps : goal.returns-then-is_none-clause-steps
-returns-then-is_none-clause-steps c cycles stands =
-    Steps-seen c.args.self.now c.see_pause.new.self cycles _ c.judge_pause-broken.result true c.if-is_none.ensures refl (c.judge_pause-broken.ensures cycles c.args._ready stands)
-    (c.see_pause.ensures.stands cycles c.args._ready stands)
+pub returns-then-has_waiting : goal.returns-then-has_waiting
+returns-then-has_waiting c =
+    IsStep-hold c.args.self.now _ c.hold.result c.hold.ensures.rule
+    (λ before stands.
+    lowest_held c.args.self.now.params before c.args._ready None c.args.self.now.offered c.hold.ensures.binds
+    (waiting_some c.args.self.now before (sym c.has_waiting.ensures ∙ c.if-has_waiting.true) stands) (λ same. cc))
 
-pub returns-else-is_none-clause-steps : goal.returns-else-is_none-clause-steps
-returns-else-is_none-clause-steps c cycles stands =
-    Steps-kept c.args.self.now cycles _ c.judge_pause-broken.result false c.if-is_none.ensures refl (c.judge_pause-broken.ensures cycles c.args._ready stands)
+pub returns-then-is_none : goal.returns-then-is_none
+returns-then-is_none c =
+    IsStep-seen c.args.self.now c.see_pause.new.self _ c.judge_pause-broken.result true c.if-is_none.ensures refl
+    (λ before stands.
+    c.judge_pause-broken.ensures before c.args._ready (waiting_none c.args.self.now before (sym c.has_waiting.ensures ∙ c.if-has_waiting.false) stands) stands.tail)
+    (c.see_pause.ensures c.args._ready)
 
-pub returns-then-is_none-clause-kept : goal.returns-then-is_none-clause-kept
-returns-then-is_none-clause-kept c = none_kept c.judge_pause-broken.result true _ c.if-is_none.ensures refl
-
-pub returns-then-is_none-clause-seen : goal.returns-then-is_none-clause-seen
-returns-then-is_none-clause-seen c = none_seen c.judge_pause-broken.result true _ _ c.if-is_none.ensures refl c.see_pause.ensures.seen
-
-pub returns-else-is_none-clause-kept : goal.returns-else-is_none-clause-kept
-returns-else-is_none-clause-kept c = some_kept c.judge_pause-broken.result _
-
-pub returns-else-is_none-clause-seen : goal.returns-else-is_none-clause-seen
-returns-else-is_none-clause-seen c = some_seen c.judge_pause-broken.result false _ c.if-is_none.ensures refl
+pub returns-else-is_none : goal.returns-else-is_none
+returns-else-is_none c =
+    IsStep-kept c.args.self.now _ c.judge_pause-broken.result false c.if-is_none.ensures refl
+    (λ before stands.
+    c.judge_pause-broken.ensures before c.args._ready (waiting_none c.args.self.now before (sym c.has_waiting.ensures ∙ c.if-has_waiting.false) stands) stands.tail)

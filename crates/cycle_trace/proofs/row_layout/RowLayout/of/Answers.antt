@@ -1,9 +1,9 @@
-use Rattle.std.proofs.Common.{ℕ, ◌∙◌, ◌≡◌, ◌^◌, ap, sym, subst, refl}
+use Rattle.std.proofs.Common.{◌∙◌, ◌≡◌, sym, subst, refl}
 use Rattle.physical_stream.specs.Params.{Parameters}
 use Rattle.signal_layout.specs.declared.signal.Signal.{Signal}
 use Rattle.signal_layout.specs.declared.signal.Signal.TheVariants as signals
 use Rattle.signal_layout.specs.Layout.{width_in, width_of}
-use Rattle.cycle_trace.proofs.LayoutLemmas.{there, payload_there, limit_is}
+use Rattle.cycle_trace.proofs.LayoutLemmas.{there, payload_there}
 use Rattle.cycle_trace.proofs.row_layout.RowLayout.of.Goals as goal
 
 pub invariant_of-result-2 : goal.invariant_of-result-2
@@ -12,7 +12,6 @@ invariant_of-result-2 c =
     let p : Parameters = record { lanes = inside.lanes; dims = inside.dims; level = inside.level; element = inside.element; user = inside.user } in
     let found = c.of-signals.result in
     let of : (s : Signal) → width_in found s ≡ width_of p s = subst (λ (q : Parameters). (s : Signal) → width_in found s ≡ width_of q s) (sym c.p.view_is) c.of-signals.ensures in
-    let limit = limit_is c.index_width.result c.index_width.ensures.small in
     record {
       laid = record {
         content_word = record { there = c.is_some.ensures ∙ there p found of signals.Content; wide = rw c.from-lanes.ensures refl };
@@ -22,8 +21,8 @@ invariant_of-result-2 c =
         stai_there = c.is_some-5.ensures ∙ there p found of signals.Stai;
         endi_there = c.is_some-6.ensures ∙ there p found of signals.Endi;
         payload_there = c.has_payload.ensures ∙ payload_there p found of;
-        limit = limit.0 ∙ ap (λ (n : ℕ). 2 ^ n) c.index_width.ensures.value;
-        small = rw limit.0 limit.1;
+        limit = c.index_limit.ensures.value;
+        small = c.index_limit.ensures.small;
         lane = refl;
         ones = c.all_lanes.ensures;
         narrow = c.p.invariant.lanes_most;

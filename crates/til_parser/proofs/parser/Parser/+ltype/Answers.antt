@@ -1,4 +1,4 @@
-use Rattle.std.proofs.Common.{◌≡◌, ℕ, zero, suc, ◌-◌, ◌<◌, false, [], ◌∷◌, ◌++◌, List, ap, ◌∙◌, codes, rules, arith}
+use Rattle.std.proofs.Common.{◌≡◌, ℕ, zero, suc, ◌-◌, ◌<◌, false, [], ◌∷◌, ◌++◌, List, sym, ap, rules, arith}
 use Rattle.std.proofs.lemmas.Grind.{common_steps}
 use Rattle.til_lexer.specs.declared.token.TokenKind.TheVariants as kinds
 use Rattle.til_parser.specs.declared.arguments.Arguments.{Arguments}
@@ -10,7 +10,6 @@ use Rattle.til_parser.specs.ReadTypes.{argument, arguments, ltype, part, type_wi
 use Rattle.tydi_reading.specs.Lists.{separated, steps, steps_turn, separator_turn, mark}
 use Rattle.tydi_reading.specs.Reading.{and_then, turned, loop, ◌<$>◌}
 use Rattle.tydi_reading.proofs.LoopLemmas.{loop_unfolds, separated_turn-advances, steps_turn-advances, eaten-least}
-use Rattle.til_parser.proofs.WordLemmas.{passed, eaten, still, then_taken, at_group, at_union, at_stream, at_path}
 use Rattle.til_parser.proofs.rules.Shrinking.{Shrinks-part, Shrinks-argument}
 use Rattle.til_parser.proofs.parser.Parser.+ltype.Goals as goal
 
@@ -21,126 +20,23 @@ unfolding ltype
 deeper zero ts some = absurd (omega arith)
 deeper (suc levels) ts some = let same : levels ≡ suc levels - 1 = omega arith in ap (λ (n : ℕ). type_with (ltype n) ts) same
 
-pub ltype-returns-then-eat_word : goal.ltype-returns-then-eat_word
-unfolding type_with mark
-ltype-returns-then-eat_word t c =
-    rw (deeper c.args.levels c.args.self.now (omega arith))
+pub ltype-returns-in-Some : goal.ltype-returns-in-Some
+unfolding type_with
+ltype-returns-in-Some t c =
+    rw (deeper c.args.levels c.args.self.now (omega arith), sym c.type_word.ensures)
     first_of (search rules, grind (arith, common_steps), search (rules, the_lemmas), grind (arith, the_lemmas))
 
-pub ltype-returns-in_err-bits : goal.ltype-returns-in_err-bits
-unfolding type_with mark
-ltype-returns-in_err-bits t c =
-    rw (deeper c.args.levels c.args.self.now (omega arith))
+pub ltype-returns-in_err-path-in-None : goal.ltype-returns-in_err-path-in-None
+unfolding type_with
+ltype-returns-in_err-path-in-None t c =
+    rw (deeper c.args.levels c.args.self.now (omega arith), sym c.type_word.ensures)
     first_of (search rules, grind (arith, common_steps), search (rules, the_lemmas), grind (arith, the_lemmas))
 
-pub ltype-returns-then-eat_word-2 : goal.ltype-returns-then-eat_word-2
-unfolding type_with mark
-ltype-returns-then-eat_word-2 t c =
-    rw (deeper c.args.levels c.args.self.now (omega arith))
+pub ltype-returns-in_ok-path-in-None : goal.ltype-returns-in_ok-path-in-None
+unfolding type_with
+ltype-returns-in_ok-path-in-None t c =
+    rw (deeper c.args.levels c.args.self.now (omega arith), sym c.type_word.ensures)
     first_of (search rules, grind (arith, common_steps), search (rules, the_lemmas), grind (arith, the_lemmas))
-
-pub ltype-returns-in_err-parts : goal.ltype-returns-in_err-parts
-ltype-returns-in_err-parts t c =
-    let p1 = passed (codes "Null") c.args.self.now c.eat_word.new.self c.eat_word.result c.eat_word.ensures.seen c.eat_word.ensures.taken c.if-eat_word.false in
-    let q1 = p1 in
-    let p2 = passed (codes "Bits") c.eat_word.new.self c.eat_word-2.new.self c.eat_word-2.result c.eat_word-2.ensures.seen c.eat_word-2.ensures.taken c.if-eat_word-2.false in
-    let q2 = still (codes "Null") (codes "Bits") c.args.self.now c.eat_word.new.self c.eat_word-2.new.self q1 p2 in
-    let e1 = eaten (codes "Group") c.eat_word-2.new.self c.eat_word-3.new.self c.eat_word-3.result c.eat_word-3.ensures.seen c.eat_word-3.ensures.taken c.if-eat_word-3.true in
-    let e = then_taken (codes "Bits") (codes "Group") c.args.self.now c.eat_word-2.new.self c.eat_word-3.new.self q2 e1 in
-    let is = deeper c.args.levels c.args.self.now (omega arith) ∙ at_group (ltype (c.args.levels - 1)) c.args.self.now q1.test q2.test e.test in
-    rw is first_of (search rules, grind (arith, common_steps), search (rules, the_lemmas), grind (arith, the_lemmas))
-
-pub ltype-returns-then-eat_word-3 : goal.ltype-returns-then-eat_word-3
-unfolding type_with mark
-ltype-returns-then-eat_word-3 t c =
-    rw (deeper c.args.levels c.args.self.now (omega arith))
-    first_of (search rules, grind (arith, common_steps), search (rules, the_lemmas), grind (arith, the_lemmas))
-
-pub ltype-returns-in_err-parts-2 : goal.ltype-returns-in_err-parts-2
-ltype-returns-in_err-parts-2 t c =
-    let p1 = passed (codes "Null") c.args.self.now c.eat_word.new.self c.eat_word.result c.eat_word.ensures.seen c.eat_word.ensures.taken c.if-eat_word.false in
-    let q1 = p1 in
-    let p2 = passed (codes "Bits") c.eat_word.new.self c.eat_word-2.new.self c.eat_word-2.result c.eat_word-2.ensures.seen c.eat_word-2.ensures.taken c.if-eat_word-2.false in
-    let q2 = still (codes "Null") (codes "Bits") c.args.self.now c.eat_word.new.self c.eat_word-2.new.self q1 p2 in
-    let p3 = passed (codes "Group") c.eat_word-2.new.self c.eat_word-3.new.self c.eat_word-3.result c.eat_word-3.ensures.seen c.eat_word-3.ensures.taken c.if-eat_word-3.false in
-    let q3 = still (codes "Bits") (codes "Group") c.args.self.now c.eat_word-2.new.self c.eat_word-3.new.self q2 p3 in
-    let e1 = eaten (codes "Union") c.eat_word-3.new.self c.eat_word-4.new.self c.eat_word-4.result c.eat_word-4.ensures.seen c.eat_word-4.ensures.taken c.if-eat_word-4.true in
-    let e = then_taken (codes "Group") (codes "Union") c.args.self.now c.eat_word-3.new.self c.eat_word-4.new.self q3 e1 in
-    let is = deeper c.args.levels c.args.self.now (omega arith) ∙ at_union (ltype (c.args.levels - 1)) c.args.self.now q1.test q2.test q3.test e.test in
-    rw is first_of (search rules, grind (arith, common_steps), search (rules, the_lemmas), grind (arith, the_lemmas))
-
-pub ltype-returns-then-eat_word-4 : goal.ltype-returns-then-eat_word-4
-ltype-returns-then-eat_word-4 t c =
-    let p1 = passed (codes "Null") c.args.self.now c.eat_word.new.self c.eat_word.result c.eat_word.ensures.seen c.eat_word.ensures.taken c.if-eat_word.false in
-    let q1 = p1 in
-    let p2 = passed (codes "Bits") c.eat_word.new.self c.eat_word-2.new.self c.eat_word-2.result c.eat_word-2.ensures.seen c.eat_word-2.ensures.taken c.if-eat_word-2.false in
-    let q2 = still (codes "Null") (codes "Bits") c.args.self.now c.eat_word.new.self c.eat_word-2.new.self q1 p2 in
-    let p3 = passed (codes "Group") c.eat_word-2.new.self c.eat_word-3.new.self c.eat_word-3.result c.eat_word-3.ensures.seen c.eat_word-3.ensures.taken c.if-eat_word-3.false in
-    let q3 = still (codes "Bits") (codes "Group") c.args.self.now c.eat_word-2.new.self c.eat_word-3.new.self q2 p3 in
-    let e1 = eaten (codes "Union") c.eat_word-3.new.self c.eat_word-4.new.self c.eat_word-4.result c.eat_word-4.ensures.seen c.eat_word-4.ensures.taken c.if-eat_word-4.true in
-    let e = then_taken (codes "Group") (codes "Union") c.args.self.now c.eat_word-3.new.self c.eat_word-4.new.self q3 e1 in
-    let is = deeper c.args.levels c.args.self.now (omega arith) ∙ at_union (ltype (c.args.levels - 1)) c.args.self.now q1.test q2.test q3.test e.test in
-    rw is first_of (search rules, grind (arith, common_steps), search (rules, the_lemmas), grind (arith, the_lemmas))
-
-pub ltype-returns-in_err-stream : goal.ltype-returns-in_err-stream
-ltype-returns-in_err-stream t c =
-    let p1 = passed (codes "Null") c.args.self.now c.eat_word.new.self c.eat_word.result c.eat_word.ensures.seen c.eat_word.ensures.taken c.if-eat_word.false in
-    let q1 = p1 in
-    let p2 = passed (codes "Bits") c.eat_word.new.self c.eat_word-2.new.self c.eat_word-2.result c.eat_word-2.ensures.seen c.eat_word-2.ensures.taken c.if-eat_word-2.false in
-    let q2 = still (codes "Null") (codes "Bits") c.args.self.now c.eat_word.new.self c.eat_word-2.new.self q1 p2 in
-    let p3 = passed (codes "Group") c.eat_word-2.new.self c.eat_word-3.new.self c.eat_word-3.result c.eat_word-3.ensures.seen c.eat_word-3.ensures.taken c.if-eat_word-3.false in
-    let q3 = still (codes "Bits") (codes "Group") c.args.self.now c.eat_word-2.new.self c.eat_word-3.new.self q2 p3 in
-    let p4 = passed (codes "Union") c.eat_word-3.new.self c.eat_word-4.new.self c.eat_word-4.result c.eat_word-4.ensures.seen c.eat_word-4.ensures.taken c.if-eat_word-4.false in
-    let q4 = still (codes "Group") (codes "Union") c.args.self.now c.eat_word-3.new.self c.eat_word-4.new.self q3 p4 in
-    let e1 = eaten (codes "Stream") c.eat_word-4.new.self c.eat_word-5.new.self c.eat_word-5.result c.eat_word-5.ensures.seen c.eat_word-5.ensures.taken c.if-eat_word-5.true in
-    let e = then_taken (codes "Union") (codes "Stream") c.args.self.now c.eat_word-4.new.self c.eat_word-5.new.self q4 e1 in
-    let is = deeper c.args.levels c.args.self.now (omega arith) ∙ at_stream (ltype (c.args.levels - 1)) c.args.self.now q1.test q2.test q3.test q4.test e.test in
-    rw is first_of (search rules, grind (arith, common_steps), search (rules, the_lemmas), grind (arith, the_lemmas))
-
-pub ltype-returns-then-eat_word-5 : goal.ltype-returns-then-eat_word-5
-ltype-returns-then-eat_word-5 t c =
-    let p1 = passed (codes "Null") c.args.self.now c.eat_word.new.self c.eat_word.result c.eat_word.ensures.seen c.eat_word.ensures.taken c.if-eat_word.false in
-    let q1 = p1 in
-    let p2 = passed (codes "Bits") c.eat_word.new.self c.eat_word-2.new.self c.eat_word-2.result c.eat_word-2.ensures.seen c.eat_word-2.ensures.taken c.if-eat_word-2.false in
-    let q2 = still (codes "Null") (codes "Bits") c.args.self.now c.eat_word.new.self c.eat_word-2.new.self q1 p2 in
-    let p3 = passed (codes "Group") c.eat_word-2.new.self c.eat_word-3.new.self c.eat_word-3.result c.eat_word-3.ensures.seen c.eat_word-3.ensures.taken c.if-eat_word-3.false in
-    let q3 = still (codes "Bits") (codes "Group") c.args.self.now c.eat_word-2.new.self c.eat_word-3.new.self q2 p3 in
-    let p4 = passed (codes "Union") c.eat_word-3.new.self c.eat_word-4.new.self c.eat_word-4.result c.eat_word-4.ensures.seen c.eat_word-4.ensures.taken c.if-eat_word-4.false in
-    let q4 = still (codes "Group") (codes "Union") c.args.self.now c.eat_word-3.new.self c.eat_word-4.new.self q3 p4 in
-    let e1 = eaten (codes "Stream") c.eat_word-4.new.self c.eat_word-5.new.self c.eat_word-5.result c.eat_word-5.ensures.seen c.eat_word-5.ensures.taken c.if-eat_word-5.true in
-    let e = then_taken (codes "Union") (codes "Stream") c.args.self.now c.eat_word-4.new.self c.eat_word-5.new.self q4 e1 in
-    let is = deeper c.args.levels c.args.self.now (omega arith) ∙ at_stream (ltype (c.args.levels - 1)) c.args.self.now q1.test q2.test q3.test q4.test e.test in
-    rw is first_of (search rules, grind (arith, common_steps), search (rules, the_lemmas), grind (arith, the_lemmas))
-
-pub ltype-returns-in_err-path : goal.ltype-returns-in_err-path
-ltype-returns-in_err-path t c =
-    let p1 = passed (codes "Null") c.args.self.now c.eat_word.new.self c.eat_word.result c.eat_word.ensures.seen c.eat_word.ensures.taken c.if-eat_word.false in
-    let q1 = p1 in
-    let p2 = passed (codes "Bits") c.eat_word.new.self c.eat_word-2.new.self c.eat_word-2.result c.eat_word-2.ensures.seen c.eat_word-2.ensures.taken c.if-eat_word-2.false in
-    let q2 = still (codes "Null") (codes "Bits") c.args.self.now c.eat_word.new.self c.eat_word-2.new.self q1 p2 in
-    let p3 = passed (codes "Group") c.eat_word-2.new.self c.eat_word-3.new.self c.eat_word-3.result c.eat_word-3.ensures.seen c.eat_word-3.ensures.taken c.if-eat_word-3.false in
-    let q3 = still (codes "Bits") (codes "Group") c.args.self.now c.eat_word-2.new.self c.eat_word-3.new.self q2 p3 in
-    let p4 = passed (codes "Union") c.eat_word-3.new.self c.eat_word-4.new.self c.eat_word-4.result c.eat_word-4.ensures.seen c.eat_word-4.ensures.taken c.if-eat_word-4.false in
-    let q4 = still (codes "Group") (codes "Union") c.args.self.now c.eat_word-3.new.self c.eat_word-4.new.self q3 p4 in
-    let p5 = passed (codes "Stream") c.eat_word-4.new.self c.eat_word-5.new.self c.eat_word-5.result c.eat_word-5.ensures.seen c.eat_word-5.ensures.taken c.if-eat_word-5.false in
-    let q5 = still (codes "Union") (codes "Stream") c.args.self.now c.eat_word-4.new.self c.eat_word-5.new.self q4 p5 in
-    let is = deeper c.args.levels c.args.self.now (omega arith) ∙ at_path (ltype (c.args.levels - 1)) c.args.self.now q1.test q2.test q3.test q4.test q5.test in
-    rw is first_of (search rules, grind (arith, common_steps), search (rules, the_lemmas), grind (arith, the_lemmas))
-
-pub ltype-returns : goal.ltype-returns
-ltype-returns t c =
-    let p1 = passed (codes "Null") c.args.self.now c.eat_word.new.self c.eat_word.result c.eat_word.ensures.seen c.eat_word.ensures.taken c.if-eat_word.false in
-    let q1 = p1 in
-    let p2 = passed (codes "Bits") c.eat_word.new.self c.eat_word-2.new.self c.eat_word-2.result c.eat_word-2.ensures.seen c.eat_word-2.ensures.taken c.if-eat_word-2.false in
-    let q2 = still (codes "Null") (codes "Bits") c.args.self.now c.eat_word.new.self c.eat_word-2.new.self q1 p2 in
-    let p3 = passed (codes "Group") c.eat_word-2.new.self c.eat_word-3.new.self c.eat_word-3.result c.eat_word-3.ensures.seen c.eat_word-3.ensures.taken c.if-eat_word-3.false in
-    let q3 = still (codes "Bits") (codes "Group") c.args.self.now c.eat_word-2.new.self c.eat_word-3.new.self q2 p3 in
-    let p4 = passed (codes "Union") c.eat_word-3.new.self c.eat_word-4.new.self c.eat_word-4.result c.eat_word-4.ensures.seen c.eat_word-4.ensures.taken c.if-eat_word-4.false in
-    let q4 = still (codes "Group") (codes "Union") c.args.self.now c.eat_word-3.new.self c.eat_word-4.new.self q3 p4 in
-    let p5 = passed (codes "Stream") c.eat_word-4.new.self c.eat_word-5.new.self c.eat_word-5.result c.eat_word-5.ensures.seen c.eat_word-5.ensures.taken c.if-eat_word-5.false in
-    let q5 = still (codes "Union") (codes "Stream") c.args.self.now c.eat_word-4.new.self c.eat_word-5.new.self q4 p5 in
-    let is = deeper c.args.levels c.args.self.now (omega arith) ∙ at_path (ltype (c.args.levels - 1)) c.args.self.now q1.test q2.test q3.test q4.test q5.test in
-    rw is first_of (search rules, grind (arith, common_steps), search (rules, the_lemmas), grind (arith, the_lemmas))
 
 -- ---- parts
 

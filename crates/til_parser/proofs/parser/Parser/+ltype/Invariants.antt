@@ -6,27 +6,30 @@ use Rattle.tydi_reading.specs.Reading.{loop, ◌<$>◌}
 use Rattle.til_parser.specs.ReadTypes.{argument, ltype, part}
 use Rattle.til_parser.proofs.parser.Parser.+ltype.Given as goal
 
--- a type asks for parts and for a Stream of one level less, and these for a type of as many
+-- a type asks for what follows its word with one level less, this for parts and a Stream of as many, and these for a type of as many
 abbrev pub decreases-ltype : goal.decreases-ltype
-decreases-ltype l = 4 * l.levels
+decreases-ltype l = 5 * l.levels
+
+abbrev pub decreases-type_after : goal.decreases-type_after
+decreases-type_after l = 5 * l.levels + 4
 
 abbrev pub decreases-parts : goal.decreases-parts
-decreases-parts l = 4 * l.levels + 3
+decreases-parts l = 5 * l.levels + 3
 
 abbrev pub decreases-stream : goal.decreases-stream
-decreases-stream l = 4 * l.levels + 3
+decreases-stream l = 5 * l.levels + 3
 
 abbrev pub decreases-separated_parts : goal.decreases-separated_parts
-decreases-separated_parts l = 4 * l.levels + 2
+decreases-separated_parts l = 5 * l.levels + 2
 
 abbrev pub decreases-arguments : goal.decreases-arguments
-decreases-arguments l = 4 * l.levels + 2
+decreases-arguments l = 5 * l.levels + 2
 
 abbrev pub decreases-part : goal.decreases-part
-decreases-part l = 4 * l.levels + 1
+decreases-part l = 5 * l.levels + 1
 
 abbrev pub decreases-argument : goal.decreases-argument
-decreases-argument l = 4 * l.levels + 1
+decreases-argument l = 5 * l.levels + 1
 
 -- the parts so far go on as all parts do
 abbrev pub invariant-separated_parts-parts : goal.invariant-separated_parts-parts

@@ -1,8 +1,8 @@
 use Rattle.std.proofs.Common.{◌++◌, ap, sym, ◌∙◌}
 use Rattle.std.proofs.lemmas.Result.{on_ok_weaker}
 use Rattle.til_parser.specs.Canonical.{settings_text}
-use Rattle.til_parser.specs.Tree.{PlainStream}
-use Rattle.til_parser.proofs.PlainLemmas.{settings_of, stream_fold-is}
+use Rattle.til_parser.specs.Tree.{PlainStream, settings_of}
+use Rattle.til_parser.proofs.PlainLemmas.{stream_fold-is}
 use Rattle.til_parser.proofs.texts.WrittenLemmas.{settings_written}
 use Rattle.til_parser.proofs.printing.SettingsWritten.write_to.Goals as goal
 

@@ -1,4 +1,0 @@
-use Rattle.complexity_rules.proofs.sweep_tests.+compare_after.Given as goal
-
-abbrev pub decreases-compare_after : goal.decreases-compare_after
-decreases-compare_after l = l.more

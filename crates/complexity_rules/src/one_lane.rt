@@ -1,0 +1,33 @@
+//! Streams of one lane, whose transfers can break few rules.
+
+ghost use Rattle.std.specs.Prelude.{◌≡◌, ◌≤◌};
+ghost use Rattle.physical_stream.specs.Items.{items_of};
+ghost use Rattle.physical_stream.specs.Signals.{Fits};
+ghost use Rattle.physical_stream.specs.declared.transfer.Transfer.{Transfer};
+ghost use Rattle.complexity_rules.specs.Waiting.{IsLowestShown};
+ghost use Rattle.complexity_rules.specs.Walk.{Finds};
+
+use crate::breaking::{breaks_empty, or_higher};
+use crate::walk::Walk;
+use physical_stream::{Params, Rule, Tail, Transfer};
+
+/// Walks over the items of a transfer of one lane, after an item of this kind.
+#[inline(always)]
+pub(crate) fn walk_over_one(p: &Params, transfer: &Transfer, tail: Option<Tail>) -> Walk
+    requires one { p.now.lanes ≡ 1 }
+    requires fits { Fits p.now transfer.now }
+    ensures found { Finds p.now.dims tail (items_of p.now transfer.now) result }
+    ensures few { result.packets ≤ 33 }
+{
+    Walk::after(tail).over_lane(p, transfer, 0)
+}
+
+/// The lowest rule, the one on waiting transfers aside, that a cycle breaks that shows a transfer of one lane.
+#[inline(always)]
+pub(crate) fn lowest_of_one(p: &Params, tail: Option<Tail>, walk: &Walk) -> Option<Rule>
+    requires one { p.now.lanes ≡ 1 }
+    ensures { (t : Transfer) → Fits p.now t → Finds p.now.dims tail (items_of p.now t) walk.now → IsLowestShown p.now tail t result }
+{
+    let nest = or_higher(p.level, Rule::Nest, walk.misplaced, None);
+    or_higher(p.level, Rule::Empty, breaks_empty(tail, walk), nest)
+}

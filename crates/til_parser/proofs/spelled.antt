@@ -1,0 +1,4 @@
+pub mod SpelledLeaves
+pub mod SpelledArguments
+pub mod SpelledTrees
+pub mod SpelledCounts

@@ -1,0 +1,64 @@
+-- The tree of a text: its form, and how many declarations it has at most.
+use Rattle.std.proofs.Common.{◌≡◌, ℕ, ◌≤◌, ◌+◌, List, [], ◌∷◌, length, ap, ◌∙◌, arith}
+use Rattle.std.proofs.lemmas.List.{length-append}
+use Rattle.tydi_reading.specs.Forms.{◌⋯◌}
+use Rattle.tydi_reading.specs.Lists.{Each}
+use Rattle.til_lexer.proofs.CountLemmas.{tokens_of-few}
+use Rattle.til_parser.specs.declared.tree.Ast.{Ast}
+use Rattle.til_parser.specs.declared.tree.AstDecl.{AstDecl}
+use Rattle.til_parser.specs.declared.tree.AstNamespace.{AstNamespace}
+use Rattle.til_parser.specs.Grammar.{Form, SpellsDecl, SpellsNamespace}
+use Rattle.til_parser.specs.Laws.{IsTreeOf, TreesHaveTheirForm}
+use Rattle.til_parser.specs.Lexemes.{Lexeme, lexemes_of}
+use Rattle.til_parser.specs.Trees.{IsNamespace, IsSpellable, number_of_decls}
+use Rattle.til_parser.proofs.LawLemmas.{formed_of}
+use Rattle.til_parser.proofs.LexemeLemmas.{length-lexemes}
+use Rattle.til_parser.proofs.rules.ProjectRules.{decl-filled}
+use Rattle.til_parser.proofs.spelled.SpelledLeaves.{each_of}
+use Rattle.til_parser.proofs.spelled.SpelledTrees.{namespace_of}
+
+-- ---- how many declarations
+
+sum : {F G : Form} {ts : List Lexeme} (b : (F ⋯ G) ts) → length ts ≡ length b.front + length b.back
+sum b = ap length b.all ∙ length-append b.front b.back
+
+decls-few : (all : List AstDecl) (ts : List Lexeme) → Each SpellsDecl all ts → length all ≤ length ts
+decls-few [] ts s = omega arith
+decls-few (decl ∷ all) ts s =
+    let whole = sum s in
+    let some = decl-filled 0 decl s.front s.begins in
+    let more = decls-few all s.back s.ends in
+    omega arith
+
+namespace-few : (one : AstNamespace) (ts : List Lexeme) → SpellsNamespace one ts → length one.decls ≤ length ts
+namespace-few one ts s =
+    let inside = s.ends.ends.ends.ends in
+    let few = decls-few one.decls inside.front inside.begins in
+    omega (arith, sum s, sum s.ends, sum s.ends.ends, sum s.ends.ends.ends, sum inside)
+
+namespaces-few : (all : List AstNamespace) (ts : List Lexeme) → Each SpellsNamespace all ts → number_of_decls all ≤ length ts
+namespaces-few [] ts s = omega arith
+namespaces-few (one ∷ all) ts s =
+    let whole = sum s in
+    let first = namespace-few one s.front s.begins in
+    let more = namespaces-few all s.back s.ends in
+    omega arith
+
+-- ---- the form of the tree
+
+pub spellable-of : (text : List ℕ) (ast : Ast) → IsTreeOf text ast → IsSpellable ast
+spellable-of text ast is = record {
+  some = is.spelled.some;
+  each = each_of IsNamespace SpellsNamespace namespace_of ast.namespaces
+      (record { tokens = lexemes_of text is.tokens; formed = formed_of text is.tokens is.utf8 is.lexed; spelled = is.spelled.each });
+}
+
+pub trees-have_form : TreesHaveTheirForm
+trees-have_form text ast is = record {
+  spellable = spellable-of text ast is;
+  tree = λ short within. record {
+    spellable = spellable-of text ast is;
+    within = within;
+    few = omega (arith, namespaces-few ast.namespaces (lexemes_of text is.tokens) is.spelled.each, length-lexemes text is.tokens, tokens_of-few text is.tokens is.lexed, short);
+  };
+}

@@ -1,0 +1,125 @@
+-- What spells a name, a path, a number or a marked text has its form.
+use Rattle.std.proofs.Common.{◌≡◌, ℕ, ◌^◌, ◌≤◌, ◌<◌, inl, inr, Bool, true, false, ◌&&◌, List, [], ◌∷◌, ◌++◌, length, Option, Some, None, All, sym, ap, subst, ◌∙◌, arith}
+use Rattle.std.specs.Char.{is_ascii_digit}
+use Rattle.std.specs.List.{list_all}
+use Rattle.std.specs.Str.{IsUtf8}
+use Rattle.std.proofs.Math.Nat.{pow-le-pow_right}
+use Rattle.std.proofs.lemmas.List.Elements.{All-head}
+use Rattle.tydi_base.specs.Decimal.{read_on}
+use Rattle.tydi_base.specs.Frac.{Fraction}
+use Rattle.tydi_base.specs.Pieces.{Lacks}
+use Rattle.til_lexer.specs.Spelling.{HasForm, IsBetween}
+use Rattle.til_lexer.specs.declared.token.TokenKind.{TokenKind}
+use Rattle.til_lexer.specs.declared.token.TokenKind.TheVariants as kinds
+use Rattle.tydi_reading.specs.Forms.{◌⋯◌}
+use Rattle.tydi_reading.specs.Lists.{Each, EachIs}
+use Rattle.tydi_reading.proofs.StepLemmas.{All-front, All-back}
+use Rattle.til_parser.specs.declared.tree.AstName.{AstName}
+use Rattle.til_parser.specs.Grammar.{Form, Bracketed, Commas, Doc, Name, Number, One, Path, Quoted, Whole}
+use Rattle.til_parser.specs.Lexemes.{Lexeme, IsFormed, between_marks}
+use Rattle.til_parser.specs.Trees.{HasName, IsPath, IsDoc, IsQuote, FitsBetween, IsShort, IsSpelledNumber}
+use Rattle.til_parser.proofs.texts.NumberTextLemmas.{read_on-below}
+use Rattle.til_parser.proofs.printed.PrintedLeaves.{between_marks-of}
+
+-- ---- what spells
+
+-- some tokens are of a form, each in the form of its kind
+pub record Spelt (F : Form) : Type 0 where
+  pub tokens : List Lexeme
+  pub formed : All IsFormed tokens
+  pub spelled : F tokens
+
+pub first_of : {F G : Form} → Spelt (F ⋯ G) → Spelt F
+first_of spelt = record {
+  tokens = spelt.spelled.front;
+  formed = All-front IsFormed spelt.tokens spelt.spelled.front spelt.spelled.back spelt.spelled.all spelt.formed;
+  spelled = spelt.spelled.begins;
+}
+
+pub second_of : {F G : Form} → Spelt (F ⋯ G) → Spelt G
+second_of spelt = record {
+  tokens = spelt.spelled.back;
+  formed = All-back IsFormed spelt.tokens spelt.spelled.front spelt.spelled.back spelt.spelled.all spelt.formed;
+  spelled = spelt.spelled.ends;
+}
+
+pub inside_of : {F : Form} → Spelt (Bracketed F) → Spelt F
+inside_of spelt = first_of (second_of spelt)
+
+one_form : {Is : Lexeme → Type 0} (kind : TokenKind) (spelt : Spelt (One Is)) → spelt.spelled.lexeme.kind ≡ kind
+    → HasForm kind spelt.spelled.lexeme.spelling
+one_form kind spelt is = subst (λ k. HasForm k spelt.spelled.lexeme.spelling) is
+    (All-head IsFormed spelt.spelled.lexeme [] (subst (All IsFormed) spelt.spelled.all spelt.formed))
+
+-- ---- lists
+
+module _ {X : Type 0} (Is : X → Type 0) (Spell : X → Form) (of_one : (x : X) → Spelt (Spell x) → Is x) where
+  pub each_of : (all : List X) → Spelt (Each Spell all) → EachIs Is all
+  each_of [] spelt = tt
+  each_of (x ∷ all) spelt = (of_one x (first_of spelt), each_of all (second_of spelt))
+
+  pub commas_of : (all : List X) → Spelt (Commas Spell all) → EachIs Is all
+  commas_of [] spelt = tt
+  commas_of (x ∷ []) spelt = (of_one x (first_of spelt), tt)
+  commas_of (x ∷ next ∷ all) spelt = (of_one x (first_of spelt), commas_of (next ∷ all) (second_of (second_of spelt)))
+
+-- ---- names and paths
+
+pub name_of : (name : AstName) → Spelt (Name name) → HasName name
+name_of name spelt = spelt.spelled.is.named
+
+names_of : (names : List AstName) → Spelt (Path names) → EachIs HasName names
+names_of [] spelt = tt
+names_of (name ∷ []) spelt = (name_of name spelt, tt)
+names_of (name ∷ next ∷ names) spelt = (name_of name (first_of spelt), names_of (next ∷ names) (second_of (second_of spelt)))
+
+some_names : (names : List AstName) (ts : List Lexeme) → Path names ts → 0 < length names
+some_names [] ts s = absurd s
+some_names (name ∷ names) ts s = omega arith
+
+pub path_of : (names : List AstName) → Spelt (Path names) → IsPath names
+path_of names spelt = record { some = some_names names spelt.tokens spelt.spelled; each = names_of names spelt }
+
+-- ---- numbers
+
+point_is_no_digit : (before behind : List ℕ) → list_all is_ascii_digit (before ++ 46 ∷ behind) ≡ true → ⊥
+point_is_no_digit [] behind all = absurd cc
+point_is_no_digit (byte ∷ before) behind all = by_cases (is_ascii_digit byte) all (point_is_no_digit before behind)
+  where
+    by_cases : (first : Bool) → (first && list_all is_ascii_digit (before ++ 46 ∷ behind)) ≡ true
+        → (list_all is_ascii_digit (before ++ 46 ∷ behind) ≡ true → ⊥) → ⊥
+    by_cases true all none = none all
+    by_cases false all none = absurd cc
+
+few_digits : (text : List ℕ) → HasForm kinds.Number text → list_all is_ascii_digit text ≡ true → length text ≤ 18
+few_digits text (inl whole) all = whole.few
+few_digits text (inr point) all = absurd (point_is_no_digit point.before point.behind (subst (λ l. list_all is_ascii_digit l ≡ true) point.parts all))
+
+pub whole_of : (whole : ℕ) → Spelt (Whole whole) → IsShort whole
+whole_of whole spelt =
+    let is = spelt.spelled.is in
+    let text : List ℕ = spelt.spelled.lexeme.spelling in
+    let few : length text ≤ 18 = few_digits text (one_form kinds.Number spelt is.kind) is.digits in
+    let below : read_on 0 text < 10 ^ length text = read_on-below text is.digits in
+    let wide : 10 ^ length text ≤ 10 ^ 18 = pow-le-pow_right (omega arith) few in
+    omega (arith, is.value)
+
+pub number_of : (number : Fraction) → Spelt (Number number) → IsSpelledNumber number
+number_of number spelt = record {
+  text = spelt.spelled.lexeme.spelling;
+  spelled = record { form = one_form kinds.Number spelt spelt.spelled.is.kind; value = spelt.spelled.is.value };
+}
+
+-- ---- marked texts
+
+fits_between : (mark : ℕ) (text spelling : List ℕ) → IsBetween mark spelling → text ≡ between_marks spelling → FitsBetween mark text
+fits_between mark text spelling is same =
+    let inside : is.inside ≡ text = sym (same ∙ ap between_marks is.marked ∙ between_marks-of mark is.inside) in
+    record { lacks = subst (Lacks mark) inside is.lacks; utf8 = subst IsUtf8 inside is.utf8 }
+
+pub quote_of : (text : List ℕ) → Spelt (Quoted text) → IsQuote text
+quote_of text spelt = fits_between 34 text spelt.spelled.lexeme.spelling (one_form kinds.Quoted spelt spelt.spelled.is.kind_is) spelt.spelled.is.text_is
+
+pub doc_of : (doc : Option (List ℕ)) → Spelt (Doc doc) → IsDoc doc
+doc_of None spelt = tt
+doc_of (Some text) spelt = fits_between 35 text spelt.spelled.lexeme.spelling (one_form kinds.Doc spelt spelt.spelled.is.kind_is) spelt.spelled.is.text_is

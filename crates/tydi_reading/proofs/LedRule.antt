@@ -1,0 +1,75 @@
+-- A next thing with a meaning leads on by it, or another rule follows.
+use Rattle.std.proofs.Common.{◌≡◌, ◌⊎◌, inl, inr, Bool, true, false, List, [], ◌∷◌, ◌++◌, Option, Some, None, refl, sym, ap, ◌∙◌, append_assoc}
+use Rattle.std.specs.Option.{is_some}
+use Rattle.tydi_reading.specs.Forms.{Form, ◌⋯◌, Never, Anything}
+use Rattle.tydi_reading.specs.Reading.{Outcome, Reader, ◌>>=◌, and_then, meant, leaf, choose, tells, led_by, led}
+use Rattle.tydi_reading.specs.Rules.{IsRule}
+use Rattle.tydi_reading.proofs.ChoiceRules.{chosen, choose-rule}
+use Rattle.tydi_reading.proofs.StepRules.{then-rule, read-rule}
+
+module _ {T K A : Type 0} (Good : T → Type 0) (meaning : T → Option K) (p : K → Reader T A) (q : Reader T A) where
+  abbrev is_told : T → Bool
+  is_told t = is_some (meaning t)
+
+  of_meaning : (t : T) (ts : List T) (o : Option K) → meaning t ≡ o → choose is_told false (leaf meaning >>= p) q (t ∷ ts) ≡ led meaning p q (t ∷ ts)
+  of_meaning t ts (Some k) is =
+      chosen is_told false (leaf meaning >>= p) q (t ∷ ts) true (ap is_some is)
+      ∙ ap (λ (m : Option K). and_then (meant m ts (t ∷ ts)) p) is ∙ sym (ap (λ (m : Option K). led_by m p q (t ∷ ts)) is)
+  of_meaning t ts None is =
+      chosen is_told false (leaf meaning >>= p) q (t ∷ ts) false (ap is_some is) ∙ sym (ap (λ (m : Option K). led_by m p q (t ∷ ts)) is)
+
+  led-same : (ts : List T) → choose is_told false (leaf meaning >>= p) q ts ≡ led meaning p q ts
+  led-same [] = refl
+  led-same (t ∷ ts) = of_meaning t ts (meaning t) refl
+
+  module _ (Lead : K → Form T) (After : K → A → Form T) (Other Next : A → Form T) (Within : A → Type 0) (To : K → Form T) (OtherTo : Form T)
+      (there : (k : K) (ts : List T) → Lead k ts → (t : T) × (ts ≡ t ∷ []) × (meaning t ≡ Some k))
+      (apart : (x : A) (front rest : List T) → Other x front → tells is_told false (front ++ rest) ≡ false)
+      (apart_to : (front rest : List T) → OtherTo front → tells is_told false (front ++ rest) ≡ false) where
+    -- a leading thing, and what its meaning asks for
+    abbrev pub Led : A → Form T
+    Led x ts = (k : K) × ((Lead k ⋯ After k x) ts)
+
+    abbrev pub LedTo : Form T
+    LedTo ts = (k : K) × ((Lead k ⋯ To k) ts)
+
+    leads : (k : K) (ts rest : List T) → Lead k ts → tells is_told false (ts ++ rest) ≡ true
+    leads k ts rest s = let o = there k ts s in rw o.1 (ap is_some o.2)
+
+    leads_on : (k : K) (Second : Form T) (front rest : List T) → (Lead k ⋯ Second) front → tells is_told false (front ++ rest) ≡ true
+    leads_on k Second front rest b = rw (b.all, append_assoc b.front b.back rest) (leads k b.front (b.back ++ rest) b.begins)
+
+    pub led-rule : IsRule Good (leaf meaning) Lead (λ _. Anything) (λ _. Unit {0}) Never → ((k : K) → IsRule Good (p k) (After k) Next Within (To k))
+        → IsRule Good q Other Next Within OtherTo → IsRule Good (led meaning p q) (λ x ts. Led x ts ⊎ Other x ts) Next Within (λ ts. LedTo ts ⊎ OtherTo ts)
+    led-rule first after other =
+        read-rule Good (choose is_told false (leaf meaning >>= p) q) (led meaning p q) (λ x ts. Led x ts ⊎ Other x ts) Next Within (λ ts. LedTo ts ⊎ OtherTo ts) led-same
+        (choose-rule Good is_told false (leaf meaning >>= p) q Led Next LedTo Other Next OtherTo (λ x ts. Led x ts ⊎ Other x ts) Next Within (λ ts. LedTo ts ⊎ OtherTo ts)
+        (record {
+          one = λ x ts s. inl s;
+          other = λ x ts s. inr s;
+          which = λ x ts s. s;
+          one_next = λ x front rest s next. next;
+          other_next = λ x front rest s next. next;
+          one_begins = λ x front rest s next. leads_on s.0 (After s.0 x) front rest s.1;
+          other_begins = λ x front rest s next. apart x front rest s;
+          one_deep = λ ts d. inl d;
+          other_deep = λ ts d. inr d;
+          which_deep = λ ts d. d;
+          one_deep_begins = λ front rest d. leads_on d.0 (To d.0) front rest d.1;
+          other_deep_begins = apart_to;
+        })
+        (then-rule Good (leaf meaning) p Lead (λ _. Anything) (λ _. Unit {0}) Never After (λ _. Next) (λ _. Within) To Led Next Within LedTo
+        (record {
+          join = λ k x front back s o. (k, record { front = front; back = back; all = refl; begins = s; ends = o });
+          part = λ x ts s. s;
+          follow = λ k x back rest s next. tt;
+          follows = λ k x back rest s next. next;
+          within = λ k x back s w v. v;
+          apart = λ k x front back _ s all. (tt, all);
+          first = λ ts d. absurd d;
+          last = λ k front back s d. (k, record { front = front; back = back; all = refl; begins = s; ends = d });
+          deep = λ ts d. inr d;
+          follow_deep = λ k back rest d. tt;
+        })
+        first after)
+        other)

@@ -1,0 +1,5 @@
+mod RateLemmas
+mod ValidLemmas
+mod CountLemmas
+mod SplitLemmas
+mod KeyLemmas

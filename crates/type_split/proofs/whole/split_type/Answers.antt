@@ -1,0 +1,16 @@
+use Rattle.std.proofs.Common.{rules, ◌≡◌, map}
+use Rattle.logical_types.specs.Tree.{plain_of_stream}
+use Rattle.type_split.specs.Nodes.{nodes_of}
+use Rattle.type_split.specs.Streams.{node_view}
+use Rattle.type_split.proofs.CountLemmas.{nodes-few}
+use Rattle.type_split.proofs.whole.split_type.Goals as goal
+
+pub streams_of-requires : goal.streams_of-requires
+streams_of-requires c =
+    let is : map node_view c.as_slice.result.now ≡ nodes_of (plain_of_stream c.args.ltype.now) = search rules in
+    nodes-few (plain_of_stream c.args.ltype.now) c.as_slice.result.now is c.requires.few
+
+pub roots_of-requires : goal.roots_of-requires
+roots_of-requires c =
+    let is : map node_view c.as_slice-3.result.now ≡ nodes_of (plain_of_stream c.args.ltype.now) = search rules in
+    nodes-few (plain_of_stream c.args.ltype.now) c.as_slice-3.result.now is c.requires.few
