@@ -7,8 +7,10 @@ use Rattle.til_resolve.specs.declared.fault.ResolveFault.TheVariants as faults
 use Rattle.til_resolve.specs.declared.names.Sought.TheVariants as sought
 use Rattle.til_resolve.specs.Declarations.{Declaration, declaration, before}
 use Rattle.til_resolve.specs.Earliest.{IsFirst, IsEarliest}
-use Rattle.til_resolve.specs.Faults.{HasFault, IsToldBefore, IsToldUpTo, order_of}
+use Rattle.til_resolve.specs.declared.misshapen.Sort.TheVariants as sorts
+use Rattle.til_resolve.specs.Faults.{HasFault, HasTypeAt, IsToldBefore, IsToldUpTo, order_of, written_types}
 use Rattle.til_resolve.specs.Names.{twice, unknown, wrong_kinds, refused, is_wrong_kind, uses_in}
+use Rattle.til_resolve.specs.Shapes.{IsMisshapen}
 use Rattle.til_resolve.specs.Sought.{all_refused, refused_at, first_of_both}
 use Rattle.til_resolve.proofs.AgainLemmas.{append_nil}
 
@@ -101,3 +103,37 @@ pub told-names : (all : List Declaration) (one other : Option Place) (result : O
 told-names all one other result is none first second =
     subst (IsToldUpTo all 2) (sym is)
     (told-both all one other none first (subst (λ (l : List Place). IsEarliest (Contains l) other) (wrong_kinds-is all (length all)) second))
+
+-- ---- types that are too large
+
+pub told-too_large : (all : List Declaration) (place : Place) → IsToldUpTo all 3 None → IsEarliest (HasTypeAt (IsMisshapen sorts.TooLarge) (written_types all)) (Some place)
+    → IsToldUpTo all 4 (Some (faults.TypeTooLarge place))
+told-too_large all place none is = record { told = (large place is.told.there, first) }
+  where
+    large : (q : Place) → HasTypeAt (IsMisshapen sorts.TooLarge) (written_types all) q → HasFault all (faults.TypeTooLarge q)
+    large q there = record { one = there.one; written = there.written; at = there.at; is = there.is }
+
+    first : (other : ResolveFault) → HasFault all other → IsToldBefore (faults.TypeTooLarge place) other
+    first (faults.DeclaredTwice q) there = absurd (none.told (faults.DeclaredTwice q) (omega arith) there)
+    first (faults.UnknownName q) there = absurd (none.told (faults.UnknownName q) (omega arith) there)
+    first (faults.WrongKind q) there = absurd (none.told (faults.WrongKind q) (omega arith) there)
+    first (faults.CyclicType q) there = absurd (none.told (faults.CyclicType q) (omega arith) there)
+    first (faults.TypeTooLarge q) there = inr (refl, is.told.first q (record { one = there.one; written = there.written; at = there.at; is = there.is }))
+    first (faults.BadType q fault) there = inl (omega arith)
+    first (faults.PortNotStream q) there = inl (omega arith)
+    first (faults.CyclicInstance q) there = inl (omega arith)
+    first faults.Memory there = absurd there
+
+pub told-none_too_large : (all : List Declaration) → IsToldUpTo all 3 None → IsEarliest (HasTypeAt (IsMisshapen sorts.TooLarge) (written_types all)) None → IsToldUpTo all 4 None
+told-none_too_large all none is = record { told = never }
+  where
+    never : (fault : ResolveFault) → order_of fault ≤ 4 → ¬ HasFault all fault
+    never (faults.DeclaredTwice q) low there = none.told (faults.DeclaredTwice q) (omega arith) there
+    never (faults.UnknownName q) low there = none.told (faults.UnknownName q) (omega arith) there
+    never (faults.WrongKind q) low there = none.told (faults.WrongKind q) (omega arith) there
+    never (faults.CyclicType q) low there = none.told (faults.CyclicType q) (omega arith) there
+    never (faults.TypeTooLarge q) low there = is.told q (record { one = there.one; written = there.written; at = there.at; is = there.is })
+    never (faults.BadType q fault) low there = absurd (omega (arith, low))
+    never (faults.PortNotStream q) low there = absurd (omega (arith, low))
+    never (faults.CyclicInstance q) low there = absurd (omega (arith, low))
+    never faults.Memory low there = there

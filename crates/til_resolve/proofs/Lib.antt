@@ -14,4 +14,6 @@ mod TypeGraphLemmas
 mod RankLemmas
 mod ContainmentLemmas
 mod BelowLemmas
+mod ShapeLemmas
+mod MisshapenLemmas
 mod Examples

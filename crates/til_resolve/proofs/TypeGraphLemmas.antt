@@ -47,7 +47,7 @@ at_end : {A : Type 0} (front : List A) (x d : A) → get_or (front ++ x ∷ []) 
 at_end [] x d = refl
 at_end (y ∷ ys) x d = at_end ys x d
 
-each-at : {A : Type 0} (of : ℕ → A) (n k : ℕ) (d : A) → k < n → get_or (before (λ one. of one ∷ []) n) k d ≡ of k
+pub each-at : {A : Type 0} (of : ℕ → A) (n k : ℕ) (d : A) → k < n → get_or (before (λ one. of one ∷ []) n) k d ≡ of k
 each-at of zero k d within = absurd (omega (arith, within))
 each-at {A} of (suc n) k d within = by (cases_lt k n) (each-at of n k d)
   where

@@ -1,17 +1,20 @@
 -- What is wrong with a tree, each fault at its place, and which is told. This project's own.
-use Rattle.std.specs.Prelude.{◌≡◌, ◌≤◌, ◌<◌, ◌⊎◌, ℕ, Bool, true, false, not, List, [], ◌∷◌, length, slice_get, Option, Some, MatchOption, Contains, IsTrue}
+use Rattle.std.specs.Prelude.{◌≡◌, ◌≤◌, ◌<◌, ◌⊎◌, ℕ, Bool, true, false, not, List, [], ◌∷◌, map, length, slice_get, Option, Some, MatchOption, Contains, IsTrue}
 use Rattle.std.specs.List.{flat_map}
 use Rattle.tydi_base.specs.declared.place.Place.{Place}
 use Rattle.til_parser.specs.declared.tree.Ast.{Ast}
 use Rattle.til_parser.specs.declared.tree.AstKind.{AstKind}
 use Rattle.til_parser.specs.declared.tree.AstKind.TheVariants as decls
+use Rattle.til_parser.specs.declared.tree.AstName.{AstName}
+use Rattle.til_parser.specs.declared.tree.AstPort.{AstPort}
+use Rattle.til_parser.specs.declared.tree.AstPorts.TheVariants as ports
 use Rattle.til_parser.specs.Tree.{plain}
-use Rattle.logical_types.specs.Tree.{Ltype, null, bits, group, union, stream}
+use Rattle.logical_types.specs.Tree.{Ltype}
 use Rattle.logical_types.specs.Faults.{faults_of}
 use Rattle.til_resolve.specs.declared.fault.ResolveFault.{ResolveFault}
 use Rattle.til_resolve.specs.declared.fault.ResolveFault.TheVariants as faults
-use Rattle.til_resolve.specs.Declarations.{Declaration, PortOf, declaration, declarations, ports_in}
-use Rattle.til_resolve.specs.Types.{type_of, number_of_nodes, depth_of}
+use Rattle.til_resolve.specs.Declarations.{Declaration, declaration, declarations}
+use Rattle.til_resolve.specs.Types.{type_of, number_of_nodes, depth_of, is_stream}
 use Rattle.til_resolve.specs.Names.{implements, target_place, twice, unknown, wrong_kinds}
 use Rattle.til_resolve.specs.Cycles.{LeadsTo, IsCyclicType, ContainsStreamlet}
 use Rattle.til_resolve.specs.Earliest.{IsBelow}
@@ -24,24 +27,22 @@ pub record WrittenType : Type 0 where
   pub ltype : Ltype
   pub in_port : Bool
 
--- the type of a port
-abbrev pub port_type : List Declaration → PortOf → WrittenType
-port_type all one = record { place = one.port.name.place; ltype = type_of all one.space (plain one.port.ltype); in_port = true }
+-- the types of ports that are written in a namespace
+abbrev pub port_types : List Declaration → List (List ℕ) → List AstPort → List WrittenType
+port_types all space listed = map (λ port. record { place = port.name.place; ltype = type_of all space (plain port.ltype); in_port = true }) listed
 
--- the types that a declaration writes: its own, or those of its ports
+-- the types that a declaration of a kind writes: its own, or those of its ports
+abbrev pub types_of_kind : List Declaration → List (List ℕ) → AstName → AstKind → List WrittenType
+types_of_kind all space name (decls.Alias ltype) = record { place = name.place; ltype = type_of all space (plain ltype); in_port = false } ∷ []
+types_of_kind all space name (decls.Interface listed) = port_types all space listed
+types_of_kind all space name (decls.Streamlet (ports.Own listed)) = port_types all space listed
+types_of_kind all space name (decls.Streamlet (ports.Named path)) = []
+types_of_kind all space name (decls.Impl target body) = []
+types_of_kind all space name (decls.Test target port value plan) = []
+
+-- the types that a declaration writes
 abbrev pub types_in : List Declaration → Declaration → List WrittenType
-types_in all one = of_kind one.kind
-  where
-    of_ports : List PortOf → List WrittenType
-    of_ports [] = []
-    of_ports (first ∷ more) = port_type all first ∷ of_ports more
-
-    of_kind : AstKind → List WrittenType
-    of_kind (decls.Alias ltype) = record { place = one.name.place; ltype = type_of all one.space (plain ltype); in_port = false } ∷ []
-    of_kind (decls.Interface listed) = of_ports (ports_in one)
-    of_kind (decls.Streamlet listed) = of_ports (ports_in one)
-    of_kind (decls.Impl target body) = []
-    of_kind (decls.Test target port value plan) = []
+types_in all one = types_of_kind all one.space one.name one.kind
 
 -- all types that a tree writes
 abbrev pub written_types : List Declaration → List WrittenType
@@ -51,13 +52,12 @@ written_types all = flat_map (types_in all) all
 abbrev pub IsTooLarge : Ltype → Type 0
 IsTooLarge ltype = (65536 < number_of_nodes ltype) ⊎ (64 < depth_of ltype)
 
--- a type that is a Stream
-abbrev pub is_stream : Ltype → Bool
-is_stream null = false
-is_stream (bits width) = false
-is_stream (group parts) = false
-is_stream (union parts) = false
-is_stream (stream element user settings) = true
+-- one of these types, told of at this place, is such a type
+pub record HasTypeAt (Is : WrittenType → Type 0) (types : List WrittenType) (place : Place) : Type 0 where
+  pub one : WrittenType
+  pub written : Contains types one
+  pub at : one.place ≡ place
+  pub is : Is one
 
 -- a type declaration that leads to itself, at its name
 pub record IsCyclicAtName (all : List Declaration) (one : ℕ) (place : Place) : Type 0 where
@@ -79,9 +79,9 @@ HasFault all (faults.DeclaredTwice place) = Contains (twice all) place
 HasFault all (faults.UnknownName place) = Contains (unknown all) place
 HasFault all (faults.WrongKind place) = Contains (wrong_kinds all) place
 HasFault all (faults.CyclicType place) = IsBelow (IsCyclicAtName all) (length all) place
-HasFault all (faults.TypeTooLarge place) = (one : WrittenType) × Contains (written_types all) one × (one.place ≡ place) × IsTooLarge one.ltype
-HasFault all (faults.BadType place fault) = (one : WrittenType) × Contains (written_types all) one × (one.place ≡ place) × (slice_get (faults_of one.ltype) 0 ≡ Some fault)
-HasFault all (faults.PortNotStream place) = (one : WrittenType) × Contains (written_types all) one × (one.place ≡ place) × IsTrue one.in_port × IsTrue (not (is_stream one.ltype))
+HasFault all (faults.TypeTooLarge place) = HasTypeAt (λ one. IsTooLarge one.ltype) (written_types all) place
+HasFault all (faults.BadType place fault) = HasTypeAt (λ one. slice_get (faults_of one.ltype) 0 ≡ Some fault) (written_types all) place
+HasFault all (faults.PortNotStream place) = HasTypeAt (λ one. IsTrue one.in_port × IsTrue (not (is_stream one.ltype))) (written_types all) place
 HasFault all (faults.CyclicInstance place) = IsBelow (IsCyclicAtTarget all) (length all) place
 HasFault all faults.Memory = ⊥
 

@@ -13,4 +13,5 @@ pub mod Ports
 pub mod Twice
 pub mod Sought
 pub mod Graph
+pub mod Shapes
 pub mod Project

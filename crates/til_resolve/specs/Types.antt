@@ -1,5 +1,5 @@
 -- The type that a written type stands for, the names in it replaced.
-use Rattle.std.specs.Prelude.{ℕ, zero, suc, ◌+◌, max, List, length, Option, Some, None}
+use Rattle.std.specs.Prelude.{ℕ, zero, suc, ◌+◌, max, Bool, false, true, List, length, Option, Some, None}
 use Rattle.til_parser.specs.declared.ltype.AstSync.{AstSync}
 use Rattle.til_parser.specs.declared.ltype.AstSync.TheVariants as written
 use Rattle.til_parser.specs.declared.tree.AstKind.{AstKind}
@@ -97,3 +97,11 @@ abbrev mutual
   pub depth_of_parts : Parts → ℕ
   depth_of_parts no_parts = 0
   depth_of_parts (part name ltype more) = max (depth_of ltype) (depth_of_parts more)
+
+-- a type that is a Stream
+abbrev pub is_stream : Ltype → Bool
+is_stream null = false
+is_stream (bits width) = false
+is_stream (group parts) = false
+is_stream (union parts) = false
+is_stream (stream element user settings) = true

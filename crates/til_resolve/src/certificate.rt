@@ -3,6 +3,7 @@
 ghost use Rattle.std.specs.Prelude.{◌≡◌, ◌<◌, ◌≤◌, ◌↔◌, ℕ, IsTrue, IfOk, length, slice_index};
 ghost use Rattle.til_resolve.specs.Cycles.{LeadsTo};
 ghost use Rattle.til_resolve.specs.Graph.{AreNumbers, Leads, Falls, NeverRises, rank_of};
+ghost use Rattle.til_resolve.specs.Shapes.{IsRanked};
 
 use crate::ranks::find_ranks;
 use crate::search::leads_to_itself;
@@ -60,6 +61,29 @@ fn rank_of(ranks: &[usize], number: usize) -> usize
         Some(rank) => *rank,
         None => 0,
     }
+}
+
+/// Whether each number has a rank from 1 to the number of all, and leads to lower ones alone.
+pub fn are_ranked(graph: &[List<usize>], ranks: &[usize]) -> bool
+    ensures { IsTrue result → (one : ℕ) → one < length graph.now → IsRanked ranks.now graph.now one }
+{
+    'numbers: for number in 0..graph.len() {
+        if !is_ranked(graph, ranks, number) {
+            return false;
+        }
+    }
+    true
+}
+
+fn is_ranked(graph: &[List<usize>], ranks: &[usize], number: usize) -> bool
+    requires { number < length graph.now }
+    ensures { IsTrue result → IsRanked ranks.now graph.now number }
+{
+    let rank = rank_of(ranks, number);
+    if rank == 0 || rank > graph.len() {
+        return false;
+    }
+    falls_from(ranks, graph[number].as_slice(), rank)
 }
 
 /// Whether a number leads to itself, by these ranks where they show it.

@@ -7,15 +7,31 @@ ghost use Rattle.til_resolve.specs.Sought as spec;
 
 use crate::cyclic_types::first_cyclic_type;
 use crate::fault::ResolveFault;
+use crate::misshapen::{Sort, first_misshapen};
 use crate::names::{Sought, first_refused};
 use crate::ports::all_ports;
 use crate::scope::Scope;
+use crate::shapes::shapes;
 use crate::twice::first_twice;
 use std::alloc::Global;
 use tydi_base::{Memory, Place};
 
-/// The first fault of names, or else the first type declaration that leads to itself.
+/// The first fault of names, or else the first type declaration that leads to itself, or else the first type that is too large.
 pub fn first_fault(alloc: Global, scope: &Scope<'_>) -> Result<Option<ResolveFault>, Memory>
+    ensures { IfOk result (IsToldUpTo (declarations_of scope.now.declared) 4) }
+{
+    if let Some(fault) = first_early_fault(alloc, scope)? {
+        return Ok(Some(fault));
+    }
+    let table = shapes(alloc, scope)?;
+    match first_misshapen(scope, table.as_slice(), Sort::TooLarge) {
+        Some(place) => Ok(Some(ResolveFault::TypeTooLarge(place))),
+        None => Ok(None),
+    }
+}
+
+// The first fault of names, or else the first type declaration that leads to itself.
+fn first_early_fault(alloc: Global, scope: &Scope<'_>) -> Result<Option<ResolveFault>, Memory>
     ensures { IfOk result (IsToldUpTo (declarations_of scope.now.declared) 3) }
 {
     if let Some(fault) = first_name_fault(alloc, scope)? {

@@ -14,6 +14,8 @@ mod first;
 mod firsts;
 mod kinds;
 mod lookup;
+mod measuring;
+mod misshapen;
 mod names;
 mod placing;
 mod ports;
@@ -21,6 +23,8 @@ mod project;
 mod ranks;
 mod scope;
 mod search;
+mod shape;
+mod shapes;
 #[cfg(test)]
 mod tests;
 mod twice;

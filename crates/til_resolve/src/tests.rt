@@ -1,15 +1,19 @@
 //! The faults of trees, by a table found by hand.
 
+use crate::containment::first_cyclic_instance;
 use crate::fault::ResolveFault;
 use crate::first::first_fault;
+use crate::misshapen::{Sort, first_misshapen};
 use crate::scope::Scope;
+use crate::shapes::shapes;
 use std::alloc::Global;
 use std::test::Fail;
 use til_lexer::lex;
 use til_parser::parse;
+use tydi_base::Place;
 
 // Texts, and the first of their faults, with the offset of its place.
-const FAULTY: [(&str, Option<(u8, u32)>); 36] = [
+const FAULTY: [(&str, Option<(u8, u32)>); 40] = [
     // A second declaration of one name, whatever its kind, also where its namespace is opened again.
     (
         "namespace a { type b = Null; type b = Null; }",
@@ -145,6 +149,123 @@ const FAULTY: [(&str, Option<(u8, u32)>); 36] = [
         "namespace a { type b = c; type c = Group(x: d, y: d); type d = Null; }",
         None,
     ),
+    // Types that are too large: a tower is never built; 64 levels are allowed, names replaced.
+    (TOWER_14, None),
+    (TOWER_60, Some((5, 492))),
+    (NESTED_64, None),
+    (NESTED_65, Some((5, 1654))),
+];
+
+// Each type holds the one before twice: 49,151 nodes.
+const TOWER_14: &str =
+    "namespace t { type a0 = Group(x: Null); type a1 = Group(x: a0, y: a0); type a2 = Group(x: a1, y: a1); \
+     type a3 = Group(x: a2, y: a2); type a4 = Group(x: a3, y: a3); type a5 = Group(x: a4, y: a4); \
+     type a6 = Group(x: a5, y: a5); type a7 = Group(x: a6, y: a6); type a8 = Group(x: a7, y: a7); \
+     type a9 = Group(x: a8, y: a8); type a10 = Group(x: a9, y: a9); type a11 = Group(x: a10, y: a10); \
+     type a12 = Group(x: a11, y: a11); type a13 = Group(x: a12, y: a12); type a14 = Group(x: a13, y: a13); }";
+
+// The same up to 3 times 2^60 less 1 nodes.
+const TOWER_60: &str =
+    "namespace t { type a0 = Group(x: Null); type a1 = Group(x: a0, y: a0); type a2 = Group(x: a1, y: a1); \
+     type a3 = Group(x: a2, y: a2); type a4 = Group(x: a3, y: a3); type a5 = Group(x: a4, y: a4); \
+     type a6 = Group(x: a5, y: a5); type a7 = Group(x: a6, y: a6); type a8 = Group(x: a7, y: a7); \
+     type a9 = Group(x: a8, y: a8); type a10 = Group(x: a9, y: a9); type a11 = Group(x: a10, y: a10); \
+     type a12 = Group(x: a11, y: a11); type a13 = Group(x: a12, y: a12); type a14 = Group(x: a13, y: a13); \
+     type a15 = Group(x: a14, y: a14); type a16 = Group(x: a15, y: a15); type a17 = Group(x: a16, y: a16); \
+     type a18 = Group(x: a17, y: a17); type a19 = Group(x: a18, y: a18); type a20 = Group(x: a19, y: a19); \
+     type a21 = Group(x: a20, y: a20); type a22 = Group(x: a21, y: a21); type a23 = Group(x: a22, y: a22); \
+     type a24 = Group(x: a23, y: a23); type a25 = Group(x: a24, y: a24); type a26 = Group(x: a25, y: a25); \
+     type a27 = Group(x: a26, y: a26); type a28 = Group(x: a27, y: a27); type a29 = Group(x: a28, y: a28); \
+     type a30 = Group(x: a29, y: a29); type a31 = Group(x: a30, y: a30); type a32 = Group(x: a31, y: a31); \
+     type a33 = Group(x: a32, y: a32); type a34 = Group(x: a33, y: a33); type a35 = Group(x: a34, y: a34); \
+     type a36 = Group(x: a35, y: a35); type a37 = Group(x: a36, y: a36); type a38 = Group(x: a37, y: a37); \
+     type a39 = Group(x: a38, y: a38); type a40 = Group(x: a39, y: a39); type a41 = Group(x: a40, y: a40); \
+     type a42 = Group(x: a41, y: a41); type a43 = Group(x: a42, y: a42); type a44 = Group(x: a43, y: a43); \
+     type a45 = Group(x: a44, y: a44); type a46 = Group(x: a45, y: a45); type a47 = Group(x: a46, y: a46); \
+     type a48 = Group(x: a47, y: a47); type a49 = Group(x: a48, y: a48); type a50 = Group(x: a49, y: a49); \
+     type a51 = Group(x: a50, y: a50); type a52 = Group(x: a51, y: a51); type a53 = Group(x: a52, y: a52); \
+     type a54 = Group(x: a53, y: a53); type a55 = Group(x: a54, y: a54); type a56 = Group(x: a55, y: a55); \
+     type a57 = Group(x: a56, y: a56); type a58 = Group(x: a57, y: a57); type a59 = Group(x: a58, y: a58); \
+     type a60 = Group(x: a59, y: a59); }";
+
+// 64 types inside one another, names replaced.
+const NESTED_64: &str =
+    "namespace t { type a0 = Null; type a1 = Group(x: a0); type a2 = Group(x: a1); type a3 = Group(x: a2); \
+     type a4 = Group(x: a3); type a5 = Group(x: a4); type a6 = Group(x: a5); type a7 = Group(x: a6); \
+     type a8 = Group(x: a7); type a9 = Group(x: a8); type a10 = Group(x: a9); type a11 = Group(x: a10); \
+     type a12 = Group(x: a11); type a13 = Group(x: a12); type a14 = Group(x: a13); type a15 = Group(x: a14); \
+     type a16 = Group(x: a15); type a17 = Group(x: a16); type a18 = Group(x: a17); type a19 = Group(x: a18); \
+     type a20 = Group(x: a19); type a21 = Group(x: a20); type a22 = Group(x: a21); type a23 = Group(x: a22); \
+     type a24 = Group(x: a23); type a25 = Group(x: a24); type a26 = Group(x: a25); type a27 = Group(x: a26); \
+     type a28 = Group(x: a27); type a29 = Group(x: a28); type a30 = Group(x: a29); type a31 = Group(x: a30); \
+     type a32 = Group(x: a31); type a33 = Group(x: a32); type a34 = Group(x: a33); type a35 = Group(x: a34); \
+     type a36 = Group(x: a35); type a37 = Group(x: a36); type a38 = Group(x: a37); type a39 = Group(x: a38); \
+     type a40 = Group(x: a39); type a41 = Group(x: a40); type a42 = Group(x: a41); type a43 = Group(x: a42); \
+     type a44 = Group(x: a43); type a45 = Group(x: a44); type a46 = Group(x: a45); type a47 = Group(x: a46); \
+     type a48 = Group(x: a47); type a49 = Group(x: a48); type a50 = Group(x: a49); type a51 = Group(x: a50); \
+     type a52 = Group(x: a51); type a53 = Group(x: a52); type a54 = Group(x: a53); type a55 = Group(x: a54); \
+     type a56 = Group(x: a55); type a57 = Group(x: a56); type a58 = Group(x: a57); type a59 = Group(x: a58); \
+     type a60 = Group(x: a59); type a61 = Group(x: a60); type a62 = Group(x: a61); type a63 = Group(x: a62); }";
+
+// 65 types inside one another.
+const NESTED_65: &str =
+    "namespace t { type a0 = Null; type a1 = Group(x: a0); type a2 = Group(x: a1); type a3 = Group(x: a2); \
+     type a4 = Group(x: a3); type a5 = Group(x: a4); type a6 = Group(x: a5); type a7 = Group(x: a6); \
+     type a8 = Group(x: a7); type a9 = Group(x: a8); type a10 = Group(x: a9); type a11 = Group(x: a10); \
+     type a12 = Group(x: a11); type a13 = Group(x: a12); type a14 = Group(x: a13); type a15 = Group(x: a14); \
+     type a16 = Group(x: a15); type a17 = Group(x: a16); type a18 = Group(x: a17); type a19 = Group(x: a18); \
+     type a20 = Group(x: a19); type a21 = Group(x: a20); type a22 = Group(x: a21); type a23 = Group(x: a22); \
+     type a24 = Group(x: a23); type a25 = Group(x: a24); type a26 = Group(x: a25); type a27 = Group(x: a26); \
+     type a28 = Group(x: a27); type a29 = Group(x: a28); type a30 = Group(x: a29); type a31 = Group(x: a30); \
+     type a32 = Group(x: a31); type a33 = Group(x: a32); type a34 = Group(x: a33); type a35 = Group(x: a34); \
+     type a36 = Group(x: a35); type a37 = Group(x: a36); type a38 = Group(x: a37); type a39 = Group(x: a38); \
+     type a40 = Group(x: a39); type a41 = Group(x: a40); type a42 = Group(x: a41); type a43 = Group(x: a42); \
+     type a44 = Group(x: a43); type a45 = Group(x: a44); type a46 = Group(x: a45); type a47 = Group(x: a46); \
+     type a48 = Group(x: a47); type a49 = Group(x: a48); type a50 = Group(x: a49); type a51 = Group(x: a50); \
+     type a52 = Group(x: a51); type a53 = Group(x: a52); type a54 = Group(x: a53); type a55 = Group(x: a54); \
+     type a56 = Group(x: a55); type a57 = Group(x: a56); type a58 = Group(x: a57); type a59 = Group(x: a58); \
+     type a60 = Group(x: a59); type a61 = Group(x: a60); type a62 = Group(x: a61); type a63 = Group(x: a62); \
+     type a64 = Group(x: a63); }";
+
+// Texts, the offset of the first port whose type is no Stream, and of the first `impl` whose streamlet contains itself.
+const LATER: [(&str, Option<u32>, Option<u32>); 7] = [
+    // A port whose type is no Stream: the first, be it in an interface, and by a name.
+    (
+        "namespace a { streamlet s = (p: in Stream(data: Null), q: out Null, r: in Null); }",
+        Some(55),
+        None,
+    ),
+    (
+        "namespace a { type b = Group(x: Stream(data: Null)); interface i = (p: in b); streamlet s = i; }",
+        Some(68),
+        None,
+    ),
+    (
+        "namespace a { type c = Stream(data: Null); type b = c; interface i = (p: in b, q: in a::c); }",
+        None,
+        None,
+    ),
+    // Streamlets that contain themselves: at once, through another, and not those that only lead to one.
+    (
+        "namespace a { streamlet s = (); impl i of s = { x = s; }; }",
+        None,
+        Some(42),
+    ),
+    (
+        "namespace a { streamlet s = (); streamlet t = (); impl i of s = { x = t; }; impl j of t = { x = s; }; }",
+        None,
+        Some(60),
+    ),
+    (
+        "namespace a { streamlet s = (); streamlet t = (); impl i of s = { x = t; }; impl j of a::t = { x = t; }; }",
+        None,
+        Some(86),
+    ),
+    (
+        "namespace a { streamlet s = (); streamlet t = (); impl i of s = { x = t; y = t; }; impl j of t = \"\"; }",
+        None,
+        None,
+    ),
 ];
 
 // The number of a fault, and the offset of its place.
@@ -171,6 +292,32 @@ fn first_of(alloc: Global, text: &str) -> Result<Option<(u8, u32)>, Fail> {
     let scope = Scope::new(alloc, &ast)?;
     let found = first_fault(alloc, &scope)?;
     Ok(found.map(number_of))
+}
+
+// The offsets of the first port whose type is no Stream, and of the first `impl` whose streamlet contains itself.
+fn later_of(alloc: Global, text: &str) -> Result<(Option<u32>, Option<u32>), Fail> {
+    if text.len() > 1_000_000 {
+        return Ok((None, None));
+    }
+    let tokens = lex(alloc, text)?;
+    let ast = parse(alloc, text, tokens.as_slice())?;
+    let scope = Scope::new(alloc, &ast)?;
+    let table = shapes(alloc, &scope)?;
+    let port = first_misshapen(&scope, table.as_slice(), Sort::PortNotStream);
+    let instance = first_cyclic_instance(alloc, &scope)?;
+    Ok((port.map(offset_of), instance.map(offset_of)))
+}
+
+fn offset_of(place: Place) -> u32 {
+    place.offset
+}
+
+#[test]
+fn later_faults(rt: HostRuntime) -> Result<(), Fail> {
+    for (text, port, instance) in LATER {
+        assert_eq!(rt; later_of(rt.alloc(), text)?, (port, instance), "{text}");
+    }
+    Ok(())
 }
 
 #[test]

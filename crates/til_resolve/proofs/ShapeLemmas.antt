@@ -1,0 +1,236 @@
+-- Shapes of written types, and tables of the shapes of declarations: of a round more, and of ranks that fall.
+use Rattle.std.proofs.Common.{◌≡◌, ℕ, zero, suc, ◌+◌, ◌<◌, ◌≤◌, ◌⊎◌, inl, inr, Bool, true, false, cond, min, max, List, [], ◌∷◌, ◌++◌, length, get_or, take, Option, Some, None, Contains, refl, sym, ap, subst, ◌∙◌, arith}
+use Rattle.std.proofs.lemmas.List.{take_more}
+use Rattle.std.proofs.lemmas.List.Elements.{Contains-append_left, Contains-append_right, Contains-push}
+use Rattle.til_parser.specs.declared.ltype.AstPart.{AstPart}
+use Rattle.til_parser.specs.declared.tree.AstKind.{AstKind}
+use Rattle.til_parser.specs.declared.tree.AstKind.TheVariants as decls
+use Rattle.til_parser.specs.declared.tree.AstName.{AstName}
+use Rattle.til_parser.specs.declared.tree.AstPath.{AstPath}
+use Rattle.til_parser.specs.Tree as tree
+use Rattle.til_parser.specs.Tree.{plain}
+use Rattle.til_parser.proofs.PlainLemmas.{plain_parts}
+use Rattle.logical_types.specs.Tree.{Ltype, null, Parts}
+use Rattle.til_resolve.specs.declared.shape.Shape.{Shape}
+use Rattle.til_resolve.specs.Cycles.{NamesType, paths_of_alias}
+use Rattle.til_resolve.specs.Declarations.{Declaration, declaration, named, named_as, is_type, is_type_kind, kept_as}
+use Rattle.til_resolve.specs.Graph.{Leads, rank_of, type_graph}
+use Rattle.til_resolve.specs.Names.{paths_in, paths_in_parts}
+use Rattle.til_resolve.specs.Shapes.{shape_of, leaf, nothing, beside, around, shape_by, shape_by_parts, shape_by_list, shape_at, shape_of_number, shape_named, shape_of_kind, declared_shape, round, type_at, HasShape, IsTable, IsOwnRound, IsRanked}
+use Rattle.til_resolve.specs.Types.{number_of_nodes, nodes_in_parts, depth_of, depth_of_parts, replaced, replaced_parts, type_by, type_of_number, meaning_of, type_of}
+use Rattle.til_resolve.proofs.TypeGraphLemmas.{each-at, length-type_graph, Leads-NamesType, named-within}
+
+-- ---- shapes
+
+pub same_shape : (one other : Shape) → one.nodes ≡ other.nodes → one.depth ≡ other.depth → one.stream ≡ other.stream → one ≡ other
+same_shape one other nodes depth stream =
+    ap (λ n. record { nodes = n; depth = one.depth; stream = one.stream }) nodes
+    ∙ ap (λ n. record { nodes = other.nodes; depth = n; stream = one.stream }) depth
+    ∙ ap (λ b. record { nodes = other.nodes; depth = other.depth; stream = b }) stream
+
+beside-turned : (one : Shape) → beside one nothing ≡ beside nothing one
+beside-turned one = same_shape (beside one nothing) (beside nothing one) (omega arith) (omega arith) refl
+
+beside-grouped : (one two three : Shape) → beside one (beside two three) ≡ beside (beside one two) three
+beside-grouped one two three = same_shape (beside one (beside two three)) (beside (beside one two) three) (omega arith) (omega arith) refl
+
+-- ---- lists of parts
+
+pub shape_by-parts : (of : List AstName → Shape) (parts : List AstPart) → shape_by_parts of (plain_parts parts) ≡ shape_by_list of parts
+shape_by-parts of [] = refl
+shape_by-parts of (first ∷ more) = ap (λ s. beside (shape_by of (plain first.ltype)) s) (shape_by-parts of more)
+
+shape_by_list-push : (of : List AstName → Shape) (parts : List AstPart) (part : AstPart) → shape_by_list of (parts ++ part ∷ []) ≡ beside (shape_by_list of parts) (shape_by of (plain part.ltype))
+shape_by_list-push of [] part = beside-turned (shape_by of (plain part.ltype))
+shape_by_list-push of (first ∷ more) part =
+    ap (λ s. beside (shape_by of (plain first.ltype)) s) (shape_by_list-push of more part)
+    ∙ beside-grouped (shape_by of (plain first.ltype)) (shape_by_list of more) (shape_by of (plain part.ltype))
+
+pub shape_by_list-more : (of : List AstName → Shape) (parts : List AstPart) (i : ℕ) (part : AstPart) → i < length parts → part ≡ get_or parts i part
+    → shape_by_list of (take (i + 1) parts) ≡ beside (shape_by_list of (take i parts)) (shape_by of (plain part.ltype))
+shape_by_list-more of parts i part within is =
+    ap (shape_by_list of) (take_more parts i part within ∙ ap (λ (p : AstPart). take i parts ++ p ∷ []) (sym is))
+    ∙ shape_by_list-push of (take i parts) part
+
+-- ---- the shape of a type whose names are replaced
+
+-- the shape of parts beside one another
+abbrev shape_of_parts : Parts → Shape
+shape_of_parts parts = record { nodes = min (nodes_in_parts parts) 65537; depth = min (depth_of_parts parts) 65; stream = false }
+
+mutual
+  shape-replaced : (meaning : List AstName → Ltype) (t : tree.Ltype) → shape_of (replaced meaning t) ≡ shape_by (λ names. shape_of (meaning names)) t
+  shape-replaced meaning tree.null = refl
+  shape-replaced meaning (tree.bits width) = refl
+  shape-replaced meaning (tree.group parts) = by (replaced_parts meaning parts) (shapes-replaced meaning parts)
+    where
+      by : (there : Parts) → shape_of_parts there ≡ shape_by_parts (λ names. shape_of (meaning names)) parts
+          → record { nodes = min (suc (nodes_in_parts there)) 65537; depth = min (suc (depth_of_parts there)) 65; stream = false }
+          ≡ around false (shape_by_parts (λ names. shape_of (meaning names)) parts)
+      by there is = subst (λ s. record { nodes = min (suc (nodes_in_parts there)) 65537; depth = min (suc (depth_of_parts there)) 65; stream = false } ≡ around false s) is
+          (same_shape (record { nodes = min (suc (nodes_in_parts there)) 65537; depth = min (suc (depth_of_parts there)) 65; stream = false }) (around false (shape_of_parts there))
+          (omega arith) (omega arith) refl)
+  shape-replaced meaning (tree.union parts) = by (replaced_parts meaning parts) (shapes-replaced meaning parts)
+    where
+      by : (there : Parts) → shape_of_parts there ≡ shape_by_parts (λ names. shape_of (meaning names)) parts
+          → record { nodes = min (suc (nodes_in_parts there)) 65537; depth = min (suc (depth_of_parts there)) 65; stream = false }
+          ≡ around false (shape_by_parts (λ names. shape_of (meaning names)) parts)
+      by there is = subst (λ s. record { nodes = min (suc (nodes_in_parts there)) 65537; depth = min (suc (depth_of_parts there)) 65; stream = false } ≡ around false s) is
+          (same_shape (record { nodes = min (suc (nodes_in_parts there)) 65537; depth = min (suc (depth_of_parts there)) 65; stream = false }) (around false (shape_of_parts there))
+          (omega arith) (omega arith) refl)
+  shape-replaced meaning (tree.stream element user settings) =
+      around-both (replaced meaning element) (replaced meaning user)
+      ∙ ap (λ s. around true (beside s (shape_of (replaced meaning user)))) (shape-replaced meaning element)
+      ∙ ap (λ s. around true (beside (shape_by (λ names. shape_of (meaning names)) element) s)) (shape-replaced meaning user)
+    where
+      around-both : (one other : Ltype)
+          → record { nodes = min (suc (number_of_nodes one + number_of_nodes other)) 65537; depth = min (suc (max (depth_of one) (depth_of other))) 65; stream = true }
+          ≡ around true (beside (shape_of one) (shape_of other))
+      around-both one other = same_shape
+          (record { nodes = min (suc (number_of_nodes one + number_of_nodes other)) 65537; depth = min (suc (max (depth_of one) (depth_of other))) 65; stream = true })
+          (around true (beside (shape_of one) (shape_of other))) (omega arith) (omega arith) refl
+  shape-replaced meaning (tree.path names) = refl
+
+  shapes-replaced : (meaning : List AstName → Ltype) (parts : tree.Parts) → shape_of_parts (replaced_parts meaning parts) ≡ shape_by_parts (λ names. shape_of (meaning names)) parts
+  shapes-replaced meaning tree.no_parts = refl
+  shapes-replaced meaning (tree.part name ltype more) =
+      beside-both (replaced meaning ltype) (replaced_parts meaning more)
+      ∙ ap (λ s. beside s (shape_of_parts (replaced_parts meaning more))) (shape-replaced meaning ltype)
+      ∙ ap (λ s. beside (shape_by (λ names. shape_of (meaning names)) ltype) s) (shapes-replaced meaning more)
+    where
+      beside-both : (one : Ltype) (others : Parts)
+          → record { nodes = min (number_of_nodes one + nodes_in_parts others) 65537; depth = min (max (depth_of one) (depth_of_parts others)) 65; stream = false }
+          ≡ beside (shape_of one) (shape_of_parts others)
+      beside-both one others = same_shape
+          (record { nodes = min (number_of_nodes one + nodes_in_parts others) 65537; depth = min (max (depth_of one) (depth_of_parts others)) 65; stream = false })
+          (beside (shape_of one) (shape_of_parts others)) (omega arith) (omega arith) refl
+
+-- ---- the same shapes of the paths in a type
+
+mutual
+  shape_by-same : (of other : List AstName → Shape) (t : tree.Ltype) → ((path : AstPath) → Contains (paths_in t) path → of path.names ≡ other path.names) → shape_by of t ≡ shape_by other t
+  shape_by-same of other tree.null same = refl
+  shape_by-same of other (tree.bits width) same = refl
+  shape_by-same of other (tree.group parts) same = ap (around false) (shape_by_parts-same of other parts same)
+  shape_by-same of other (tree.union parts) same = ap (around false) (shape_by_parts-same of other parts same)
+  shape_by-same of other (tree.stream element user settings) same =
+      ap (λ s. around true (beside s (shape_by of user)))
+      (shape_by-same of other element (λ path there. same path (Contains-append_left (paths_in element) (paths_in user) path there)))
+      ∙ ap (λ s. around true (beside (shape_by other element) s))
+      (shape_by-same of other user (λ path there. same path (Contains-append_right (paths_in element) (paths_in user) path there)))
+  shape_by-same of other (tree.path names) same = same (record { names = names }) (Contains-push [] (record { names = names }))
+
+  shape_by_parts-same : (of other : List AstName → Shape) (parts : tree.Parts) → ((path : AstPath) → Contains (paths_in_parts parts) path → of path.names ≡ other path.names)
+      → shape_by_parts of parts ≡ shape_by_parts other parts
+  shape_by_parts-same of other tree.no_parts same = refl
+  shape_by_parts-same of other (tree.part name ltype more) same =
+      ap (λ s. beside s (shape_by_parts of more))
+      (shape_by-same of other ltype (λ path there. same path (Contains-append_left (paths_in ltype) (paths_in_parts more) path there)))
+      ∙ ap (λ s. beside (shape_by other ltype) s)
+      (shape_by_parts-same of other more (λ path there. same path (Contains-append_right (paths_in ltype) (paths_in_parts more) path there)))
+
+-- ---- what a path means
+
+-- a declaration that is no type gives a name to none
+no_type : (meaning : List (List ℕ) → List AstName → Ltype) (space : List (List ℕ)) (name : AstName) (kind : AstKind) → is_type_kind kind ≡ false
+    → type_by meaning (record { space = space; name = name; kind = kind }) ≡ null
+no_type meaning space name (decls.Alias ltype) is = cc
+no_type meaning space name (decls.Interface listed) is = refl
+no_type meaning space name (decls.Streamlet listed) is = refl
+no_type meaning space name (decls.Impl target body) is = refl
+no_type meaning space name (decls.Test target port value plan) is = refl
+
+shape-meant : (all : List Declaration) (depth : ℕ) (table : List Shape) (space : List (List ℕ)) (path : AstPath)
+    → ((n : ℕ) → named_as is_type all space path ≡ Some n → HasShape all depth table n)
+    → shape_named all table space path.names ≡ shape_of (meaning_of all depth space path.names)
+shape-meant all zero table space path has = by (named_as is_type all space path) has
+  where
+    by : (o : Option ℕ) → ((n : ℕ) → o ≡ Some n → HasShape all zero table n) → shape_of_number table o ≡ leaf
+    by None is = refl
+    by (Some n) is = is n refl
+shape-meant all (suc less) table space path has = by (named all space path) has
+  where
+    by : (o : Option ℕ) → ((n : ℕ) → kept_as is_type all o ≡ Some n → HasShape all (suc less) table n)
+        → shape_of_number table (kept_as is_type all o) ≡ shape_of (type_of_number (meaning_of all less) all o)
+    by None is = refl
+    by (Some n) is = tested (is_type (declaration all n)) refl is
+      where
+        tested : (b : Bool) → is_type (declaration all n) ≡ b → ((m : ℕ) → cond b (Some n) None ≡ Some m → HasShape all (suc less) table m)
+            → shape_of_number table (cond b (Some n) None) ≡ shape_of (type_by (meaning_of all less) (declaration all n))
+        tested true test there = there n refl
+        tested false test there =
+            let d = declaration all n in
+            ap shape_of (sym (no_type (meaning_of all less) d.space d.name d.kind test))
+
+-- the shape of a written type is right where it is for the types that are named
+shape-written : (all : List Declaration) (depth : ℕ) (table : List Shape) (space : List (List ℕ)) (t : tree.Ltype)
+    → ((path : AstPath) (n : ℕ) → Contains (paths_in t) path → named_as is_type all space path ≡ Some n → HasShape all depth table n)
+    → shape_by (shape_named all table space) t ≡ shape_of (replaced (meaning_of all depth space) t)
+shape-written all depth table space t has =
+    shape_by-same (shape_named all table space) (λ names. shape_of (meaning_of all depth space names)) t
+    (λ path there. shape-meant all depth table space path (λ n is. has path n there is))
+    ∙ sym (shape-replaced (meaning_of all depth space) t)
+
+-- the same of a declaration, whose type has one name more replaced
+shape-declared : (all : List Declaration) (depth : ℕ) (table : List Shape) (one : ℕ) → ((n : ℕ) → NamesType all one n → HasShape all depth table n)
+    → declared_shape all table (declaration all one) ≡ shape_of (type_at all (suc depth) one)
+shape-declared all depth table one has =
+    let d = declaration all one in
+    by d.space d.name d.kind (λ path n there is. has n (record { path = path; written = there; names = is }))
+  where
+    by : (space : List (List ℕ)) (name : AstName) (kind : AstKind)
+        → ((path : AstPath) (n : ℕ) → Contains (paths_of_alias kind) path → named_as is_type all space path ≡ Some n → HasShape all depth table n)
+        → shape_of_kind all table space kind ≡ shape_of (type_by (meaning_of all depth) (record { space = space; name = name; kind = kind }))
+    by space name (decls.Alias ltype) there = shape-written all depth table space (plain ltype) there
+    by space name (decls.Interface listed) there = refl
+    by space name (decls.Streamlet listed) there = refl
+    by space name (decls.Impl target body) there = refl
+    by space name (decls.Test target port value plan) there = refl
+
+-- ---- tables
+
+-- before the first round each type is the least
+pub table-none : (all : List Declaration) → IsTable all 0 []
+table-none all = record { each = λ one within. refl }
+
+pub table-next : (all : List Declaration) (depth : ℕ) (table next : List Shape) → next ≡ round all table (length all) → IsTable all depth table → IsTable all (depth + 1) next
+table-next all depth table next is so = record { each = λ one within. by one within }
+  where
+    more : suc depth ≡ depth + 1
+    more = omega arith
+
+    by : (one : ℕ) → one < length all → HasShape all (depth + 1) next one
+    by one within =
+        ap (λ (l : List Shape). shape_at l one) is
+        ∙ each-at (λ n. declared_shape all table (declaration all n)) (length all) one leaf within
+        ∙ shape-declared all depth table one (λ n names. so.each n (named-within is_type all (declaration all one).space names.path n names.names))
+        ∙ ap (λ k. shape_of (type_at all k one)) more
+
+-- a table that is its own next round is right up to each rank
+up_to : (all : List Declaration) (ranks : List ℕ) (table : List Shape) → ((one : ℕ) → one < length all → IsRanked ranks (type_graph all (length all)) one)
+    → IsOwnRound all table (length all) → (depth one : ℕ) → one < length all → rank_of ranks one ≤ depth → HasShape all depth table one
+up_to all ranks table ranked own zero one within low = absurd (omega (arith, low, (ranked one within).above))
+up_to all ranks table ranked own (suc less) one within low =
+    own one within
+    ∙ shape-declared all less table one (λ n names.
+    up_to all ranks table ranked own less n (named-within is_type all (declaration all one).space names.path n names.names)
+    (omega (arith, low, (ranked one within).falls n (Leads-NamesType all one n names))))
+
+pub table-by_ranks : (all : List Declaration) (ranks : List ℕ) (table : List Shape) (graph : List (List ℕ)) → graph ≡ type_graph all (length all)
+    → ((one : ℕ) → one < length graph → IsRanked ranks graph one) → IsOwnRound all table (length all) → IsTable all (length all) table
+table-by_ranks all ranks table graph is ranked own = record { each = λ one within. up_to all ranks table by own (length all) one within (bound one within) }
+  where
+    long : length graph ≡ length all
+    long = ap (λ (g : List (List ℕ)). length g) is ∙ length-type_graph all
+
+    by : (one : ℕ) → one < length all → IsRanked ranks (type_graph all (length all)) one
+    by one within = subst (λ (g : List (List ℕ)). IsRanked ranks g one) is (ranked one (omega (arith, within, long)))
+
+    bound : (one : ℕ) → one < length all → rank_of ranks one ≤ length all
+    bound one within = omega (arith, (by one within).within, length-type_graph all)
+
+-- the shape of a written type by a table of all
+pub shape-by_table : (all : List Declaration) (table : List Shape) (space : List (List ℕ)) (t : tree.Ltype) → IsTable all (length all) table
+    → shape_by (shape_named all table space) t ≡ shape_of (type_of all space t)
+shape-by_table all table space t so =
+    shape-written all (length all) table space t (λ path n there is. so.each n (named-within is_type all space path n is))

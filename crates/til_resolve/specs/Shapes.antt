@@ -1,0 +1,121 @@
+-- How large types are, up to where they are too large, by the shapes of the declarations that they name. It serves the search for
+-- types that are too large or no Stream, and no public clause.
+use Rattle.std.specs.Prelude.{◌≡◌, ℕ, zero, suc, ◌+◌, ◌<◌, ◌≤◌, ◌||◌, ◌&&◌, nat_lt, min, max, not, Bool, false, true, List, [], ◌∷◌, length, slice_index_or, Option, Some, None, IsTrue}
+use Rattle.til_parser.specs.declared.ltype.AstPart.{AstPart}
+use Rattle.til_parser.specs.declared.tree.AstKind.{AstKind}
+use Rattle.til_parser.specs.declared.tree.AstKind.TheVariants as decls
+use Rattle.til_parser.specs.declared.tree.AstName.{AstName}
+use Rattle.til_parser.specs.Tree as tree
+use Rattle.til_parser.specs.Tree.{plain}
+use Rattle.logical_types.specs.Tree.{Ltype, null}
+use Rattle.til_resolve.specs.declared.shape.Shape.{Shape}
+use Rattle.til_resolve.specs.declared.misshapen.Sort.{Sort}
+use Rattle.til_resolve.specs.declared.misshapen.Sort.TheVariants as sorts
+use Rattle.til_resolve.specs.Declarations.{Declaration, declaration, before, named_as, is_type}
+use Rattle.til_resolve.specs.Faults.{WrittenType, IsTooLarge}
+use Rattle.til_resolve.specs.Graph.{Falls, rank_of}
+use Rattle.til_resolve.specs.Types.{number_of_nodes, depth_of, is_stream, type_by, meaning_of}
+
+-- ---- shapes
+
+-- the shape of a type: its nodes and its depth, each up to the first number that is too large
+abbrev pub shape_of : Ltype → Shape
+shape_of ltype = record { nodes = min (number_of_nodes ltype) 65537; depth = min (depth_of ltype) 65; stream = is_stream ltype }
+
+-- of a type with none in it
+abbrev pub leaf : Shape
+leaf = record { nodes = 1; depth = 1; stream = false }
+
+-- of no types
+abbrev pub nothing : Shape
+nothing = record { nodes = 0; depth = 0; stream = false }
+
+-- of types beside one another
+abbrev pub beside : Shape → Shape → Shape
+beside one other = record { nodes = min (one.nodes + other.nodes) 65537; depth = max one.depth other.depth; stream = false }
+
+-- of a type around others
+abbrev pub around : Bool → Shape → Shape
+around is_stream inside = record { nodes = min (inside.nodes + 1) 65537; depth = min (inside.depth + 1) 65; stream = is_stream }
+
+-- ---- shapes of written types
+
+-- the shape of a written type, where its paths have such shapes
+abbrev mutual
+  pub shape_by : (List AstName → Shape) → tree.Ltype → Shape
+  shape_by of tree.null = leaf
+  shape_by of (tree.bits width) = leaf
+  shape_by of (tree.group parts) = around false (shape_by_parts of parts)
+  shape_by of (tree.union parts) = around false (shape_by_parts of parts)
+  shape_by of (tree.stream element user settings) = around true (beside (shape_by of element) (shape_by of user))
+  shape_by of (tree.path names) = of names
+
+  pub shape_by_parts : (List AstName → Shape) → tree.Parts → Shape
+  shape_by_parts of tree.no_parts = nothing
+  shape_by_parts of (tree.part name ltype more) = beside (shape_by of ltype) (shape_by_parts of more)
+
+-- the same of a list of parts
+abbrev pub shape_by_list : (List AstName → Shape) → List AstPart → Shape
+shape_by_list of [] = nothing
+shape_by_list of (first ∷ more) = beside (shape_by of (plain first.ltype)) (shape_by_list of more)
+
+-- ---- tables of the shapes of declarations
+
+abbrev pub shape_at : List Shape → ℕ → Shape
+shape_at table number = slice_index_or table number leaf
+
+abbrev pub shape_of_number : List Shape → Option ℕ → Shape
+shape_of_number table None = leaf
+shape_of_number table (Some number) = shape_at table number
+
+-- the shape of the type that a path names in a namespace, by a table
+abbrev pub shape_named : List Declaration → List Shape → List (List ℕ) → List AstName → Shape
+shape_named all table space names = shape_of_number table (named_as is_type all space (record { names = names }))
+
+abbrev pub shape_of_kind : List Declaration → List Shape → List (List ℕ) → AstKind → Shape
+shape_of_kind all table space (decls.Alias ltype) = shape_by (shape_named all table space) (plain ltype)
+shape_of_kind all table space (decls.Interface listed) = leaf
+shape_of_kind all table space (decls.Streamlet listed) = leaf
+shape_of_kind all table space (decls.Impl target body) = leaf
+shape_of_kind all table space (decls.Test target port value plan) = leaf
+
+-- the shape of the type that a declaration gives a name to, by a table
+abbrev pub declared_shape : List Declaration → List Shape → Declaration → Shape
+declared_shape all table one = shape_of_kind all table one.space one.kind
+
+-- the shapes of the declarations before a number, by a table
+abbrev pub round : List Declaration → List Shape → ℕ → List Shape
+round all table end = before (λ one. declared_shape all table (declaration all one) ∷ []) end
+
+-- the type of a declaration, with so many names replaced inside one another at most
+abbrev pub type_at : List Declaration → ℕ → ℕ → Ltype
+type_at all zero one = null
+type_at all (suc less) one = type_by (meaning_of all less) (declaration all one)
+
+-- a table has the shape of this declaration
+abbrev pub HasShape : List Declaration → ℕ → List Shape → ℕ → Type 0
+HasShape all depth table one = shape_at table one ≡ shape_of (type_at all depth one)
+
+-- a table has the shape of each declaration
+pub record IsTable (all : List Declaration) (depth : ℕ) (table : List Shape) : Type 0 where
+  pub each : (one : ℕ) → one < length all → HasShape all depth table one
+
+-- a table is its own next round, up to a number
+abbrev pub IsOwnRound : List Declaration → List Shape → ℕ → Type 0
+IsOwnRound all table end = (one : ℕ) → one < end → shape_at table one ≡ declared_shape all table (declaration all one)
+
+-- a number has a rank from 1 to the number of all, and what it leads to at once has a lower one
+pub record IsRanked (ranks : List ℕ) (graph : List (List ℕ)) (one : ℕ) : Type 0 where
+  pub above : 0 < rank_of ranks one
+  pub within : rank_of ranks one ≤ length graph
+  pub falls : Falls ranks graph one
+
+-- ---- what is wrong with a shape
+
+abbrev pub is_misshapen : Sort → Bool → Shape → Bool
+is_misshapen sorts.TooLarge in_port shape = nat_lt 65536 shape.nodes || nat_lt 64 shape.depth
+is_misshapen sorts.PortNotStream in_port shape = in_port && not shape.stream
+
+abbrev pub IsMisshapen : Sort → WrittenType → Type 0
+IsMisshapen sorts.TooLarge one = IsTooLarge one.ltype
+IsMisshapen sorts.PortNotStream one = IsTrue one.in_port × IsTrue (not (is_stream one.ltype))
