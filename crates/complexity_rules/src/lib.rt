@@ -13,8 +13,6 @@ mod one_lane;
 mod pauses;
 mod table;
 mod tails;
-#[cfg(test)]
-mod tests;
 mod unmarked;
 mod walk;
 

@@ -26,8 +26,6 @@ mod survey_outcome;
 mod survey_run;
 mod surveyed;
 mod surveyor;
-#[cfg(test)]
-mod tests;
 mod text_read;
 mod trace;
 mod trace_reader;
@@ -35,8 +33,6 @@ mod trace_rows;
 mod turn;
 mod words_left;
 mod writing;
-#[cfg(test)]
-mod writing_tests;
 
 pub use counts::{Counts, SurveyFault};
 pub use fault::TraceFault;

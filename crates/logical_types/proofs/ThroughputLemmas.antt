@@ -1,12 +1,12 @@
 -- Products of throughputs in lowest terms: what the code's fractions are.
 use Rattle.std.proofs.Common.{◌≡◌, ℕ, zero, suc, ◌*◌, ◌%◌, ◌^◌, ◌<◌, ◌≤◌, Bool, true, false, ◌&&◌, ◌||◌, not, cond, ltb, eqb, ◌≢◌, inl, inr, refl, sym, ap, ◌∙◌, subst, arith}
-use Rattle.std.proofs.Math.Nat.{one-dvd, le_of_dvd, mod-lt, mul-pos, pos_of_dvd_of_pos, mul-le-mul_right}
+use Rattle.std.proofs.Math.Nat.{one-dvd, le_of_dvd, mul-pos, pos_of_dvd_of_pos, mul-le-mul_right}
 use Prim.Native.Nat.{◌∣◌}
 use Rattle.std.specs.Int.{IsGcd}
 use Rattle.std.proofs.lemmas.Bool.Decides.{Decides-eqb, Decides-ltb, leb_tells}
-use Rattle.std.proofs.lemmas.Nat.Gcd.{IsGcd-from_zero, IsGcd-from_mod, dvd_of_mod-eq-zero, mod-eq-zero_of_dvd}
+use Rattle.std.proofs.lemmas.Nat.Gcd.{dvd_of_mod-eq-zero, mod-eq-zero_of_dvd}
 use Rattle.tydi_base.specs.Frac.{Fraction, IsReduced, IsProduct, FitsWords, IsCeiling}
-use Rattle.tydi_base.proofs.FracLaws.{same_from_IsReduced, IsReduced-divided}
+use Rattle.tydi_base.proofs.FracLaws.{gcd_below, same_from_IsReduced, IsReduced-divided}
 use Rattle.logical_types.specs.Throughput.{divides, divisor_up_to, greatest_divisor, lowest, product_of, fits_words}
 use Rattle.logical_types.specs.Faults.{is_bad_throughput}
 
@@ -63,15 +63,6 @@ up_to-greatest (suc less) one other d some le in-one in-other =
     greater (divides (suc less) one && divides (suc less) other) (suc less) (divisor_up_to less one other) d le
     (λ fails. let apart : d ≢ suc less = lower (suc less) one other d fails in-one in-other in
     up_to-greatest less one other d some (omega arith) in-one in-other)
-
--- any two numbers have a greatest common divisor
-gcd_below : (n one other : ℕ) → other < n → (g : ℕ) × IsGcd one other g
-gcd_below zero one other lt = absurd (omega arith)
-gcd_below (suc n) one zero lt = (one, IsGcd-from_zero one 0 refl)
-gcd_below (suc n) one (suc other) lt =
-    let less : one % suc other < suc other = mod-lt one (omega arith) in
-    let found = gcd_below n (suc other) (one % suc other) (omega arith) in
-    (found.0, IsGcd-from_mod one (suc other) found.0 found.1)
 
 greatest_divisor-IsGcd : (one other : ℕ) → 0 < other → IsGcd one other (greatest_divisor one other)
 unfolding greatest_divisor

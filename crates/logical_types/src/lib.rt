@@ -9,8 +9,6 @@ mod fault;
 mod ltype;
 mod names;
 mod streams;
-#[cfg(test)]
-mod tests;
 mod widths;
 
 pub use checking::check;

@@ -12,8 +12,6 @@ mod levels;
 mod params;
 mod row;
 mod rule;
-#[cfg(test)]
-mod tests;
 mod transfer;
 mod width;
 

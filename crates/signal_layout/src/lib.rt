@@ -7,8 +7,6 @@
 mod fields;
 mod layout;
 mod signal;
-#[cfg(test)]
-mod tests;
 
 pub use fields::{Field, fields_fill_the_element, fields_of};
 pub use layout::Signals;

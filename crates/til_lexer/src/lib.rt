@@ -14,8 +14,6 @@ mod pieces;
 mod places;
 mod spans;
 mod symbols;
-#[cfg(test)]
-mod tests;
 mod token;
 mod words;
 

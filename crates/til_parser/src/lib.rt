@@ -16,8 +16,6 @@ mod ltype;
 mod parser;
 mod parsing;
 mod printing;
-#[cfg(test)]
-mod tests;
 mod tree;
 mod types;
 mod written;

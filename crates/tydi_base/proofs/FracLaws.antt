@@ -8,7 +8,7 @@ use Rattle.std.proofs.lemmas.Nat.Gcd.{IsGcd-from_zero, IsGcd-from_mod, IsGcd-swa
 use Rattle.tydi_base.specs.Frac.{Fraction, IsReduced, FitsWords}
 
 -- any two numbers have a greatest common divisor
-gcd_below : (n a b : ℕ) → b < n → (g : ℕ) × IsGcd a b g
+pub gcd_below : (n a b : ℕ) → b < n → (g : ℕ) × IsGcd a b g
 gcd_below zero a b lt = absurd (omega arith)
 gcd_below (suc n) a zero lt = (a, IsGcd-from_zero a 0 refl)
 gcd_below (suc n) a (suc b) lt =

@@ -7,8 +7,6 @@ mod boxed;
 mod compared;
 mod decimal;
 mod frac;
-#[cfg(test)]
-mod frac_tests;
 mod hex;
 mod hex_digits;
 mod hex_word;
@@ -20,14 +18,10 @@ mod numbers;
 mod path;
 mod pieces;
 mod place;
-#[cfg(test)]
-mod reading_tests;
 mod slices;
 mod text;
 mod try_clone;
 mod width;
-#[cfg(test)]
-mod word_tests;
 mod writing;
 
 pub use bits::Bits;

@@ -13,8 +13,6 @@ mod place;
 mod split;
 mod splitting;
 mod streams;
-#[cfg(test)]
-mod tests;
 mod whole;
 
 pub use carried::uncarried;

@@ -1,6 +1,9 @@
 //! What a checker says, by cases worked out by hand.
 
-use super::*;
+ghost use Rattle.std.specs.Prelude.{◌≤◌};
+ghost use Rattle.complexity_rules.specs.Checking.{seen_in};
+
+use complexity_rules::*;
 use physical_stream::{End, Params, Row, Rule, Tail, Transfer};
 use std::alloc::Global;
 use std::test::Fail;
@@ -221,23 +224,39 @@ fn transfer_of(alloc: Global, p: &Params, payload: &Payload) -> Result<Transfer,
     })
 }
 
-/// One cycle more. A transfer that does not fit is an error of the test.
-fn step(alloc: Global, checker: &mut Checker, cycle: &Cycle) -> Result<Option<Rule>, Memory> {
-    if checker.seen == u32::MAX {
-        return Err(Memory);
+/// A checker, and how many cycles it was given.
+#[derive(Drop)]
+struct Counted {
+    checker: Checker,
+    cycles: u32,
+    ghost few: { seen_in checker ≤ cycles },
+}
+
+impl Counted {
+    fn new(alloc: Global, params: Params) -> Result<Counted, Memory> {
+        let checker = Checker::new(alloc, params)?;
+        Ok(Counted { checker, cycles: 0 })
     }
-    let ready = cycle.ready;
-    let Some(payload) = &cycle.shown else {
-        return Ok(checker.step(Row { ready, shown: None }));
-    };
-    let transfer = transfer_of(alloc, checker.params(), payload)?;
-    if !transfer.fits(checker.params()) {
-        return Err(Memory);
+
+    /// One cycle more. A transfer that does not fit is an error of the test.
+    fn step(&mut self, alloc: Global, cycle: &Cycle) -> Result<Option<Rule>, Memory> {
+        if self.cycles == u32::MAX {
+            return Err(Memory);
+        }
+        self.cycles += 1;
+        let ready = cycle.ready;
+        let Some(payload) = &cycle.shown else {
+            return Ok(self.checker.step(Row { ready, shown: None }));
+        };
+        let transfer = transfer_of(alloc, self.checker.params(), payload)?;
+        if !transfer.fits(self.checker.params()) {
+            return Err(Memory);
+        }
+        Ok(self.checker.step(Row {
+            ready,
+            shown: Some(&transfer),
+        }))
     }
-    Ok(checker.step(Row {
-        ready,
-        shown: Some(&transfer),
-    }))
 }
 
 fn params_of(lanes: u16, dims: u8, level: u8) -> Result<Params, Memory> {
@@ -248,13 +267,13 @@ fn params_of(lanes: u16, dims: u8, level: u8) -> Result<Params, Memory> {
 /// The rule that the cycle of a case breaks, what the one in its place does, and the transfers done at the end.
 fn answer_of(alloc: Global, case: &Case) -> Result<(Option<Rule>, Option<Rule>, u64), Memory> {
     let p = params_of(case.lanes, case.dims, case.level)?;
-    let mut checker = Checker::new(alloc, p)?;
+    let mut counted = Counted::new(alloc, p)?;
     for cycle in case.before {
-        step(alloc, &mut checker, cycle)?;
+        counted.step(alloc, cycle)?;
     }
-    let broken = step(alloc, &mut checker, &case.now)?;
-    let instead = step(alloc, &mut checker, &case.instead)?;
-    Ok((broken, instead, checker.transfers()))
+    let broken = counted.step(alloc, &case.now)?;
+    let instead = counted.step(alloc, &case.instead)?;
+    Ok((broken, instead, counted.checker.transfers()))
 }
 
 #[test]
@@ -305,14 +324,14 @@ fn next_tail(
 
 fn told_after(alloc: Global, cycle: &Cycle, next: &Payload) -> Result<Told, Memory> {
     let p = params_of(2, 1, 8)?;
-    let mut checker = Checker::new(alloc, p)?;
-    step(alloc, &mut checker, cycle)?;
+    let mut counted = Counted::new(alloc, p)?;
+    counted.step(alloc, cycle)?;
     Ok(Told {
-        end: checker.end(),
-        tail: checker.tail(),
-        transfers: checker.transfers(),
-        packets: checker.packets(),
-        next: next_tail(alloc, &p, checker.tail(), next)?,
+        end: counted.checker.end(),
+        tail: counted.checker.tail(),
+        transfers: counted.checker.transfers(),
+        packets: counted.checker.packets(),
+        next: next_tail(alloc, &p, counted.checker.tail(), next)?,
     })
 }
 

@@ -1,5 +1,5 @@
-use super::*;
 use physical_stream::Params;
+use signal_layout::*;
 use std::test::Fail;
 use tydi_base::Level;
 

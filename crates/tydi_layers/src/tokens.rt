@@ -1,6 +1,6 @@
-use super::*;
 use std::alloc::Global;
 use std::test::Fail;
+use til_lexer::*;
 use tydi_base::Place;
 
 struct Expected {

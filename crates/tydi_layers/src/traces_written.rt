@@ -3,7 +3,7 @@
 ghost use Rattle.std.specs.Prelude.{◌≡◌, Some, IfOk, IfSome};
 ghost use Rattle.tydi_base.specs.Path.{path_of};
 
-use super::*;
+use cycle_trace::*;
 use physical_stream::{Head, Header, Params, Row, Transfer};
 use std::alloc::Global;
 use std::test::Fail;

@@ -1,6 +1,6 @@
 ghost use Rattle.std.specs.Prelude.{◌<◌, ◌≤◌, length};
 
-use super::*;
+use cycle_trace::*;
 use physical_stream::{End, Rule};
 use std::alloc::Global;
 use std::test::Fail;

@@ -1,4 +1,4 @@
-use super::*;
+use physical_stream::*;
 use std::alloc::Global;
 use std::test::Fail;
 use tydi_base::{Bits, Level, List, Memory, Path, TryClone};

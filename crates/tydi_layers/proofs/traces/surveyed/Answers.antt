@@ -1,4 +1,4 @@
-use Rattle.cycle_trace.proofs.tests.surveyed.Goals as goal
+use Rattle.tydi_layers.proofs.traces.surveyed.Goals as goal
 
 pub pieces-preserved : goal.pieces-preserved
 pieces-preserved c = (_, c.feed.ensures.stands c.pieces.invariant.0 c.pieces.invariant.1)

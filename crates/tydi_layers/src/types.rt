@@ -1,6 +1,6 @@
 //! Types and their first faults, by a table found by hand.
 
-use super::*;
+use logical_types::*;
 use std::alloc::Global;
 use std::test::Fail;
 use tydi_base::{Boxed, Frac, Level, List, Memory, Name};

@@ -1,8 +1,8 @@
 //! What the readers and writers of texts answer, by tables whose answers come from the rules in plain words.
 
-use super::*;
 use std::alloc::Global;
 use std::test::*;
+use tydi_base::*;
 
 #[test]
 fn decimals_are_read(rt: HostRuntime) {

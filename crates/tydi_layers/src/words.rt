@@ -1,8 +1,8 @@
 //! What words come to, by values worked out by hand.
 
-use super::*;
 use std::alloc::Global;
 use std::test::Fail;
+use tydi_base::*;
 
 // A width, digits, and how many ones stand in the word of this width that they spell.
 const READINGS: [(usize, &str, Option<usize>); 12] = [

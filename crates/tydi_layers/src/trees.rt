@@ -1,7 +1,7 @@
-use super::*;
 use std::alloc::Global;
 use std::test::Fail;
 use til_lexer::lex;
+use til_parser::*;
 use tydi_base::List;
 
 // Texts that spell no tree, and why, by hand: the kind of the fault and the number of its token.

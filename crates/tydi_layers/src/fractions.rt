@@ -1,7 +1,7 @@
 //! What fractions answer, by a table whose values were found by hand.
 
-use super::*;
 use std::test::*;
+use tydi_base::*;
 
 #[test]
 fn fractions_are_reduced(rt: HostRuntime) -> Result<(), Fail> {

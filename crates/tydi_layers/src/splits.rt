@@ -1,11 +1,11 @@
 //! Types and what they are split into, by hand.
 
-use super::*;
 use logical_types::{LType, Part, StreamType, Sync, check};
 use physical_stream::Params;
 use std::alloc::Global;
 use std::test::Fail;
 use tydi_base::{Boxed, Frac, Level, List, Name};
+use type_split::*;
 
 /// A Stream of this data type, with the arguments that the tests change.
 fn stream(alloc: Global, element: LType, rate: (u64, u64), dims: u64) -> Result<StreamType, Fail> {

@@ -1,6 +1,6 @@
 use Rattle.logical_types.specs.Tree.{plain}
 use Rattle.logical_types.proofs.PlainTypes.{IsPlain-IsValid}
-use Rattle.logical_types.proofs.tests.checked_width.Goals as goal
+use Rattle.tydi_layers.proofs.types.checked_width.Goals as goal
 
 pub width-requires : goal.width-requires
 width-requires c = IsPlain-IsValid (plain c.args.ltype.now) c.in-Ok.ensures.valid
