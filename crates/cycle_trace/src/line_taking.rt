@@ -128,6 +128,7 @@ fn start_rows<K: RowSink>(alloc: Global, sink: &mut K, text: &mut TextRead) -> R
 }
 
 /// Takes the line of a row, or what follows the last one.
+#[inline(always)]
 fn after_row<K: RowSink>(
     alloc: Global,
     sink: &mut K,

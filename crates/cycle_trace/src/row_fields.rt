@@ -20,6 +20,7 @@ use physical_stream::Transfer;
 use tydi_base::{Bits, digit_value, read_decimal};
 
 /// The value of the first word, which is this key, `=` and the value; and the words after it.
+#[cold]
 #[inline(never)]
 #[tactic(auto, unfolding(crate::specs::RowText::value_of))]
 fn value_of<'a>(key: u8, words: WordsLeft<'a>) -> Result<(&'a [u8], WordsLeft<'a>), NotForm>
