@@ -1,4 +1,4 @@
-ghost use Rattle.std.specs.Prelude.{◌≡◌, ◌↔◌, ◌×◌, [], ◌∷◌, IfSome, IsTrue, List, MatchOption, ℕ};
+ghost use Rattle.std.specs.Prelude.{◌≡◌, ◌↔◌, [], ◌∷◌, IfSome, IsTrue, List, MatchOption, ℕ};
 ghost use Rattle.tydi_base.specs.Pieces.{words_of};
 ghost use Rattle.cycle_trace.specs.SizedValues.{HasNoSized, IsCut, IsSized, NoCut};
 ghost use Rattle.cycle_trace.specs.WordsLeft.{words_left};
