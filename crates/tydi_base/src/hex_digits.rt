@@ -190,7 +190,5 @@ fn marked_values<const N: usize>(digits: Simd<u8, N>) -> Simd<u8, N>
     let letters = digits.simd_ge(Simd::splat(LETTER_A));
     let values = digits - letters.select(Simd::splat(LETTER_A - 10), Simd::splat(ZERO));
     let limits = letters.select(Simd::splat(16), Simd::splat(10));
-    values
-        .simd_lt(limits)
-        .select(values, Simd::splat(NO_DIGIT))
+    values.simd_lt(limits).select(values, Simd::splat(NO_DIGIT))
 }

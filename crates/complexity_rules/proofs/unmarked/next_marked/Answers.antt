@@ -1,4 +1,4 @@
-use Rattle.std.proofs.Common.{◌≡◌, ◌∙◌, ◌*◌, ◌-◌, ◌/◌, ◌≤◌, ◌^◌, ℕ, ap, arith}
+use Rattle.std.proofs.Common.{◌*◌, ◌-◌, ◌/◌, ◌≤◌, ◌^◌, ap, arith}
 use Rattle.std.specs.Int.{trailing_zeros, w128}
 use Rattle.physical_stream.specs.Params.{Parameters}
 use Rattle.complexity_rules.proofs.UnmarkedLemmas.{unmarked_zero, unmarked_trailing, place_of}

@@ -1,4 +1,4 @@
-use Rattle.std.proofs.Common.{◌≡◌, ◌+◌, ◌/◌, ℕ, Bool, true, false, not, Some, None, refl, subst, arith}
+use Rattle.std.proofs.Common.{◌≡◌, ℕ, Bool, true, false, not, Some, None, refl, subst}
 use Rattle.tydi_base.specs.Hex.{word_at}
 use Rattle.cycle_trace.proofs.WordFieldLemmas.{word_field-none, word_field-read, word_field-unread}
 use Rattle.cycle_trace.proofs.row_fields.read_word.Goals as goal

@@ -1,4 +1,4 @@
-use Rattle.std.proofs.Common.{◌≡◌, ◌^◌, ◌∙◌, ap, sym, List, ℕ}
+use Rattle.std.proofs.Common.{◌^◌, ◌∙◌, ap, sym, List, ℕ}
 use Rattle.tydi_base.specs.Decimal.{below, decimal_of}
 use Rattle.tydi_base.proofs.DecimalLaws.{one_of, two_of}
 use Rattle.tydi_base.proofs.decimal.read_decimal.Goals as goal

@@ -1,4 +1,3 @@
-use Rattle.std.proofs.Common.{sym}
 use Rattle.tydi_base.proofs.HexBytes.{set_one}
 use Rattle.tydi_base.proofs.hex_digits.fill_byte.Goals as goal
 
