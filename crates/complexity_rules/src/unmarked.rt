@@ -1,6 +1,6 @@
 //! Lanes that mark no end. A walk goes past them at once.
 
-ghost use Rattle.std.specs.Prelude.{◌≡◌, ◌-◌, ◌*◌, ◌<◌, ◌≤◌, count_ones};
+ghost use Rattle.std.specs.Prelude.{◌≡◌, ◌-◌, ◌*◌, ◌/◌, ◌<◌, ◌≤◌, count_ones};
 ghost use Rattle.physical_stream.specs.declared.transfer.Transfer.{Transfer};
 ghost use Rattle.complexity_rules.specs.Unmarked.{active_lanes, AreUnmarked, ShowsMarks};
 
@@ -53,6 +53,19 @@ pub(crate) fn next_marked(p: &Params, marks: Option<u128>, from: u16, to: u16) -
     if rest == 0 {
         return to;
     }
-    let past = rest.trailing_zeros() / u32::from(p.dims);
+    let past = lanes_in(p, rest.trailing_zeros());
     to.min(from + past as u16)
+}
+
+/// How many whole lanes so many last bits are. It divides only where there are more dimensions than one.
+#[inline(always)]
+fn lanes_in(p: &Params, bits: u32) -> u32
+    requires { 0 < p.now.dims }
+    ensures { result ≡ bits / p.now.dims }
+{
+    if p.dims == 1 {
+        bits
+    } else {
+        bits / u32::from(p.dims)
+    }
 }

@@ -224,6 +224,23 @@ pub(crate) fn walk_over(p: &Params, transfer: &Transfer, tail: Option<Tail>) -> 
     ensures early { IsTrue result.early ↔ BreaksLaneLast p.now transfer.now }
     ensures few { result.walk.packets ≤ 4224 }
 {
+    if next_marked(p, marks_of(transfer), 0, p.lanes) == p.lanes {
+        return Shown {
+            early: false,
+            walk: Walk::after(tail).over_unmarked(p, transfer, 0, p.lanes),
+        };
+    }
+    walk_over_marked(p, transfer, tail)
+}
+
+/// The same, lane by lane.
+#[inline(always)]
+fn walk_over_marked(p: &Params, transfer: &Transfer, tail: Option<Tail>) -> Shown
+    requires fits { Fits p.now transfer.now }
+    ensures found { Finds p.now.dims tail (items_of p.now transfer.now) result.walk }
+    ensures early { IsTrue result.early ↔ BreaksLaneLast p.now transfer.now }
+    ensures few { result.walk.packets ≤ 4224 }
+{
     let last = p.lanes - 1;
     let before = Walk::after(tail).over_lanes(p, transfer, last);
     Shown {

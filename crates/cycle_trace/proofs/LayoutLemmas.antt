@@ -7,7 +7,8 @@ use Rattle.signal_layout.specs.declared.signal.Signal.TheVariants as signals
 use Rattle.signal_layout.specs.declared.layout.Signals.{Signals}
 use Rattle.signal_layout.specs.Layout.{is_present, bits_of_signal, where_present, width_of, width_in}
 use Rattle.cycle_trace.specs.RowText.{has_payload}
-use Rattle.cycle_trace.specs.RowLayout.{has_payload_in}
+use Rattle.cycle_trace.specs.RowLayout.{IsWord, has_payload_in}
+use Rattle.cycle_trace.specs.declared.row_layout.WordSignal.{WordSignal}
 
 some_where : (present : Bool) (width : ℕ) → is_some (where_present present width) ≡ present
 some_where true width = refl
@@ -27,3 +28,7 @@ module _ (p : Parameters) (layout : Signals) (h : (s : Signal) → width_in layo
       let strb : is_some layout.strb ≡ has_strb p = there signals.Strb in
       let user : is_some layout.user ≡ has_user p = there signals.User in
       rw (content, last, stai, endi, strb, user) refl
+
+-- a word signal of a stream, as it was made
+pub word : {signal : WordSignal} {present there_is : Bool} {width wide_is : ℕ} → IsWord signal present width → present ≡ there_is → width ≡ wide_is → IsWord signal there_is wide_is
+word is same wide = record { there = is.there ∙ same; wide = is.wide ∙ wide; many = is.many }

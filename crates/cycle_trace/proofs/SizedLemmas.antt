@@ -98,3 +98,16 @@ words_in-empty None true is = (λ _. refl, λ _. refl)
 words_in-empty None false is = absurd cc
 words_in-empty (Some text) true is = absurd cc
 words_in-empty (Some text) false is = (λ no. absurd cc, λ none. absurd (words_of-some text.now none))
+
+-- ---- a value of one byte or two that are no spaces
+
+pub lacks_one : (value : List ℕ) → length value ≡ 1 → get_or value 0 0 ≢ 32 → Lacks 32 value
+lacks_one [] one ne = absurd (omega arith)
+lacks_one (byte ∷ []) one ne = All-cons (λ b. b ≢ 32) byte [] ne (All-nil (λ b. b ≢ 32))
+lacks_one (byte ∷ more ∷ value) one ne = absurd (omega arith)
+
+pub lacks_two : (value : List ℕ) → length value ≡ 2 → get_or value 0 0 ≢ 32 → get_or value 1 0 ≢ 32 → Lacks 32 value
+lacks_two [] two ne other = absurd (omega arith)
+lacks_two (byte ∷ []) two ne other = absurd (omega arith)
+lacks_two (byte ∷ next ∷ []) two ne other = All-cons (λ b. b ≢ 32) byte (next ∷ []) ne (lacks_one (next ∷ []) refl other)
+lacks_two (byte ∷ next ∷ more ∷ value) two ne other = absurd (omega arith)

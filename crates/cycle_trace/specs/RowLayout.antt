@@ -11,10 +11,11 @@ use Rattle.cycle_trace.specs.declared.row_layout.WordSignal.{WordSignal}
 abbrev pub has_payload_in : Signals → Bool
 has_payload_in signals = is_some signals.content || is_some signals.last || is_some signals.stai || is_some signals.endi || is_some signals.strb || is_some signals.user
 
--- the word signal is there as said, and so wide
+-- the word signal is there as said, and so wide; and so many digits spell it
 pub record IsWord (signal : WordSignal) (present : Bool) (width : ℕ) : Type 0 where
   pub there : signal.present ≡ present
   pub wide : signal.width ≡ width
+  pub many : signal.digits ≡ (signal.width + 3) / 4
 
 -- these are what the signals of this stream are
 pub record LaysOut (p : Parameters) (content last strb user : WordSignal) (stai endi payload : Bool) (index_limit last_lane all_lanes : ℕ) : Type 0 where

@@ -47,7 +47,7 @@ pub(crate) fn next_head(
     count: usize,
     line: &[u8],
 ) -> Result<Head, TraceFault>
-    requires { count ≤ 65536 }
+    requires { count ≤ MOST_STREAMS }
     ensures gives { (texts : List (List ℕ)) → HasTexts paths.old texts → length texts ≡ count
         → Gives fault_in (λ head. head) result (spec.in_header (3 + count) (spec.head_after texts line.now)) }
     ensures added { IfOk result (λ head. AddsText paths.old paths.new (path_text head.path)) }

@@ -60,6 +60,7 @@ impl LineBegun {
         requires { self.old.long ≡ None }
         ensures line { (line : List ℕ) → Begins self.old line → OnOk result (Begins self.new (line ++ bytes.now)) }
         ensures long { self.new.long ≡ None }
+        ensures room { self.new.room ≡ self.old.room }
     {
         self.kept.extend_from_slice(bytes)?;
         Ok(())

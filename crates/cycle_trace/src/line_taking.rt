@@ -14,6 +14,7 @@ ghost use Rattle.cycle_trace.specs.Trace.{TraceText, are_heads, most_cycles};
 ghost use Rattle.cycle_trace.specs.TraceText.{trace_of};
 ghost use Rattle.cycle_trace.specs.declared.fault.TraceFault.{TraceFault};
 ghost use Rattle.cycle_trace.specs.declared.fault.TraceFault.TheVariants as faults;
+ghost use Rattle.cycle_trace.specs.declared.header_text.TheConstants.{MOST_STREAMS};
 ghost use Rattle.cycle_trace.specs.declared.text_read.Stage.TheVariants as stages;
 
 use crate::fault::TraceFault;
@@ -32,6 +33,7 @@ use tydi_base::{List, Memory};
 const MOST_CYCLES: u64 = 1_000_000;
 
 /// Takes a line without its LF.
+#[inline(always)]
 pub(crate) fn take_line<K: RowSink>(alloc: Global, sink: &mut K, text: &mut TextRead, line: &[u8])
     requires { (bytes : List ℕ) × Stands K.stands_for sink.old text.old line.now bytes }
     ensures stands { (bytes : List ℕ) → Stands K.stands_for sink.old text.old line.now bytes → Stands K.stands_for sink.new text.new [] (bytes ++ 10 ∷ []) }
@@ -46,6 +48,7 @@ pub(crate) fn take_line<K: RowSink>(alloc: Global, sink: &mut K, text: &mut Text
 }
 
 /// Takes a line, or tells the fault of the text.
+#[inline(always)]
 fn after_line<K: RowSink>(
     alloc: Global,
     sink: &mut K,
@@ -82,6 +85,7 @@ fn after_line<K: RowSink>(
 }
 
 /// Takes a stream line, or the first line after the header.
+#[inline(never)]
 fn after_head<K: RowSink>(
     alloc: Global,
     sink: &mut K,
@@ -124,6 +128,7 @@ fn start_rows<K: RowSink>(alloc: Global, sink: &mut K, text: &mut TextRead) -> R
 }
 
 /// Takes the line of a row, or what follows the last one.
+#[inline(always)]
 fn after_row<K: RowSink>(
     alloc: Global,
     sink: &mut K,
@@ -146,6 +151,7 @@ fn after_row<K: RowSink>(
 }
 
 /// Takes the line of a row that came in several pieces, without its LF.
+#[inline(never)]
 pub(crate) fn take_begun<K: RowSink>(
     alloc: Global,
     sink: &mut K,
@@ -221,7 +227,7 @@ fn finish_header<K: RowSink>(
 /// The fault of a text that ends in this line, which has no LF, after its header. Where the header asks for no row and the line
 /// is empty, it has none.
 fn end_of_header(text: &TextRead, line: &[u8]) -> Result<(), TraceFault>
-    requires few { length text.now.heads ≤ 65536 }
+    requires few { length text.now.heads ≤ MOST_STREAMS }
     requires plain { Lacks 10 line.now }
     ensures gives { (bytes : List ℕ) → OpensWith bytes line.now text.now.cycles text.now.heads text.now.paths → Gives fault_in (λ _. begun text.now.cycles text.now.heads) result (trace_of bytes) }
     ensures few { OnOk result (text.now.cycles ≤ most_cycles) }

@@ -1,6 +1,6 @@
 //! The rows of a trace text.
 
-ghost use Rattle.std.specs.Prelude.{◌≡◌, ◌≢◌, ◌≤◌, ◌<◌, ◌^◌, ℕ, length, [], ◌∷◌, Ok, option_map, false, IfErr, IfSome, IsSome};
+ghost use Rattle.std.specs.Prelude.{◌≡◌, ◌≢◌, ◌≤◌, ◌<◌, ◌+◌, ◌/◌, ◌^◌, ℕ, length, [], ◌∷◌, Ok, option_map, false, IfErr, IfSome, IsSome};
 ghost use Rattle.tydi_base.specs.Bits.{number_of_bits};
 ghost use Rattle.tydi_base.specs.Hex.{bits_of_digits};
 ghost use Rattle.tydi_base.specs.Pieces.{words_of};
@@ -20,6 +20,7 @@ use physical_stream::Transfer;
 use tydi_base::{Bits, digit_value, read_decimal};
 
 /// The value of the first word, which is this key, `=` and the value; and the words after it.
+#[cold]
 #[inline(never)]
 #[tactic(auto, unfolding(crate::specs::RowText::value_of))]
 fn value_of<'a>(key: u8, words: WordsLeft<'a>) -> Result<(&'a [u8], WordsLeft<'a>), NotForm>
@@ -28,6 +29,17 @@ fn value_of<'a>(key: u8, words: WordsLeft<'a>) -> Result<(&'a [u8], WordsLeft<'a
     match words.next_word() {
         Some(([k, b'=', value @ ..], rest)) if *k == key => Ok((value, rest)),
         _ => Err(NotForm),
+    }
+}
+
+/// The same. A value of one byte or two, as most numbers of lanes are, is not searched for.
+#[inline(always)]
+fn number_of<'a>(key: u8, words: WordsLeft<'a>) -> Result<(&'a [u8], WordsLeft<'a>), NotForm>
+    ensures { Gives not_form_in (λ x. (x.0.now, words_left x.1)) result (spec.value_of key (words_left words.entry)) }
+{
+    match words.short_value(key) {
+        Some(found) => Ok(found),
+        None => value_of(key, words),
     }
 }
 
@@ -43,14 +55,14 @@ fn read_word<'a>(
 ) -> Result<WordsLeft<'a>, NotForm>
     requires wide { length bits.old ≡ signal.width }
     requires absent { signal.present ≡ false → signal.width ≡ 0 }
+    requires many { signal.digits ≡ (signal.width + 3) / 4 }
     ensures read { Gives not_form_in (λ rest. (bits.new, words_left rest)) result (spec.word_field signal.present key signal.width (words_left words.entry)) }
     ensures wide { length bits.new ≡ length bits.old }
 {
     if !signal.present {
         return Ok(words);
     }
-    let size = signal.width.div_ceil(4);
-    let Some((digits, rest)) = words.sized_value(key, size) else {
+    let Some((digits, rest)) = words.sized_value(key, signal.digits) else {
         return Err(NotForm);
     };
     if bits.read_exact_hex(digits) {
@@ -61,6 +73,7 @@ fn read_word<'a>(
 }
 
 /// The number of a lane that at most five digits spell, below a limit.
+#[inline(always)]
 fn index_of(limit: u32, digits: &[u8]) -> Result<u16, NotForm>
     requires { limit ≤ 2 ^ 16 }
     ensures { (width : ℕ) → limit ≡ 2 ^ width → Gives not_form_in (λ n. n) result (spec.index_of width digits.now) }
@@ -93,7 +106,7 @@ fn index_field<'a>(
     if !present {
         return Ok((default, words));
     }
-    let (digits, rest) = value_of(key, words)?;
+    let (digits, rest) = number_of(key, words)?;
     Ok((index_of(limit, digits)?, rest))
 }
 
@@ -121,8 +134,7 @@ fn strobe_field<'a>(
     if !layout.strb.present {
         return Ok((layout.all_lanes, words));
     }
-    let size = layout.strb.width.div_ceil(4);
-    let Some((digits, rest)) = words.sized_value(b'b', size) else {
+    let Some((digits, rest)) = words.sized_value(b'b', layout.strb.digits) else {
         return Err(NotForm);
     };
     let Some(number) = number_of_digits(digits) else {

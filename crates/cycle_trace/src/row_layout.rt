@@ -2,7 +2,7 @@
 
 ghost use Rattle.std.specs.Prelude.{◌≡◌};
 ghost use Rattle.tydi_base.specs.Width.{index_width};
-ghost use Rattle.cycle_trace.specs.RowLayout.{LaysOut, has_payload_in};
+ghost use Rattle.cycle_trace.specs.RowLayout.{IsWord, LaysOut, has_payload_in};
 
 use physical_stream::{Params, all_lanes, index_limit};
 use signal_layout::Signals;
@@ -14,6 +14,21 @@ pub(crate) struct WordSignal {
     pub present: bool,
     /// Its width in bits, which is 0 only where it is absent.
     pub width: usize,
+    /// How many digits spell it.
+    pub digits: usize,
+}
+
+impl WordSignal {
+    /// A signal of this width.
+    fn of(present: bool, width: usize) -> WordSignal
+        ensures { IsWord result present width }
+    {
+        WordSignal {
+            present,
+            width,
+            digits: width.div_ceil(4),
+        }
+    }
 }
 
 /// Which signals the rows of a stream show, how wide they are, and what an absent one stands at.
@@ -46,22 +61,10 @@ impl RowLayout {
         let lanes = usize::from(p.lanes);
         RowLayout {
             params: *p,
-            content: WordSignal {
-                present: signals.content.is_some(),
-                width: lanes * p.element as usize,
-            },
-            last: WordSignal {
-                present: signals.last.is_some(),
-                width: lanes * usize::from(p.dims),
-            },
-            strb: WordSignal {
-                present: signals.strb.is_some(),
-                width: lanes,
-            },
-            user: WordSignal {
-                present: signals.user.is_some(),
-                width: p.user as usize,
-            },
+            content: WordSignal::of(signals.content.is_some(), lanes * p.element as usize),
+            last: WordSignal::of(signals.last.is_some(), lanes * usize::from(p.dims)),
+            strb: WordSignal::of(signals.strb.is_some(), lanes),
+            user: WordSignal::of(signals.user.is_some(), p.user as usize),
             has_stai: signals.stai.is_some(),
             has_endi: signals.endi.is_some(),
             has_payload: has_payload(&signals),

@@ -70,6 +70,7 @@ impl<K: RowSink> TraceReader<K> {
     }
 
     /// The line that is begun ends with these bytes and an LF.
+    #[inline(always)]
     fn end_line(&mut self, alloc: Global, front: &[u8])
         requires stands { (bytes : List ℕ) × StandsFor K.stands_for self.old bytes }
         requires plain { Lacks 10 front.now }
@@ -86,6 +87,7 @@ impl<K: RowSink> TraceReader<K> {
     }
 
     /// A line of the header ends with these bytes and an LF, or the first line after it.
+    #[inline(never)]
     fn end_header_line(&mut self, alloc: Global, front: &[u8])
         requires stands { (bytes : List ℕ) × StandsFor K.stands_for self.old bytes }
         requires plain { Lacks 10 front.now }
@@ -112,6 +114,7 @@ impl<K: RowSink> TraceReader<K> {
     }
 
     /// The line of a row ends with these bytes and an LF.
+    #[inline(always)]
     fn end_row(&mut self, alloc: Global, front: &[u8])
         requires stands { (bytes : List ℕ) × StandsFor K.stands_for self.old bytes }
         requires plain { Lacks 10 front.now }

@@ -1,4 +1,4 @@
-ghost use Rattle.std.specs.Prelude.{◌≡◌, ◌↔◌, [], ◌∷◌, IsTrue, List, MatchOption, ℕ};
+ghost use Rattle.std.specs.Prelude.{◌≡◌, ◌↔◌, [], ◌∷◌, IfSome, IsTrue, List, MatchOption, ℕ};
 ghost use Rattle.tydi_base.specs.Pieces.{words_of};
 ghost use Rattle.cycle_trace.specs.SizedValues.{HasNoSized, IsCut, IsSized, NoCut};
 ghost use Rattle.cycle_trace.specs.WordsLeft.{words_left};
@@ -28,6 +28,7 @@ impl<'a> WordsLeft<'a> {
     }
 
     /// The first word, and the words after it. None exactly where no word is left.
+    #[inline(never)]
     pub(crate) fn next_word(self) -> Option<(&'a [u8], WordsLeft<'a>)>
         ensures { MatchOption result (words_left self.entry ≡ []) (λ x. words_left self.entry ≡ x.0.now ∷ words_left x.1) }
     {
@@ -54,6 +55,24 @@ impl<'a> WordsLeft<'a> {
         }
     }
 
+    /// The value of the first word, where that is this key, `=` and one byte or two; and the words after it. It is not searched
+    /// for.
+    #[inline(always)]
+    pub(crate) fn short_value(self, key: u8) -> Option<(&'a [u8], WordsLeft<'a>)>
+        ensures { IfSome result (λ x. words_left self.entry ≡ (key ∷ 61 ∷ x.0.now) ∷ words_left x.1) }
+    {
+        if let Some((value, rest)) = self.sized_value(key, 1) {
+            if value[0] != b' ' {
+                return Some((value, rest));
+            }
+        }
+        let (value, rest) = self.sized_value(key, 2)?;
+        if value[0] == b' ' || value[1] == b' ' {
+            return None;
+        }
+        Some((value, rest))
+    }
+
     /// Whether no word is left.
     #[inline(always)]
     pub(crate) fn is_empty(self) -> bool
@@ -68,10 +87,18 @@ impl<'a> WordsLeft<'a> {
 fn after_key(key: u8, text: &[u8]) -> Option<&[u8]>
     ensures { MatchOption result ((after : List ℕ) → text.now ≡ key ∷ 61 ∷ after → ⊥) (λ after. text.now ≡ key ∷ 61 ∷ after.now) }
 {
-    if text.len() < 2 || text[0] != key || text[1] != b'=' {
+    if text.len() < 2 || !are_both(text[0], text[1], key, b'=') {
         return None;
     }
     Some(&text[2..])
+}
+
+/// Whether two bytes are these, compared at once.
+#[inline(always)]
+fn are_both(first: u8, second: u8, one: u8, other: u8) -> bool
+    ensures { IsTrue result ↔ (first ≡ one) × (second ≡ other) }
+{
+    u16::from(first) + 256 * u16::from(second) == u16::from(one) + 256 * u16::from(other)
 }
 
 /// So many bytes at the front of a text, where a space or the end follows them; and the words after that.

@@ -11,7 +11,7 @@ use Rattle.std.proofs.lemmas.Option.{cond_some}
 use Rattle.std.proofs.lemmas.Fmt.{digits_decimal, digits_value-decimal, decimal-digits_value, first_decimal, decimal_nonempty, decimal_digit}
 use Rattle.std.proofs.lemmas.Grind.{common_steps}
 use Rattle.std.proofs.lemmas.Str.Parse.{IsNumeralModel, numerals_by_fold}
-use Rattle.tydi_base.specs.Decimal.{read_on, is_decimal, below, DecimalsAreReadAsSpelled, DecimalsAreSpelledAsRead}
+use Rattle.tydi_base.specs.Decimal.{read_on, is_decimal, decimal_of, below, DecimalsAreReadAsSpelled, DecimalsAreSpelledAsRead}
 
 -- the words of this crate are std's
 pub own : IsNumeralModel (λ digits. list_all is_ascii_digit digits ≡ true) (read_on 0)
@@ -66,3 +66,25 @@ below-some limit n whole lt e = grind (arith, nat_tests)
 
 pub read_on-done : (n : ℕ) (digits : List ℕ) (i : ℕ) → length digits ≤ i → read_on n (drop i digits) ≡ n
 read_on-done n digits i le = rw drop_all refl
+
+-- ---- one digit and two
+
+pub one_of : (digits : List ℕ) → length digits ≡ 1 → digits ≡ get_or digits 0 0 ∷ []
+one_of [] one = absurd (omega arith)
+one_of (digit ∷ []) one = refl
+one_of (digit ∷ more ∷ digits) one = absurd (omega arith)
+
+pub two_of : (digits : List ℕ) → length digits ≡ 2 → digits ≡ get_or digits 0 0 ∷ get_or digits 1 0 ∷ []
+two_of [] two = absurd (omega arith)
+two_of (tens ∷ []) two = absurd (omega arith)
+two_of (tens ∷ ones ∷ []) two = refl
+two_of (tens ∷ ones ∷ more ∷ digits) two = absurd (omega arith)
+
+pub decimal-is : (digits : List ℕ) (n : ℕ) → IsDecimal digits → n < 2 ^ 64 → n ≡ read_on 0 digits → Some n ≡ below (2 ^ 64) (decimal_of digits)
+decimal-is digits n h lt is = rw (is_decimal-from digits h) (below-some (2 ^ 64) n (read_on 0 digits) lt is)
+
+pub one_digit-some : (digit : ℕ) → is_ascii_digit digit ≡ true → Some (digit - 48) ≡ below (2 ^ 64) (decimal_of (digit ∷ []))
+one_digit-some digit is =
+    let h : IsDecimal (digit ∷ []) = record { some = omega arith; each = rw is refl; alone = λ _. refl } in
+    let small : digit ≤ 57 = grind (arith, nat_tests) in
+    decimal-is (digit ∷ []) (digit - 48) h (omega arith) (omega arith)

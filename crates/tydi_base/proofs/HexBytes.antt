@@ -7,7 +7,7 @@ use Rattle.std.proofs.Math.Numerals.{one-add}
 use Rattle.std.proofs.lemmas.Nat.{shr-shr, shr_below}
 use Rattle.std.proofs.lemmas.List.{drop-drop, drop-append-le, take-append-le, drop_more, drop_all, length-take, length-drop, append-nil, take-append-drop, take_all, drop_at}
 use Rattle.std.proofs.lemmas.Grind.{drop-set_at}
-use Rattle.std.specs.Prelude.{MatchBool}
+use Rattle.std.specs.Prelude.{MatchBool, MatchOption}
 use Rattle.tydi_base.specs.Bits.{bits_of, zero_bits, unpack, IsPacked}
 use Rattle.tydi_base.specs.Hex.{byte_of_digits, whole_bytes, digit_of, digits_for, bits_of_digits, no_ones, fitted, word_at}
 use Rattle.tydi_base.proofs.BitsLemmas.{bits_of-add, unpack-push, unpack-nil, length-unpack, bits_of-zero}
@@ -186,6 +186,32 @@ whole_by_odd digits bytes old half value true half_is odd room is_value told =
 pub none_packed : (digits bytes : List ℕ) → bytes ≡ [] → bits_of_digits (drop (length digits) digits) ≡ Some (unpack bytes)
 none_packed digits bytes none =
     rw (none, drop_all (length digits) digits (le_refl (length digits)), unpack-nil) bits_of_digits-nil
+
+-- ---- one byte
+
+pub one_digit : (digits : List ℕ) (read : Option ℕ)
+    → length digits ≡ 1
+    → read ≡ digit_of (get_or digits 0 0)
+    → MatchOption read (bits_of_digits digits ≡ None) (λ byte. whole_bytes digits ≡ Some (unpack (byte ∷ [])))
+one_digit digits None one is = none_from_first digits (omega arith) (sym is)
+one_digit digits (Some value) one is =
+    let rest : bits_of_digits (drop 1 digits) ≡ Some (unpack []) = rw one at (none_packed digits [] refl)
+    in whole_odd digits [] 1 value refl (omega arith) rest (sym is)
+
+pub two_digits : (digits : List ℕ) (read : Option ℕ)
+    → length digits ≡ 2
+    → read ≡ byte_of_digits (get_or digits 0 0) (get_or digits 1 0)
+    → MatchOption read (bits_of_digits digits ≡ None) (λ byte. whole_bytes digits ≡ Some (unpack (byte ∷ [])))
+two_digits digits None two is = none_from_pair digits 0 (omega arith) (sym is)
+two_digits digits (Some byte) two is =
+    let rest : bits_of_digits (drop 2 digits) ≡ Some (unpack []) = rw two at (none_packed digits [] refl)
+    in whole_even digits (byte ∷ []) 0 refl (omega arith) (packed_more digits [] 0 2 byte refl (omega arith) rest (sym is))
+
+-- the one byte of bytes, written
+pub set_one : (bytes : List ℕ) (byte : ℕ) → length bytes ≡ 1 → set bytes 0 byte ≡ byte ∷ []
+set_one [] byte one = absurd (omega arith)
+set_one (old ∷ []) byte one = refl
+set_one (old ∷ more ∷ bytes) byte one = absurd (omega arith)
 
 -- ---- ones at or above a width
 

@@ -1,4 +1,4 @@
--- Sixteen hexadecimal digits in the lanes of a vector.
+-- Hexadecimal digits in the lanes of a vector, sixteen or eight.
 use Rattle.std.proofs.Common.{◌≡◌, ◌∙◌, sym, subst, ℕ, ◌+◌, ◌-◌, ◌*◌, ◌%◌, ◌^◌, ◌<◌, ◌≤◌, Bool, cond, Option, Some, None, ltb, leb, List, [], ◌∷◌, ◌++◌, map, length, replicate, Fits, w8, refl, ap, arith}
 use Rattle.std.proofs.lemmas.Bool.Decides.{nat_tests}
 use Rattle.std.specs.Simd.Lanes.{zip2, sel_l, top, mask_l, pick_l, Each1}
@@ -122,38 +122,49 @@ block_bytes values =
 pairs_of-block : (values : List ℕ) → length values ≡ 16 → pairs_of values ≡ block_bytes values
 pairs_of-block values long = subst (λ values. pairs_of values ≡ block_bytes values) (pick_l_whole 0 values 16 long) refl
 
-pub block_some : (digits values : List ℕ)
-    → length digits ≡ 16
-    → values ≡ map marked_digit digits
-    → high_mask 16 values % 2 ^ 64 ≡ 0
-    → bits_of_digits digits ≡ Some (unpack (block_bytes values))
-block_some digits values long are none =
-    let many : length values ≡ 16 = ap length are ∙ length-map digits marked_digit ∙ long
-    in let mask : high_mask (length digits) (map marked_digit digits) ≡ 0 =
-    ap (λ (n : ℕ). high_mask n (map marked_digit digits)) long ∙ ap (high_mask 16) (sym are) ∙ sym (mask_small 16 values many (omega arith)) ∙ none
-    in pairs_packed digits 8 long (low_values digits mask)
-    ∙ ap (λ (values : List ℕ). Some (unpack (pairs_of values))) (sym are)
-    ∙ ap (λ (bytes : List ℕ). Some (unpack bytes)) (pairs_of-block values many)
+abbrev pub half_block_bytes : List ℕ → List ℕ
+half_block_bytes values =
+    zip2 (λ a b. (a + b) % 256)
+    (zip2 (λ a b. a * b % 256) (pick_l 0 (values ++ values) (6 ∷ 4 ∷ 2 ∷ 0 ∷ [])) (replicate 4 16))
+    (pick_l 0 (values ++ values) (7 ∷ 5 ∷ 3 ∷ 1 ∷ []))
 
-block_none_by : (digits values : List ℕ) (bits : Option (List Bool))
-    → length digits ≡ 16
-    → values ≡ map marked_digit digits
-    → (high_mask 16 values % 2 ^ 64 ≡ 0 → ⊥)
-    → bits_of_digits digits ≡ bits
-    → bits_of_digits digits ≡ None
-block_none_by digits values None long are some read = read
-block_none_by digits values (Some bits) long are some read =
-    let many : length values ≡ 16 = ap length are ∙ length-map digits marked_digit ∙ long
-    in absurd
-    (some
-    (mask_small 16 values many (omega arith)
-    ∙ ap (high_mask 16) are
-    ∙ ap (λ (n : ℕ). high_mask n (map marked_digit digits)) (sym long)
-    ∙ high_mask-none digits bits read))
+pairs_of-half_block : (values : List ℕ) → length values ≡ 8 → pairs_of values ≡ half_block_bytes values
+pairs_of-half_block values long = subst (λ values. pairs_of values ≡ half_block_bytes values) (pick_l_whole 0 values 8 long) refl
 
-pub block_none : (digits values : List ℕ)
-    → length digits ≡ 16
-    → values ≡ map marked_digit digits
-    → (high_mask 16 values % 2 ^ 64 ≡ 0 → ⊥)
-    → bits_of_digits digits ≡ None
-block_none digits values long are some = block_none_by digits values (bits_of_digits digits) long are some refl
+-- ---- a block of digits, of which the mask says whether each is one
+
+module _ (n : ℕ) (digits values : List ℕ) (few : n ≤ 64) (long : length digits ≡ n) (are : values ≡ map marked_digit digits) where
+  many : length values ≡ n
+  many = ap length are ∙ length-map digits marked_digit ∙ long
+
+  mask_is : high_mask n values % 2 ^ 64 ≡ high_mask (length digits) (map marked_digit digits)
+  mask_is = mask_small n values many few ∙ ap (high_mask n) are ∙ ap (λ (n : ℕ). high_mask n (map marked_digit digits)) (sym long)
+
+  lanes_some : (count : ℕ) → n ≡ 2 * count → high_mask n values % 2 ^ 64 ≡ 0 → bits_of_digits digits ≡ Some (unpack (pairs_of values))
+  lanes_some count even none =
+      pairs_packed digits count (long ∙ even) (low_values digits (sym mask_is ∙ none))
+      ∙ ap (λ (values : List ℕ). Some (unpack (pairs_of values))) (sym are)
+
+  lanes_none_by : (bits : Option (List Bool)) → (high_mask n values % 2 ^ 64 ≡ 0 → ⊥) → bits_of_digits digits ≡ bits → bits_of_digits digits ≡ None
+  lanes_none_by None some read = read
+  lanes_none_by (Some bits) some read = absurd (some (mask_is ∙ high_mask-none digits bits read))
+
+  lanes_none : (high_mask n values % 2 ^ 64 ≡ 0 → ⊥) → bits_of_digits digits ≡ None
+  lanes_none some = lanes_none_by (bits_of_digits digits) some refl
+
+module _ (digits values : List ℕ) (are : values ≡ map marked_digit digits) where
+  pub block_some : length digits ≡ 16 → high_mask 16 values % 2 ^ 64 ≡ 0 → bits_of_digits digits ≡ Some (unpack (block_bytes values))
+  block_some long none =
+      lanes_some 16 digits values (omega arith) long are 8 refl none
+      ∙ ap (λ (bytes : List ℕ). Some (unpack bytes)) (pairs_of-block values (many 16 digits values (omega arith) long are))
+
+  pub block_none : length digits ≡ 16 → (high_mask 16 values % 2 ^ 64 ≡ 0 → ⊥) → bits_of_digits digits ≡ None
+  block_none long some = lanes_none 16 digits values (omega arith) long are some
+
+  pub half_block_some : length digits ≡ 8 → high_mask 8 values % 2 ^ 64 ≡ 0 → bits_of_digits digits ≡ Some (unpack (half_block_bytes values))
+  half_block_some long none =
+      lanes_some 8 digits values (omega arith) long are 4 refl none
+      ∙ ap (λ (bytes : List ℕ). Some (unpack bytes)) (pairs_of-half_block values (many 8 digits values (omega arith) long are))
+
+  pub half_block_none : length digits ≡ 8 → (high_mask 8 values % 2 ^ 64 ≡ 0 → ⊥) → bits_of_digits digits ≡ None
+  half_block_none long some = lanes_none 8 digits values (omega arith) long are some

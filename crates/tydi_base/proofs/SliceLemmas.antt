@@ -1,10 +1,28 @@
--- Parts of words copied, byte by byte.
+-- The bytes of words copied and compared, and parts of them copied, byte by byte.
 use Rattle.std.proofs.Common.{inl, inr, false, replicate, ◌≡◌, ◌∙◌, sym, ℕ, suc, ◌+◌, ◌-◌, ◌*◌, ◌/◌, ◌%◌, ◌<◌, ◌≤◌, min, Bool, List, [], ◌∷◌, ◌++◌, length, get_or, set, take, drop, refl, ap, arith, length-append, append_assoc}
+use Rattle.std.specs.Prelude.{bytes_eq, nat_eq}
+use Rattle.std.proofs.lemmas.Bool.Decides.{nat_tests}
 use Rattle.std.proofs.Math.Seq.{take-add, take-append-add, drop-append-add}
 use Rattle.std.proofs.lemmas.List.{append-nil, drop-append-le, drop-drop, drop_all, drop_at, drop_more, length-take, length-drop, length-replicate, replicate-append-replicate, set_split, take-append-le, take-append-drop, take_all, take_at}
 use Rattle.std.specs.List.{AllClonesOf, AppendsClonesOf, refill}
 use Rattle.tydi_base.specs.Bits.{bits_of, unpack, written_at, zero_bits, IsPacked}
 use Rattle.tydi_base.proofs.BitsLemmas.{length-bits_of, length-unpack, length_packed, packed_whole, refill_whole, unpack-append, unpack-cons, unpack-replicate_zero}
+
+-- ---- one byte
+
+pub one_copied : (bytes from : List ℕ) → length bytes ≡ length from → length from ≡ 1 → set bytes 0 (get_or from 0 0) ≡ from
+one_copied [] from same one = absurd (omega arith)
+one_copied bytes [] same one = absurd (omega arith)
+one_copied (old ∷ []) (byte ∷ []) same one = refl
+one_copied (old ∷ more ∷ bytes) from same one = absurd (omega arith)
+one_copied bytes (byte ∷ more ∷ from) same one = absurd (omega arith)
+
+pub one_compared : (bytes others : List ℕ) → length bytes ≡ 1 → length others ≡ 1 → nat_eq (get_or bytes 0 0) (get_or others 0 0) ≡ bytes_eq bytes others
+one_compared [] others one other_one = absurd (omega arith)
+one_compared bytes [] one other_one = absurd (omega arith)
+one_compared (byte ∷ []) (other ∷ []) one other_one = grind (arith, nat_tests)
+one_compared (byte ∷ more ∷ bytes) others one other_one = absurd (omega arith)
+one_compared bytes (other ∷ more ∷ others) one other_one = absurd (omega arith)
 
 -- ---- bits written in place of others
 

@@ -16,7 +16,7 @@ use crate::hex_word::{BitsFault, hex_fault_of, packed_digits};
 use crate::list::List;
 use crate::memory::Memory;
 use crate::numbers::{number_of, push_number};
-use crate::slices::copy_bits;
+use crate::slices::{are_same, copy_bits, copy_bytes};
 use crate::try_clone::TryClone;
 use crate::writing::Hex;
 use smallvec::SmallVec;
@@ -75,6 +75,7 @@ impl Bits {
 
     /// Becomes the word of its width that these hexadecimal digits spell, the highest first. False exactly where they spell
     /// none, as `from_exact_hex` says; then only its width is as before. It takes no memory.
+    #[inline(always)]
     pub fn read_exact_hex(&mut self, digits: &[u8]) -> bool
         ensures read { IsTrue result → word_at (length self.old) digits.now ≡ Some self.new }
         ensures none { result ≡ false → word_at (length self.old) digits.now ≡ None }
@@ -104,6 +105,7 @@ impl Bits {
     }
 
     /// The bit at this place, from the lowest.
+    #[inline(always)]
     pub fn get(&self, index: usize) -> bool
         requires { index < length self.now }
         ensures { result ≡ get_or self.now index false }
@@ -120,12 +122,13 @@ impl Bits {
     }
 
     /// Becomes a copy of this word, which is as wide. It takes no memory.
+    #[inline(always)]
     pub fn copy_from(&mut self, from: &Bits)
         requires { length self.old ≡ length from.now }
         ensures { self.new ≡ from.now }
     {
         let bytes = self.bytes.as_mut_slice();
-        bytes.copy_from_slice(from.bytes.as_slice());
+        copy_bytes(bytes, from.bytes.as_slice());
     }
 
     /// Becomes the bits of this word from a place on, as many as it has. It takes no memory.
@@ -228,6 +231,7 @@ impl Bits {
 }
 
 /// The bit at this place in bytes.
+#[inline(always)]
 pub(crate) fn bit_at(bytes: &[u8], index: usize) -> bool
     requires { index < 8 * length bytes.now }
     ensures { result ≡ get_or (unpack bytes.now) index false }
@@ -256,6 +260,7 @@ pub(crate) fn put_at(bytes: &mut [u8], index: usize, bit: bool)
 }
 
 // Whether a one stands at or above this width in the bytes of a word.
+#[inline(always)]
 fn has_ones_from(width: usize, bytes: &[u8]) -> bool
     requires { length bytes.now ≡ (width + 7) / 8 }
     ensures { result ≡ not (no_ones (drop width (unpack bytes.now))) }
@@ -269,6 +274,7 @@ fn has_ones_from(width: usize, bytes: &[u8]) -> bool
 }
 
 // Fills the bytes of a word of this width with the word that these digits spell, or with zeros. False where they spell none.
+#[inline(always)]
 fn fill_or_clear(width: usize, digits: &[u8], bytes: &mut [u8]) -> bool
     requires { length bytes.old ≡ (width + 7) / 8 }
     ensures packed { IsPacked width bytes.new }
@@ -282,6 +288,7 @@ fn fill_or_clear(width: usize, digits: &[u8], bytes: &mut [u8]) -> bool
 }
 
 // Fills the bytes of a word of this width with the word that these digits spell. False where they spell none.
+#[inline(always)]
 fn fill_word(width: usize, digits: &[u8], bytes: &mut [u8]) -> bool
     requires { length bytes.old ≡ (width + 7) / 8 }
     ensures packed { IsTrue result → IsPacked width bytes.new }
@@ -323,13 +330,14 @@ impl PartialEq for Bits {
     ghost laws = { Prim.search (comparing, rules) };
 
     /// Whether it is the same word: as wide, and with the same bits.
+    #[inline(always)]
     fn eq(&self, other: &Bits) -> bool
         ensures eq { result ≡ pointwise beq self.now other.now }
         ensures same { IsTrue result ↔ (self.now ≡ other.now) }
     {
         let bytes = self.bytes.as_slice();
         let others = other.bytes.as_slice();
-        self.len == other.len && bytes == others
+        self.len == other.len && are_same(bytes, others)
     }
 }
 

@@ -1,6 +1,6 @@
 //! Decimal numbers in texts, with no sign and no leading zero.
 
-ghost use Rattle.std.specs.Prelude.{◌≡◌, ◌+◌, ◌*◌, ◌^◌, ◌++◌, Some, IsTrue, decimal, OnOk, OnErr};
+ghost use Rattle.std.specs.Prelude.{◌≡◌, ◌+◌, ◌*◌, ◌^◌, ◌++◌, [], ◌∷◌, Some, IsTrue, decimal, OnOk, OnErr};
 ghost use Rattle.std.specs.List.{list_all};
 ghost use Rattle.std.specs.Char as chars;
 ghost use Rattle.tydi_base.specs.Decimal as spec;
@@ -14,7 +14,45 @@ pub(crate) const ZERO: u8 = b'0';
 
 /// The number that these digits spell: at least one digit, and no leading zero. None exactly where they spell none, or
 /// one of 2 ^ 64 or more.
+// One digit or two are most numbers of lanes.
+#[inline(always)]
 pub fn read_decimal(digits: &[u8]) -> Option<u64>
+    ensures { result ≡ spec.below (2 ^ 64) (spec.decimal_of digits.now) }
+{
+    if digits.len() == 1 {
+        read_digit(digits[0])
+    } else if digits.len() == 2 {
+        read_two_digits(digits[0], digits[1])
+    } else {
+        read_digits(digits)
+    }
+}
+
+/// The number of one digit.
+#[inline(always)]
+fn read_digit(digit: u8) -> Option<u64>
+    ensures { result ≡ spec.below (2 ^ 64) (spec.decimal_of (digit ∷ [])) }
+{
+    if !digit.is_ascii_digit() {
+        return None;
+    }
+    Some(u64::from(digit - ZERO))
+}
+
+/// The number of two digits.
+#[inline(always)]
+fn read_two_digits(tens: u8, ones: u8) -> Option<u64>
+    ensures { result ≡ spec.below (2 ^ 64) (spec.decimal_of (tens ∷ ones ∷ [])) }
+{
+    if tens == ZERO || !tens.is_ascii_digit() || !ones.is_ascii_digit() {
+        return None;
+    }
+    Some(10 * u64::from(tens - ZERO) + u64::from(ones - ZERO))
+}
+
+/// The number of any digits.
+#[inline(never)]
+fn read_digits(digits: &[u8]) -> Option<u64>
     ensures { result ≡ spec.below (2 ^ 64) (spec.decimal_of digits.now) }
 {
     if !is_decimal(digits) {

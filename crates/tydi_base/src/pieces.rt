@@ -13,6 +13,7 @@ pub const LINE_FEED: u8 = b'\n';
 
 /// The text up to its first separator, and what follows that. None exactly where it has none. It reads no byte past the
 /// separator.
+#[inline(always)]
 pub fn first_piece(text: &[u8], separator: u8) -> Option<(&[u8], &[u8])>
     ensures some { IfSome result (λ parts. spec.pieces_of separator text.now ≡ parts.0.now ∷ spec.pieces_of separator parts.1.now) }
     ensures whole { IfSome result (λ parts. text.now ≡ parts.0.now ++ separator ∷ parts.1.now) }

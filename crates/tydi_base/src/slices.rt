@@ -1,7 +1,32 @@
-//! Parts of words copied, byte by byte wherever they begin.
+//! The bytes of words copied and compared, and parts of them copied, byte by byte wherever they begin.
 
-ghost use Rattle.std.specs.Prelude.{◌≡◌, ◌+◌, ◌*◌, ◌^◌, ◌<◌, ◌≤◌, ◌++◌, drop, take, length};
+ghost use Rattle.std.specs.Prelude.{◌≡◌, bytes_eq, ◌+◌, ◌*◌, ◌^◌, ◌<◌, ◌≤◌, ◌++◌, drop, take, length};
 ghost use Rattle.tydi_base.specs.Bits.{bits_of, unpack, written_at};
+
+/// Becomes a copy of bytes that are as many. Most words of a stream have one byte, for which it makes no call.
+#[inline(always)]
+pub(crate) fn copy_bytes(bytes: &mut [u8], from: &[u8])
+    requires { length bytes.old ≡ length from.now }
+    ensures { bytes.new ≡ from.now }
+{
+    if from.len() == 1 {
+        bytes[0] = from[0];
+    } else {
+        bytes.copy_from_slice(from);
+    }
+}
+
+/// Whether bytes are the same as others. For one byte it makes no call.
+#[inline(always)]
+pub(crate) fn are_same(bytes: &[u8], others: &[u8]) -> bool
+    ensures { result ≡ bytes_eq bytes.now others.now }
+{
+    if bytes.len() == 1 && others.len() == 1 {
+        bytes[0] == others[0]
+    } else {
+        bytes == others
+    }
+}
 
 /// Writes so many bits of other bytes, from a place on, in place of those that stand at a place of these.
 pub(crate) fn copy_bits(bytes: &mut [u8], at: usize, source: &[u8], from: usize, count: usize)

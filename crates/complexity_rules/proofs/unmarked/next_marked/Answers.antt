@@ -1,4 +1,4 @@
-use Rattle.std.proofs.Common.{◌≡◌, ◌∙◌, ◌*◌, ◌-◌, ◌/◌, ◌≤◌, ◌^◌, ℕ, ap, arith}
+use Rattle.std.proofs.Common.{◌*◌, ◌-◌, ◌/◌, ◌≤◌, ◌^◌, ap, arith}
 use Rattle.std.specs.Int.{trailing_zeros, w128}
 use Rattle.physical_stream.specs.Params.{Parameters}
 use Rattle.complexity_rules.proofs.UnmarkedLemmas.{unmarked_zero, unmarked_trailing, place_of}
@@ -13,8 +13,6 @@ pub returns-clause-unmarked : goal.returns-clause-unmarked
 returns-clause-unmarked c t shows =
     let dims = ap (λ (p : Parameters). p.dims) c.p.view_is in
     let at = place_of c.from.result c.from-2.result c.args.from c.p.inside.dims c.args.p.now.dims c.from.ensures c.from-2.ensures dims in
-    let by : c.from-3.result ≡ c.args.p.now.dims = c.from-3.ensures ∙ dims in
-    let zeros = trailing_zeros w128 (c.in-Some.number / 2 ^ (c.from.result * c.from-2.result)) in
-    let few : c.min.result - c.args.from ≤ zeros / c.from-3.result = omega (arith, c.min.ensures) in
-    unmarked_trailing c.args.p.now t c.args.marks c.in-Some.number c.args.from c.min.result _ shows c.in-Some.is (omega arith) at c.if-rest-eq0.false
-    (omega (arith, few, ap (λ (n : ℕ). zeros / n) by))
+    let few : c.min.result - c.args.from ≤ trailing_zeros w128 (c.in-Some.number / 2 ^ (c.from.result * c.from-2.result)) / c.args.p.now.dims =
+    omega (arith, c.min.ensures, c.lanes_in-past.ensures) in
+    unmarked_trailing c.args.p.now t c.args.marks c.in-Some.number c.args.from c.min.result _ shows c.in-Some.is (omega arith) at c.if-rest-eq0.false few

@@ -1,21 +1,11 @@
-use Rattle.std.proofs.Common.{◌≡◌, ◌+◌, ◌-◌, ◌∙◌, Bool, IsTrue, is_some, ◌↔◌, ap, sym, subst, arith}
+use Rattle.std.proofs.Common.{◌≡◌, ℕ, ap, subst}
+use Rattle.physical_stream.specs.Items.{lane_items, parts_below}
 use Rattle.physical_stream.specs.Params.{Parameters}
-use Rattle.physical_stream.specs.Breaks.{BreaksLaneLast}
-use Rattle.complexity_rules.proofs.WalkLemmas.{Finds-all}
-use Rattle.complexity_rules.proofs.LaneLemmas.{BreaksLaneLast-early}
+use Rattle.complexity_rules.specs.Walk.{Finds}
 use Rattle.complexity_rules.proofs.walk.walk_over.Goals as goal
 
-pub returns-clause-found : goal.returns-clause-found
-returns-clause-found c =
-    let same : c.p.inside.lanes ≡ c.args.p.now.lanes = ap (λ (p : Parameters). p.lanes) c.p.view_is in
-    let next : c.p.inside.lanes - 1 + 1 ≡ c.args.p.now.lanes = omega (arith, c.p.invariant.some_lane) in
-    Finds-all c.args.p.now c.args.transfer.now c.args.tail _ c.over_lane.result next
-    (c.over_lane.ensures.found c.args.tail _ (c.over_lanes-before.ensures.found c.args.tail (c.after.ensures.found c.args.p.now.dims)))
-
-pub returns-clause-early : goal.returns-clause-early
-returns-clause-early c =
-    let same : c.p.inside.lanes ≡ c.args.p.now.lanes = ap (λ (p : Parameters). p.lanes) c.p.view_is in
-    let next : c.p.inside.lanes - 1 + 1 ≡ c.args.p.now.lanes = omega (arith, c.p.invariant.some_lane) in
-    let first = (c.over_lanes-before.ensures.found c.args.tail (c.after.ensures.found c.args.p.now.dims)).first in
-    subst (λ (b : Bool). IsTrue b ↔ BreaksLaneLast c.args.p.now c.args.transfer.now) (sym (c.is_some.ensures ∙ ap is_some first))
-    (BreaksLaneLast-early c.args.p.now c.args.transfer.now _ next)
+pub returns-then-next_marked-p-clause-found : goal.returns-then-next_marked-p-clause-found
+returns-then-next_marked-p-clause-found c =
+    let lanes : c.p.inside.lanes ≡ c.args.p.now.lanes = ap (λ (p : Parameters). p.lanes) c.p.view_is in
+    subst (λ (n : ℕ). Finds c.args.p.now.dims c.args.tail (parts_below (lane_items c.args.p.now c.args.transfer.now) n) c.over_unmarked.result) lanes
+    (c.over_unmarked.ensures.found c.args.tail (c.after.ensures.found c.args.p.now.dims))

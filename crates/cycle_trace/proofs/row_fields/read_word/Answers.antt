@@ -1,4 +1,4 @@
-use Rattle.std.proofs.Common.{◌≡◌, ◌+◌, ◌/◌, ℕ, Bool, true, false, not, Some, None, refl, subst, arith}
+use Rattle.std.proofs.Common.{◌≡◌, ℕ, Bool, true, false, not, Some, None, refl, subst}
 use Rattle.tydi_base.specs.Hex.{word_at}
 use Rattle.cycle_trace.proofs.WordFieldLemmas.{word_field-none, word_field-read, word_field-unread}
 use Rattle.cycle_trace.proofs.row_fields.read_word.Goals as goal
@@ -9,20 +9,17 @@ true_of false is = absurd cc
 
 pub returns-in_default-clause-read : goal.returns-in_default-clause-read
 returns-in_default-clause-read c =
-    let size : c.div_ceil-size.result ≡ (c.args.signal.width + 3) / 4 = omega arith in
     let there : c.args.signal.present ≡ true = true_of c.args.signal.present c.if-not-signal.false in
-    rw there (word_field-none _ _ _ (rw size at c.in_default.ensures))
+    rw there (word_field-none _ _ _ (rw c.requires.many at c.in_default.ensures))
 
 pub returns-then-read_exact_hex-clause-read : goal.returns-then-read_exact_hex-clause-read
 returns-then-read_exact_hex-clause-read c =
-    let size : c.div_ceil-size.result ≡ (c.args.signal.width + 3) / 4 = omega arith in
     let read = subst (λ (width : ℕ). word_at width c.in-Some.digits.now ≡ Some c.read_exact_hex.new.self) c.requires.wide (c.read_exact_hex.ensures.read c.if-read_exact_hex.true) in
     let there : c.args.signal.present ≡ true = true_of c.args.signal.present c.if-not-signal.false in
-    rw there (word_field-read _ _ _ _ _ (rw size at c.in-Some.ensures) _ read)
+    rw there (word_field-read _ _ _ _ _ (rw c.requires.many at c.in-Some.ensures) _ read)
 
 pub returns-else-read_exact_hex-clause-read : goal.returns-else-read_exact_hex-clause-read
 returns-else-read_exact_hex-clause-read c =
-    let size : c.div_ceil-size.result ≡ (c.args.signal.width + 3) / 4 = omega arith in
     let none = subst (λ (width : ℕ). word_at width c.in-Some.digits.now ≡ None) c.requires.wide (c.read_exact_hex.ensures.none c.if-read_exact_hex.false) in
     let there : c.args.signal.present ≡ true = true_of c.args.signal.present c.if-not-signal.false in
-    rw there (word_field-unread _ _ _ _ _ (rw size at c.in-Some.ensures) none)
+    rw there (word_field-unread _ _ _ _ _ (rw c.requires.many at c.in-Some.ensures) none)

@@ -10,10 +10,10 @@ returns-then-fill_blocks c =
     in let all = c.fill_blocks.new.bytes ++ drop count c.args.bytes.now
     in let total : length all ≡ length c.args.bytes.now =
     omega (arith, length-append c.fill_blocks.new.bytes (drop count c.args.bytes.now), length-drop count c.args.bytes.now)
-    in let high_long : length c.fill_pairs.new.bytes ≡ length c.args.bytes.now - count =
-    omega (arith, c.fill_pairs.auto.bytes, length-take (length all - count) (drop count all), length-drop count all)
-    in packed_parts c.args.digits.now c.args.bytes.now c.fill_blocks.new.bytes c.fill_pairs.new.bytes (length c.args.digits.now - 2 * count) count
-    c.fill_pairs.result (omega arith) (omega arith) low_long high_long c.if-fill_blocks.ensures c.fill_pairs.ensures
+    in let high_long : length c.fill_rest.new.bytes ≡ length c.args.bytes.now - count =
+    omega (arith, c.fill_rest.auto.bytes, length-take (length all - count) (drop count all), length-drop count all)
+    in packed_parts c.args.digits.now c.args.bytes.now c.fill_blocks.new.bytes c.fill_rest.new.bytes (length c.args.digits.now - 2 * count) count
+    c.fill_rest.result (omega arith) (omega arith) low_long high_long c.if-fill_blocks.ensures c.fill_rest.ensures
 
 pub returns-else-fill_blocks : goal.returns-else-fill_blocks
 returns-else-fill_blocks c =

@@ -2,7 +2,7 @@ use Rattle.std.proofs.Common.{◌≡◌, ◌/◌, arith, length, set, sym}
 use Rattle.std.proofs.Math.ListN.{length-set}
 use Rattle.std.proofs.lemmas.List.{length-take}
 use Rattle.tydi_base.proofs.HexBytes.{none_from_first, whole_by_even, whole_by_odd}
-use Rattle.tydi_base.proofs.hex_digits.fill_digits.Goals as goal
+use Rattle.tydi_base.proofs.hex_digits.fill_bytes.Goals as goal
 
 pub returns-then-digits-eq0 : goal.returns-then-digits-eq0
 returns-then-digits-eq0 c =
