@@ -252,10 +252,12 @@ impl Counted {
         if !transfer.fits(self.checker.params()) {
             return Err(Memory);
         }
-        Ok(self.checker.step(Row {
-            ready,
-            shown: Some(&transfer),
-        }))
+        Ok(
+            self.checker.step(Row {
+                ready,
+                shown: Some(&transfer),
+            }),
+        )
     }
 }
 
