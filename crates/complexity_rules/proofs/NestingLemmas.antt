@@ -22,7 +22,7 @@ use Rattle.complexity_rules.proofs.BreakLemmas.{BreaksNest-misplaced, has_mispla
 use Rattle.complexity_rules.proofs.CheckerLemmas.{items_done-one_more}
 
 -- items among which no Close is misplaced are nested
-IsNested-placed : (done : List Item) → has_misplaced None done ≡ false → IsNested done
+pub IsNested-placed : (done : List Item) → has_misplaced None done ≡ false → IsNested done
 IsNested-placed done placed front rest dim splits = by_close (may_close (tail_of front) dim) refl
   where
     by_close : (may : Bool) → may_close (tail_of front) dim ≡ may → may ≡ true

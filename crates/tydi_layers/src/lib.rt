@@ -7,6 +7,8 @@ mod checkers;
 #[cfg(test)]
 mod fractions;
 #[cfg(test)]
+mod nests;
+#[cfg(test)]
 mod readings;
 #[cfg(test)]
 mod signals;

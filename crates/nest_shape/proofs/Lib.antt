@@ -1,0 +1,4 @@
+pub mod PlainLemmas
+pub mod FlatLemmas
+pub mod BuildingLemmas
+pub mod LawLemmas

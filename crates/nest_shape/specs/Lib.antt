@@ -1,0 +1,5 @@
+pub mod Tree
+pub mod Flat
+pub mod Shape
+pub mod Building
+pub mod Laws
