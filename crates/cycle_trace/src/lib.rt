@@ -47,4 +47,4 @@ pub use surveyed::Surveyed;
 pub use surveyor::Surveyor;
 pub use trace::Trace;
 pub use trace_reader::TraceReader;
-pub use writing::{write_header, write_row};
+pub use writing::{StreamLine, write_header, write_row};

@@ -14,7 +14,7 @@ ghost use Rattle.cycle_trace.specs.Writing.{spaced};
 use physical_stream::{Head, Header, Params, Row, Transfer};
 use signal_layout::Signals;
 use std::alloc::Global;
-use tydi_base::{Bits, Hex, List, Memory, Written, emit};
+use tydi_base::{Bits, Hex, List, Memory, Path, Written, emit};
 
 /// Adds the text of a header at the end. After `Memory` the list is as before.
 pub fn write_header(_alloc: Global, out: &mut List<u8>, header: &Header) -> Result<(), Memory>
@@ -35,29 +35,38 @@ impl Written for StreamLines<'_> {
 
     fn write_to(&self, out: &mut List<u8>) -> Result<(), Memory> {
         'heads: for head in self.0 {
-            out.emit(&StreamLine(head))?;
+            out.emit(&StreamLine {
+                path: &head.path,
+                params: &head.params,
+                reversed: head.reversed,
+            })?;
         }
         Ok(())
     }
 }
 
-/// The line of a stream.
+/// The line of a stream, as headers have it.
 #[derive(Clone, Copy)]
-struct StreamLine<'a>(&'a Head);
+pub struct StreamLine<'a> {
+    pub path: &'a Path,
+    pub params: &'a Params,
+    /// Whether its transfers go against the direction of the port.
+    pub reversed: bool,
+}
 
 impl Written for StreamLine<'_> {
-    ghost text = { λ line. head_text line.0.now };
+    ghost text = { λ line. head_text (record { path = line.path.now; params = line.params.now; reversed = line.reversed }) };
 
     fn write_to(&self, out: &mut List<u8>) -> Result<(), Memory> {
-        let Head {
+        let StreamLine {
             path,
             params,
             reversed,
-        } = self.0;
+        } = *self;
         emit!(
             out;
             "stream ", path, " lanes ", params.lanes, " dims ", params.dims, " level ", params.level.number(),
-            " element ", params.element, " user ", params.user, " ", direction(*reversed), "\n",
+            " element ", params.element, " user ", params.user, " ", direction(reversed), "\n",
         )
     }
 }

@@ -1,6 +1,7 @@
 -- Each token of a text is the piece that stands at its place.
 use Rattle.std.proofs.Common.{◌≡◌, ℕ, zero, suc, ◌+◌, ◌-◌, ◌≤◌, Bool, true, false, cond, eqb, List, [], ◌∷◌, ◌++◌, length, take, drop, Result, Ok, Err, All, append_assoc, length-append, refl, sym, ap, ◌∙◌, subst, arith}
 use Rattle.std.proofs.Math.Seq.{drop-append_seam, take-append_seam}
+use Rattle.std.proofs.lemmas.List.{length-take-le}
 use Rattle.std.proofs.lemmas.List.Elements.{All-append, All-nil, All-cons}
 use Rattle.std.proofs.lemmas.Str.{IsUtf8-drop, IsCharBoundary-from_rest, IsCharBoundary-start}
 use Rattle.std.specs.Str.{IsUtf8, IsCharBoundary}
@@ -12,7 +13,7 @@ use Rattle.til_lexer.specs.declared.piece.Piece.TheVariants as pieces
 use Rattle.til_lexer.specs.declared.token.Token.{Token}
 use Rattle.til_lexer.specs.declared.token.TokenKind.{TokenKind}
 use Rattle.til_lexer.specs.Pieces.{piece_at}
-use Rattle.til_lexer.specs.Places.{start, place_after, place_past}
+use Rattle.til_lexer.specs.Places.{IsPlaceIn, start, place_after, place_past}
 use Rattle.til_lexer.specs.Slices.{IsTokenOf, TokensAreOfTheText}
 use Rattle.til_lexer.specs.Tokens.{length_of, with_front, tokens_in, tokens_from}
 use Rattle.til_lexer.proofs.PieceCuts.{found_cut}
@@ -121,3 +122,10 @@ law text (byte ∷ bytes) front (suc taken) place tokens at utf8 within boundary
 pub tokens_of-are : TokensAreOfTheText
 tokens_of-are text tokens utf8 same =
     law text text [] 0 start tokens (record { whole = refl; place_is = refl }) utf8 (omega arith) (IsCharBoundary-start text utf8) same
+
+-- a token of a text stands at its place
+pub token-stands : (text : List ℕ) (token : Token) → IsTokenOf text token → IsPlaceIn text token.place
+token-stands text token is =
+    let within = is.begins.0 in
+    let offset : token.place.offset ≡ token.from = ap (λ (p : Place). p.offset) is.place ∙ offset_past start (take token.from text) ∙ omega (arith, length-take-le token.from text within) in
+    is.place ∙ ap (λ (n : ℕ). place_past start (take n text)) (sym offset)

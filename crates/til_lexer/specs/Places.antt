@@ -1,5 +1,5 @@
 -- Where bytes of a text stand. This project's own.
-use Rattle.std.specs.Prelude.{ℕ, ◌+◌, ◌==◌, List, [], ◌∷◌, if◌then◌else◌}
+use Rattle.std.specs.Prelude.{◌≡◌, ℕ, ◌+◌, ◌==◌, List, [], ◌∷◌, take, if◌then◌else◌}
 use Rattle.tydi_base.specs.declared.place.Place.{Place}
 
 -- the place of the first byte of a text
@@ -16,3 +16,7 @@ place_after place byte =
 abbrev pub place_past : Place → List ℕ → Place
 place_past place [] = place
 place_past place (byte ∷ bytes) = place_past (place_after place byte) bytes
+
+-- a place is that of its byte in a text
+abbrev pub IsPlaceIn : List ℕ → Place → Type 0
+IsPlaceIn text place = place ≡ place_past start (take place.offset text)
