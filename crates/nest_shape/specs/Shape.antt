@@ -32,7 +32,7 @@ pub record LeavesOpen (dims : ℕ) (done : List Item) (level : ℕ) : Type 0 whe
   pub nested : IsNested done
   pub open_at : ending_after dims (tail_of done) ≡ ends.Unclosed level
 
--- the series is the one with this flat form, or the fault is that of the items; want of memory says nothing
+-- the fault is that of the items; want of memory says nothing
 abbrev pub IsFaultOf : ℕ → List Item → NestFault → Type 0
 IsFaultOf dims done (faults.BadClose number) = BreaksNesting done number
 IsFaultOf dims done (faults.Unclosed level) = LeavesOpen dims done level

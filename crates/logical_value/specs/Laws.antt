@@ -1,0 +1,24 @@
+-- What holds of all words and values of an element (this project's own).
+use Rattle.std.specs.Prelude.{◌≡◌, ℕ, Bool, List, length, Some}
+use Rattle.logical_types.specs.Tree.{Ltype}
+use Rattle.logical_types.specs.Width.{width_of}
+use Rattle.logical_value.specs.Agreement.{Agrees, IsUnpacked, bad_tag, cleared}
+use Rattle.logical_value.specs.Element.{IsElement, set_apart}
+use Rattle.logical_value.specs.Packed.{pack_of}
+use Rattle.logical_value.specs.Tree.{Tree}
+
+-- the word of a value stands for that value with what stands for its Streams apart
+abbrev pub PackedIsUnpacked : Type 0
+PackedIsUnpacked = (ltype : Ltype) (value : Tree) → IsElement ltype value → IsUnpacked ltype (pack_of ltype value) (set_apart ltype value)
+
+-- the word of a value that a word stands for is that word with its ignored bits zero
+abbrev pub UnpackedIsPacked : Type 0
+UnpackedIsPacked = (ltype : Ltype) (bits : List Bool) (value : Tree) → length bits ≡ width_of ltype → Agrees ltype bits value → pack_of ltype value ≡ cleared ltype bits
+
+-- a word stands for one value at most
+abbrev pub OneValue : Type 0
+OneValue = (ltype : Ltype) (bits : List Bool) (one other : Tree) → IsUnpacked ltype bits one → IsUnpacked ltype bits other → one ≡ other
+
+-- a word with a tag that names no variant, of those that are read, agrees with no value
+abbrev pub BadTagsAgreeWithNone : Type 0
+BadTagsAgreeWithNone = (ltype : Ltype) (bits : List Bool) (names path : List (List ℕ)) (value : Tree) → bad_tag names ltype bits ≡ Some path → Agrees ltype bits value → ⊥

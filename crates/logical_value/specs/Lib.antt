@@ -1,0 +1,6 @@
+pub mod Tree
+pub mod Element
+pub mod Packed
+pub mod Agreement
+pub mod Packing
+pub mod Laws

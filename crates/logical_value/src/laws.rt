@@ -1,0 +1,20 @@
+//! What holds of all words and values of an element.
+
+ghost use Rattle.logical_value.specs.Laws.{BadTagsAgreeWithNone, OneValue, PackedIsUnpacked, UnpackedIsPacked};
+
+/// The word of a value stands for that value with what stands for its Streams apart, and the word of a value that a word stands for is
+/// that word with its ignored bits zero.
+pub fn words_and_values_are_tied()
+    ensures packed { PackedIsUnpacked }
+    ensures unpacked { UnpackedIsPacked }
+{}
+
+/// A word stands for one value at most.
+pub fn words_have_one_value()
+    ensures { OneValue }
+{}
+
+/// A word with a tag that names no variant, of those that are read, stands for no value.
+pub fn bad_tags_stand_for_nothing()
+    ensures { BadTagsAgreeWithNone }
+{}

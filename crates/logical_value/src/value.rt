@@ -1,0 +1,83 @@
+//! A value.
+
+ghost use Rattle.std.specs.Prelude.{◌≡◌, ℕ, Bool, List, MatchOption};
+ghost use Rattle.logical_value.specs.Tree.{Tree, Trees, group, plain, plain_values, union, word};
+
+use tydi_base::{Bits, Boxed, List};
+
+/// A value of a port's type, or of a part of it.
+#[derive(Debug, Drop)]
+pub enum Value {
+    /// The value of a Null.
+    Null,
+    /// The word of a Bits.
+    Word(Bits),
+    /// A value for each field of a Group.
+    Group(List<Value>),
+    /// A value of one variant of a Union, numbered from 0.
+    Union { tag: u32, part: Boxed<Value> },
+    /// A sequence.
+    List(List<Value>),
+    /// What a Stream carries that is told elsewhere.
+    Apart,
+}
+
+/// A value of a port's type: a series for each of its roots.
+#[derive(Debug, Drop)]
+pub struct PortValue {
+    pub roots: List<List<Value>>,
+}
+
+impl Value {
+    /// Its word. None where it is no value of a Bits.
+    pub(crate) fn word(&self) -> Option<&Bits>
+        ensures { MatchOption result ((bits : List Bool) → plain self.now ≡ word bits → ⊥) (λ bits. plain self.now ≡ word bits.now) }
+    {
+        match self {
+            Value::Null => None,
+            Value::Word(bits) => Some(bits),
+            Value::Group(_) => None,
+            Value::Union { .. } => None,
+            Value::List(_) => None,
+            Value::Apart => None,
+        }
+    }
+
+    /// Its fields. None where it is no value of a Group.
+    pub(crate) fn fields(&self) -> Option<&[Value]>
+        ensures { MatchOption result ((parts : Trees) → plain self.now ≡ group parts → ⊥) (λ parts. plain self.now ≡ group (plain_values parts.now)) }
+    {
+        match self {
+            Value::Null => None,
+            Value::Word(_) => None,
+            Value::Group(parts) => Some(parts.as_slice()),
+            Value::Union { .. } => None,
+            Value::List(_) => None,
+            Value::Apart => None,
+        }
+    }
+
+    /// The number of its variant, and its value. None where it is no value of a Union.
+    pub(crate) fn variant(&self) -> Option<Variant<'_>>
+        ensures { MatchOption result ((tag : ℕ) (part : Tree) → plain self.now ≡ union tag part → ⊥) (λ one. plain self.now ≡ union one.tag (plain one.part.now)) }
+    {
+        match self {
+            Value::Null => None,
+            Value::Word(_) => None,
+            Value::Group(_) => None,
+            Value::Union { tag, part } => Some(Variant {
+                tag: *tag,
+                part: part.get(),
+            }),
+            Value::List(_) => None,
+            Value::Apart => None,
+        }
+    }
+}
+
+/// A value of one variant of a Union, numbered from 0.
+#[derive(Clone, Copy, Debug)]
+pub(crate) struct Variant<'v> {
+    pub(crate) tag: u32,
+    pub(crate) part: &'v Value,
+}
