@@ -128,7 +128,8 @@ fn start_rows<K: RowSink>(alloc: Global, sink: &mut K, text: &mut TextRead) -> R
 }
 
 /// Takes the line of a row, or what follows the last one.
-#[inline(always)]
+// All that a row takes is called from here alone, and becomes one function.
+#[inline(never)]
 fn after_row<K: RowSink>(
     alloc: Global,
     sink: &mut K,
