@@ -7,7 +7,7 @@ use Rattle.tydi_base.specs.Decimal.{read_on}
 use Rattle.tydi_base.specs.Frac.{Fraction, IsReduced}
 use Rattle.tydi_base.specs.Level.{IsLevel}
 use Rattle.tydi_base.specs.Name.{is_name}
-use Rattle.tydi_reading.specs.Forms.{◌⋯◌, Optional}
+use Rattle.tydi_reading.specs.Forms.{◌⋯◌, Nothing, Optional}
 use Rattle.tydi_reading.specs.Lists.{Each, EachIs, Separated, LastSeparator, Joined}
 use Rattle.til_lexer.specs.declared.token.TokenKind.{TokenKind}
 use Rattle.til_lexer.specs.declared.token.TokenKind.TheVariants as kinds
