@@ -1,6 +1,6 @@
 -- The grammar of the Tydi Intermediate Language: which tokens spell which tree, by recursion on the tree. It is this project's
 -- own, after the published language. No reader is in it.
-use Rattle.std.specs.Prelude.{◌≡◌, ◌≤◌, ◌<◌, ℕ, Bool, true, false, List, [], ◌∷◌, length, Option, Some, None, IsTrue, Contains, codes}
+use Rattle.std.specs.Prelude.{◌≡◌, ◌≤◌, ◌<◌, ℕ, Bool, true, false, List, [], ◌∷◌, length, Option, IsTrue, Contains, codes}
 use Rattle.std.specs.List.{list_all}
 use Rattle.std.specs.Char.{is_ascii_digit}
 use Rattle.tydi_base.specs.Decimal.{read_on}

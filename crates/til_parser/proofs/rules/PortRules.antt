@@ -1,7 +1,7 @@
 -- The rules of ports.
-use Rattle.std.proofs.Common.{◌≡◌, ℕ, ◌⊎◌, inl, inr, Bool, true, false, List, [], ◌∷◌, ◌++◌, Option, refl, codes}
+use Rattle.std.proofs.Common.{◌≡◌, ℕ, ◌⊎◌, inl, inr, Bool, true, false, List, [], ◌∷◌, ◌++◌, Option, refl}
 use Rattle.tydi_base.specs.Name.{has_name_form}
-use Rattle.tydi_reading.specs.Forms.{Anything, ◌⋯◌}
+use Rattle.tydi_reading.specs.Forms.{Anything}
 use Rattle.tydi_reading.specs.Reading.{tells}
 use Rattle.tydi_reading.specs.Rules.{IsRule}
 use Rattle.tydi_reading.proofs.FilledLemmas.{filled-first, filled-second}
@@ -12,10 +12,9 @@ use Rattle.til_lexer.specs.declared.token.TokenKind.TheVariants as kinds
 use Rattle.til_parser.specs.declared.ltype.AstType.{AstType}
 use Rattle.til_parser.specs.declared.tree.AstName.{AstName}
 use Rattle.til_parser.specs.declared.tree.AstPath.{AstPath}
-use Rattle.til_parser.specs.declared.tree.AstPort.{AstPort}
 use Rattle.til_parser.specs.declared.tree.AstPorts.{AstPorts}
 use Rattle.til_parser.specs.declared.tree.AstPorts.TheVariants as ports
-use Rattle.til_parser.specs.Grammar.{Form, Name, Path, Doc, SpellsPort, SpellsPorts, SpellsStreamletPorts, StreamletWithin, PortsWithin, way_word}
+use Rattle.til_parser.specs.Grammar.{Name, Path, Doc, SpellsPort, SpellsPorts, SpellsStreamletPorts, StreamletWithin, PortsWithin, way_word}
 use Rattle.til_parser.specs.Lexemes.{Lexeme, IsFormed}
 use Rattle.til_parser.specs.Nesting.{PortTo, PortsTo}
 use Rattle.til_parser.specs.Reading.{same_kind, is_kind}

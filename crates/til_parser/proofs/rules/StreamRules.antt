@@ -1,5 +1,5 @@
 -- The rule of the arguments of a Stream.
-use Rattle.std.proofs.Common.{◌≡◌, true, false, List, ◌++◌, Option, Some, None, refl, sym, subst, codes}
+use Rattle.std.proofs.Common.{◌≡◌, true, false, Option, Some, None, refl, sym, subst}
 use Rattle.std.specs.Option.{unwrap_or}
 use Rattle.tydi_reading.specs.Forms.{Anything, ◌⋯◌, Loop, LoopTo}
 use Rattle.tydi_reading.specs.Reading.{Reader, Turn, tells, checked}

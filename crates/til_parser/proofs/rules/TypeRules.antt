@@ -1,5 +1,5 @@
 -- The rule of a type, by that of the types inside it.
-use Rattle.std.proofs.Common.{◌≡◌, ℕ, suc, ◌<◌, ◌≤◌, ◌⊎◌, inl, inr, ⊎_elim, List, [], ◌∷◌, ◌++◌, refl, sym, ap, ◌∙◌, subst, arith, codes}
+use Rattle.std.proofs.Common.{◌≡◌, ℕ, suc, ◌≤◌, ◌⊎◌, inl, inr, ⊎_elim, List, [], ◌∷◌, ◌++◌, refl, sym, ap, ◌∙◌, subst, arith, codes}
 use Rattle.std.proofs.lemmas.List.{append-nil}
 use Rattle.tydi_reading.specs.Forms.{Never, Anything, ◌⋯◌}
 use Rattle.tydi_reading.specs.Lists.{EachIs}
