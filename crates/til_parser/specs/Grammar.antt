@@ -1,14 +1,14 @@
 -- The grammar of the Tydi Intermediate Language: which tokens spell which tree, by recursion on the tree. It is this project's
 -- own, after the published language. No reader is in it.
-use Rattle.std.specs.Prelude.{◌≡◌, ◌≤◌, ◌<◌, ℕ, Bool, true, false, List, [], ◌∷◌, length, Option, Some, None, IsTrue, Contains, codes}
+use Rattle.std.specs.Prelude.{◌≡◌, ◌≤◌, ◌<◌, ℕ, Bool, true, false, List, [], ◌∷◌, length, Option, IsTrue, Contains, codes}
 use Rattle.std.specs.List.{list_all}
 use Rattle.std.specs.Char.{is_ascii_digit}
 use Rattle.tydi_base.specs.Decimal.{read_on}
 use Rattle.tydi_base.specs.Frac.{Fraction, IsReduced}
 use Rattle.tydi_base.specs.Level.{IsLevel}
 use Rattle.tydi_base.specs.Name.{is_name}
-use Rattle.tydi_reading.specs.Forms.{◌⋯◌, Nothing}
-use Rattle.tydi_reading.specs.Lists.{Each, Separated, LastSeparator, Joined}
+use Rattle.tydi_reading.specs.Forms.{◌⋯◌, Nothing, Optional}
+use Rattle.tydi_reading.specs.Lists.{Each, EachIs, Separated, LastSeparator, Joined}
 use Rattle.til_lexer.specs.declared.token.TokenKind.{TokenKind}
 use Rattle.til_lexer.specs.declared.token.TokenKind.TheVariants as kinds
 use Rattle.til_parser.specs.declared.ltype.AstSync.{AstSync}
@@ -97,8 +97,7 @@ Quoted text = One (IsMarked kinds.Quoted text)
 
 -- documentation, if there is any
 abbrev pub Doc : Option (List ℕ) → Form
-Doc None = Nothing
-Doc (Some text) = One (IsMarked kinds.Doc text)
+Doc = Optional (λ text. One (IsMarked kinds.Doc text))
 
 -- ---- lists
 
@@ -227,8 +226,7 @@ SpellsPorts all = Bracketed (Commas SpellsPort all)
 
 -- a second name after a point, if there is any
 abbrev pub Second : Option AstName → Form
-Second None = Nothing
-Second (Some name) = Of kinds.Point ⋯ Name name
+Second = Optional (λ name. Of kinds.Point ⋯ Name name)
 
 -- tokens spell an end of a link: one name, or two with a point between
 abbrev pub SpellsEnd : AstEnd → Form
@@ -279,8 +277,7 @@ pub record Spells (ast : Ast) (ts : List Lexeme) : Type 0 where
 
 -- the types of ports nest no deeper than so many levels
 abbrev pub PortsWithin : ℕ → List AstPort → Type 0
-PortsWithin levels [] = Unit {0}
-PortsWithin levels (port ∷ more) = (depth (plain port.ltype) ≤ levels) × PortsWithin levels more
+PortsWithin levels = EachIs (λ port. depth (plain port.ltype) ≤ levels)
 
 -- the types of a streamlet's own ports nest no deeper than so many levels
 abbrev pub StreamletWithin : ℕ → AstPorts → Type 0
@@ -297,13 +294,11 @@ KindWithin levels (decls.Test target port value plan) = Unit {0}
 
 -- the types of declarations nest no deeper than so many levels
 abbrev pub DeclsWithin : ℕ → List AstDecl → Type 0
-DeclsWithin levels [] = Unit {0}
-DeclsWithin levels (decl ∷ more) = KindWithin levels decl.kind × DeclsWithin levels more
+DeclsWithin levels = EachIs (λ decl. KindWithin levels decl.kind)
 
 -- the types of namespaces nest no deeper than so many levels
 abbrev pub NamespacesWithin : ℕ → List AstNamespace → Type 0
-NamespacesWithin levels [] = Unit {0}
-NamespacesWithin levels (namespace ∷ more) = DeclsWithin levels namespace.decls × NamespacesWithin levels more
+NamespacesWithin levels = EachIs (λ namespace. DeclsWithin levels namespace.decls)
 
 -- no type of the project nests deeper than so many levels
 abbrev pub IsWithin : ℕ → Ast → Type 0

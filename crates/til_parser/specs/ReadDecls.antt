@@ -20,7 +20,7 @@ use Rattle.til_parser.specs.declared.tree.AstPorts.TheVariants as ports
 use Rattle.til_parser.specs.declared.tree.AstStmt.{AstStmt}
 use Rattle.til_parser.specs.declared.tree.AstStmt.TheVariants as stmts
 use Rattle.tydi_reading.specs.Lists.{repeated}
-use Rattle.tydi_reading.specs.Reading.{◌>>=◌, ◌>>◌, ◌<$>◌, ◌<&>◌, ◌<<◌, pure, choose, checked}
+use Rattle.tydi_reading.specs.Reading.{◌>>=◌, ◌>>◌, ◌<$>◌, ◌<&>◌, ◌<<◌, choose, optional, checked}
 use Rattle.til_parser.specs.Reading.{Reader, is_kind, expect, expect_word, token}
 use Rattle.til_parser.specs.Words.{keyword_of}
 use Rattle.til_parser.specs.ReadTypes.{name, path, quoted, doc, either_word, bracketed, ltype}
@@ -35,7 +35,7 @@ braced item = expect kinds.OpenBrace >> (repeated (is_kind kinds.CloseBrace) fal
 
 -- the second name of an end, after its point
 unfoldable pub second : Reader (Option AstName)
-second = choose (is_kind kinds.Point) false (Some <$> (expect kinds.Point >> name)) (pure None)
+second = optional (is_kind kinds.Point) (expect kinds.Point >> name)
 
 -- an end of a link
 unfoldable pub end : Reader AstEnd

@@ -1,5 +1,5 @@
 -- A small text, read by rules that are made of rules: digits with commas between them, in brackets, as `(1,2)`. Nothing cites it.
-use Rattle.std.proofs.Common.{◌≡◌, ℕ, ◌==◌, ◌+◌, ◌<◌, Bool, true, false, cond, List, [], ◌∷◌, ◌++◌, All, length, Option, Some, None, refl, sym, ap, ◌∙◌, arith}
+use Rattle.std.proofs.Common.{◌≡◌, ℕ, ◌==◌, ◌+◌, Bool, true, false, cond, List, [], ◌∷◌, All, length, Option, Some, None, refl, sym, ap, ◌∙◌, arith}
 use Rattle.std.specs.Char.{is_ascii_digit}
 use Rattle.std.proofs.lemmas.Bool.Decides.{nat_tests}
 use Rattle.std.proofs.lemmas.Option.{cond_some}
@@ -10,8 +10,8 @@ use Rattle.tydi_reading.specs.Lists.{EachIs, Separated, SeparatedTo, mark, separ
 use Rattle.tydi_reading.specs.Reading.{Reader, stopped, leaf, tells, ◌>>◌, ◌<<◌}
 use Rattle.tydi_reading.specs.Rules.{IsRule}
 use Rattle.tydi_reading.proofs.ExactLemmas.{refused-exact}
-use Rattle.tydi_reading.proofs.MarkLemmas.{IsMark, mark-rule}
-use Rattle.tydi_reading.proofs.MarkRules.{skip-rule, close-rule}
+use Rattle.tydi_reading.proofs.MarkLemmas.{IsMark}
+use Rattle.tydi_reading.proofs.Rule.{Mark, as_rule, skip, close, mark-tells}
 use Rattle.tydi_reading.proofs.SeparatedRule.{Between, separated-rule}
 use Rattle.tydi_reading.proofs.StepRules.{leaf-rule}
 
@@ -51,6 +51,9 @@ byte-mark b = record {
   back = λ ts s. (b, s, grind (arith, nat_tests));
 }
 
+abbrev byte : ℕ → Mark Good
+byte b = record { test = is b; Spelled = Byte b; is = byte-mark b }
+
 digit-rule : IsRule Good (leaf digit_of) Digit (λ _. Anything) (λ _. Unit {0}) Never
 digit-rule = leaf-rule Good digit_of Digit 48 48 tt refl (record {
   there = λ x t means. let both = cond_some (is_ascii_digit t) t x means in (ap (λ y. y ∷ []) both.1, ap is_ascii_digit (sym both.1) ∙ both.0);
@@ -80,15 +83,10 @@ between = record {
     apart [] stop = absurd cc
     apart (t ∷ rest) stop = let same : t ≡ 41 = grind (arith, nat_tests) in rw same refl
 
-closes : (back rest : List ℕ) → Byte 41 back → tells (is 41) false (back ++ rest) ≡ true
-closes back rest s = rw s refl
-
 pub digits-rule : IsRule Good digits Digits (λ _. Anything) (EachIs (λ _. Unit {0})) (Byte 40 ⋯ SeparatedTo (Byte 44) Digit Never)
 digits-rule =
-    skip-rule Good (mark (is 40)) _ (Byte 40) (λ x. Separated (Byte 44) Digit x ⋯ Byte 41) (λ _. Anything) (EachIs (λ _. Unit {0})) _ (mark-rule Good (is 40) (Byte 40) (byte-mark 40))
-    (close-rule Good _ (mark (is 41)) (Separated (Byte 44) Digit) (λ _ rest. tells (is 41) false rest ≡ true) (EachIs (λ _. Unit {0})) _ (Byte 41) (λ x back rest s. closes back rest s)
-    (separated-rule Good (is 41) false (is 44) (Byte 44) (leaf digit_of) Digit Anything (λ _. Unit {0}) Never between digit-rule)
-    (mark-rule Good (is 41) (Byte 41) (byte-mark 41)))
+    (skip (byte 40) (close (as_rule (separated-rule Good (is 41) false (is 44) (Byte 44) (leaf digit_of) Digit Anything (λ _. Unit {0}) Never between digit-rule)) (byte 41)
+    (λ x. mark-tells (byte 41)))).is
 
 -- so a byte at which reading stops is the first with which no such text goes on
 pub digits-exact : (ts after : List ℕ) (t : ℕ) → All Good ts → digits ts ≡ stopped faults.Refused (t ∷ after) → (k : ℕ) → k + length (t ∷ after) ≡ length ts

@@ -2,7 +2,7 @@
 use Rattle.std.proofs.Common.{◌≡◌, ◌⊎◌, inl, inr, Bool, true, false, List, [], ◌∷◌, ◌++◌, Option, Some, None, refl, sym, ap, ◌∙◌, append_assoc}
 use Rattle.std.specs.Option.{is_some}
 use Rattle.tydi_reading.specs.Forms.{Form, ◌⋯◌, Never, Anything}
-use Rattle.tydi_reading.specs.Reading.{Outcome, Reader, ◌>>=◌, and_then, meant, leaf, choose, tells, led_by, led}
+use Rattle.tydi_reading.specs.Reading.{Reader, ◌>>=◌, and_then, meant, leaf, choose, tells, led_by, led}
 use Rattle.tydi_reading.specs.Rules.{IsRule}
 use Rattle.tydi_reading.proofs.ChoiceRules.{chosen, choose-rule}
 use Rattle.tydi_reading.proofs.StepRules.{then-rule, read-rule}

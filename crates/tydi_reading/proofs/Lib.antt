@@ -12,5 +12,7 @@ pub mod SeparatedRule
 pub mod JoinedRule
 pub mod CheckedRule
 pub mod FilledLemmas
+pub mod FormLemmas
 pub mod LedRule
+pub mod Rule
 pub mod Example

@@ -2,7 +2,7 @@
 use Rattle.std.proofs.Common.{◌≡◌, ℕ, zero, suc, ◌<◌, ◌⊎◌, inl, inr, ⊎_elim, Bool, true, false, List, [], ◌∷◌, ◌++◌, length, refl, sym, ap, ◌∙◌, subst, append_assoc}
 use Rattle.std.proofs.lemmas.List.{append-nil}
 use Rattle.std.proofs.lemmas.List.Elements.{All-nil}
-use Rattle.tydi_reading.specs.Forms.{Form, ◌⋯◌, Never, Anything, Runs, Loop, RunsTo, LoopTo}
+use Rattle.tydi_reading.specs.Forms.{Form, Never, Anything, Runs, Loop, RunsTo, LoopTo}
 use Rattle.tydi_reading.specs.Lists.{Each, EachTo, EachIs, repeated_turn, repeated}
 use Rattle.tydi_reading.specs.Reading.{Reader, Turn, again, done, tells, pure, ◌<$>◌, loop}
 use Rattle.tydi_reading.specs.Rules.{IsRule}

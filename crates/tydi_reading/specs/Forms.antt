@@ -1,5 +1,5 @@
 -- Which lists of things have a form. No reader is in it. This project's own.
-use Rattle.std.specs.Prelude.{◌≡◌, ℕ, zero, suc, ◌⊎◌, List, [], ◌∷◌, ◌++◌, All, Option, Some}
+use Rattle.std.specs.Prelude.{◌≡◌, ℕ, zero, suc, ◌⊎◌, List, [], ◌∷◌, ◌++◌, All, Option, Some, None}
 use Rattle.tydi_reading.specs.Reading.{Turn, again, done}
 
 -- which lists have a form
@@ -32,6 +32,11 @@ pub record One {T A : Type 0} (meaning : T → Option A) (x : A) (ts : List T) :
   pub thing : T
   pub all : ts ≡ thing ∷ []
   pub is : meaning thing ≡ Some x
+
+-- the form of a value, or nothing where there is none
+abbrev pub Optional : {T A : Type 0} → (A → Form T) → Option A → Form T
+Optional Spelled None = Nothing
+Optional Spelled (Some x) = Spelled x
 
 -- turns of a loop up to where this form follows, so many at most
 abbrev pub RunsTo : {T S : Type 0} → (S → Turn S → Form T) → (S → Form T) → ℕ → S → Form T

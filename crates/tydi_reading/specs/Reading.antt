@@ -105,6 +105,10 @@ p << q = p >>= (λ x. (λ _. x) <$> q)
 abbrev pub choose : {T A : Type 0} → (T → Bool) → Bool → Reader T A → Reader T A → Reader T A
 choose test last p q = λ ts. (if tells test last ts then p else q) ts
 
+-- what is read where a test of the next thing holds
+abbrev pub optional : {T A : Type 0} → (T → Bool) → Reader T A → Reader T (Option A)
+optional test p = choose test false (Some <$> p) (pure None)
+
 -- the next thing, which is to have a meaning
 abbrev pub meant : {T A : Type 0} → Option A → List T → List T → Outcome T A
 meant (Some x) rest all = took x rest

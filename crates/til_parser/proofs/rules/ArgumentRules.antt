@@ -6,21 +6,21 @@ use Rattle.tydi_reading.specs.declared.fault.Fault.TheVariants as faults
 use Rattle.tydi_reading.specs.Forms.{Never, Anything, ◌⋯◌}
 use Rattle.tydi_reading.specs.Reading.{stopped, Reader, and_then, meant, leaf, refuse, ◌>>=◌, ◌>>◌, ◌<$>◌}
 use Rattle.tydi_reading.specs.Rules.{IsRule}
-use Rattle.tydi_reading.proofs.MarkRules.{skip-rule}
-use Rattle.tydi_reading.proofs.StepRules.{then-rule, map-rule, read-rule, same-rule}
+use Rattle.tydi_reading.proofs.Rule.{as_rule, as_flat, narrowed, skip, made-rule}
+use Rattle.tydi_reading.proofs.StepRules.{then-rule, read-rule}
 use Rattle.tydi_reading.proofs.StepsRule.{IsStuck}
 use Rattle.til_lexer.specs.declared.token.TokenKind.TheVariants as kinds
 use Rattle.til_parser.specs.declared.arguments.Arguments.{Arguments}
 use Rattle.til_parser.specs.declared.ltype.AstType.{AstType}
-use Rattle.til_parser.specs.Grammar.{Form, Of, Word, Whole, Number, Level, sync_word, direction_word, truth_word}
+use Rattle.til_parser.specs.Grammar.{Form, Of, Word, direction_word, truth_word}
 use Rattle.til_parser.specs.Grammar.{Argument, data_type, throughput, dimensionality, synchronicity, complexity, direction, user_type, keep}
 use Rattle.til_parser.specs.Lexemes.{Lexeme, IsFormed}
 use Rattle.til_parser.specs.Reading.{expect}
-use Rattle.til_parser.specs.ReadTypes.{whole, number, level, sync, either_word, labelled, setting, argument}
+use Rattle.til_parser.specs.ReadTypes.{labelled, setting, argument}
 use Rattle.til_parser.specs.Tree.{plain}
 use Rattle.til_parser.proofs.rules.ArgumentFields.{Value, field, put, field-put, field-put_other, one_or_two}
-use Rattle.til_parser.proofs.rules.LeafRules.{PathNext, number-rule, whole-rule, level-rule, sync-rule, either-rule}
-use Rattle.til_parser.proofs.rules.TokenRules.{one, kind-rule}
+use Rattle.til_parser.proofs.rules.LeafRules.{PathNext, number-rule, whole-rule, level-rule, sync-rule, either_word-rule}
+use Rattle.til_parser.proofs.rules.TokenRules.{colon}
 use Rattle.til_parser.proofs.rules.AwaitedRules.{word, value_reader, Spelled, Named, is_awaited, awaited, Awaited, awaited-there, name-rule}
 
 -- ---- an argument
@@ -112,9 +112,9 @@ module _ (inner : Reader Lexeme AstType) (W : AstType → Type 0) (D : Form) (ru
   ValueDeep user_type = D
   ValueDeep keep = Never
 
-  no_type : {A : Type 0} (p : Reader Lexeme A) (P : A → Form) → IsRule IsFormed p P (λ _. Anything) (λ _. Unit {0}) Never → IsRule IsFormed p P (λ _. PathNext) (λ _. Unit {0}) Never
-  no_type p P one = same-rule IsFormed p P (λ _. Anything) (λ _. Unit {0}) Never P (λ _. PathNext) (λ _. Unit {0}) Never
-      (record { there = λ x ts s. s; back = λ x ts s. s; follow = λ x rest next. tt; within = λ x w. w; apart = λ x w. w; first = λ ts d. d; deep = λ ts d. d }) one
+  -- a value that holds no type
+  no_type : {A : Type 0} {p : Reader Lexeme A} {P : A → Form} → IsRule IsFormed p P (λ _. Anything) (λ _. Unit {0}) Never → IsRule IsFormed p P (λ _. PathNext) (λ _. Unit {0}) Never
+  no_type one = narrowed (as_flat one) (λ _. PathNext) (λ x rest next. tt)
 
   direction_formed : (b : Bool) → Rattle.tydi_base.specs.Name.has_name_form (direction_word b) ≡ true
   direction_formed true = refl
@@ -126,13 +126,13 @@ module _ (inner : Reader Lexeme AstType) (W : AstType → Type 0) (D : Form) (ru
 
   value-rule : (a : Argument) → IsRule IsFormed (value_reader inner a) (Spelled S a) (λ _. PathNext) (ValueWithin a) (ValueDeep a)
   value-rule data_type = rule
-  value-rule throughput = no_type number Number number-rule
-  value-rule dimensionality = no_type whole Whole whole-rule
-  value-rule synchronicity = no_type sync (λ x. Word (sync_word x)) sync-rule
-  value-rule complexity = no_type level Level level-rule
-  value-rule direction = no_type (either_word (codes "Reverse") (codes "Forward")) (λ b. Word (direction_word b)) (either-rule direction_word direction_formed refl)
+  value-rule throughput = no_type number-rule
+  value-rule dimensionality = no_type whole-rule
+  value-rule synchronicity = no_type sync-rule
+  value-rule complexity = no_type level-rule
+  value-rule direction = no_type (either_word-rule direction_word direction_formed refl)
   value-rule user_type = rule
-  value-rule keep = no_type (either_word (codes "true") (codes "false")) (λ b. Word (truth_word b)) (either-rule truth_word truth_formed refl)
+  value-rule keep = no_type (either_word-rule truth_word truth_formed refl)
 
   -- a value that is given is within its bounds
   abbrev pub In : (a : Argument) → Option (Value a) → Type 0
@@ -164,19 +164,8 @@ module _ (inner : Reader Lexeme AstType) (W : AstType → Type 0) (D : Form) (ru
       → IsRule IsFormed (rest_reader inner given a) (Rest given a) (λ _. PathNext) (λ next. In a (field a next)) (Of kinds.Colon ⋯ ValueDeep a)
   unfolding Rest
   rest-rule given a =
-      map-rule IsFormed (λ x. put a x given) (expect kinds.Colon >> value_reader inner a) (λ x. Of kinds.Colon ⋯ Spelled S a x) (λ _. PathNext) (ValueWithin a) (Of kinds.Colon ⋯ ValueDeep a)
-      (Rest given a) (λ _. PathNext) (λ next. In a (field a next)) (Of kinds.Colon ⋯ ValueDeep a)
-      (record {
-        there = λ x ts s. (x, refl, s);
-        back = λ next ts s. s;
-        follow = λ x rest next. next;
-        within = λ x w. subst (In a) (sym (field-put a x given)) w;
-        apart = λ x w. subst (In a) (field-put a x given) w;
-        first = λ ts d. d;
-        deep = λ ts d. d;
-      })
-      (skip-rule IsFormed (expect kinds.Colon) (value_reader inner a) (Of kinds.Colon) (Spelled S a) (λ _. PathNext) (ValueWithin a) (ValueDeep a)
-      (kind-rule kinds.Colon (codes ":") refl) (value-rule a))
+      made-rule (λ x. put a x given) (skip colon (as_rule (value-rule a))) (λ _. PathNext) (λ next. In a (field a next)) (λ x rest next. next)
+      (λ x w. subst (In a) (sym (field-put a x given)) w) (λ x w. subst (In a) (field-put a x given) w)
 
   added-within : (given next : Arguments) (a : Argument) (x : Value a) → next ≡ put a x given → In a (field a next) → StepWithin given next
   added-within given next a x added inside b none = elim (one_or_two a b) [

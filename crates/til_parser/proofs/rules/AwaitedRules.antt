@@ -13,7 +13,7 @@ use Rattle.til_parser.specs.Grammar.{Form, Of, IsWord, Word, Whole, Number, Leve
 use Rattle.til_parser.specs.Grammar.{Argument, data_type, throughput, dimensionality, synchronicity, complexity, direction, user_type, keep}
 use Rattle.til_parser.specs.Lexemes.{Lexeme, IsFormed}
 use Rattle.til_parser.specs.Reading.{same_kind, is_word}
-use Rattle.til_parser.specs.ReadTypes.{whole, number, level, sync, either_word, argument}
+use Rattle.til_parser.specs.ReadTypes.{whole, number, level, sync, either_word}
 use Rattle.til_parser.proofs.rules.ArgumentFields.{Value, field}
 use Rattle.til_parser.proofs.rules.TokenRules.{both, made, word_is, one}
 

@@ -1,5 +1,5 @@
 -- The rules of names, numbers, marked texts, documentation and paths.
-use Rattle.std.proofs.Common.{◌≡◌, ℕ, suc, ◌+◌, ◌^◌, ◌<◌, ◌≤◌, nat_lt, Bool, true, false, cond, ◌&&◌, ◌⊎◌, ⊎_elim, List, [], ◌∷◌, ◌++◌, length}
+use Rattle.std.proofs.Common.{◌≡◌, ℕ, suc, ◌+◌, ◌^◌, ◌<◌, ◌≤◌, nat_lt, Bool, true, false, cond, ◌&&◌, ◌⊎◌, List, [], ◌∷◌, ◌++◌, length}
 use Rattle.std.proofs.Common.{drop, Option, Some, None, option_and_then, inl, inr, refl, sym, ap, ◌∙◌, subst, bytes_eq, arith, codes, length-append}
 use Rattle.std.specs.Prelude.{not}
 use Rattle.std.specs.Char.{is_ascii_digit}
@@ -15,16 +15,18 @@ use Rattle.tydi_base.specs.Level.{IsLevel}
 use Rattle.tydi_base.specs.Name.{is_name, name_of, has_name_form}
 use Rattle.tydi_base.specs.declared.place.Place.{Place}
 use Rattle.tydi_base.proofs.DecimalLaws.{own}
-use Rattle.tydi_reading.specs.Forms.{Never, Anything}
-use Rattle.tydi_reading.specs.Lists.{joined}
-use Rattle.tydi_reading.specs.Reading.{Reader, tells, choose, pure, ◌<$>◌, and_then, meant}
+use Rattle.tydi_reading.specs.Forms.{Never, Anything, ◌⋯◌}
+use Rattle.tydi_reading.specs.Reading.{Reader, tells, optional, pure, ◌<$>◌, and_then, meant}
 use Rattle.tydi_reading.specs.Rules.{IsRule}
-use Rattle.tydi_reading.proofs.ChoiceRules.{choose-rule, chosen}
+use Rattle.tydi_reading.proofs.ChoiceRules.{chosen}
 use Rattle.tydi_reading.proofs.JoinedRule.{joined-rule}
-use Rattle.tydi_reading.proofs.StepRules.{Only, pure-rule, map-rule, read-rule, same-rule}
+use Rattle.tydi_reading.proofs.FormLemmas.{front-tells}
+use Rattle.tydi_reading.proofs.Rule.{as_rule, as_flat, of_flat, of_mark, mapped, Made, either-rule, optional-rule, mark-tells}
+use Rattle.tydi_reading.proofs.StepRules.{read-rule}
 use Rattle.til_lexer.specs.Spelling.{HasForm, IsWholeNumber, IsPointNumber, IsBetween}
 use Rattle.til_lexer.specs.Spans.{digits_at}
 use Rattle.til_lexer.specs.Places.{start}
+use Rattle.til_lexer.specs.declared.token.TokenKind.{TokenKind}
 use Rattle.til_lexer.specs.declared.token.TokenKind.TheVariants as kinds
 use Rattle.til_parser.specs.declared.ltype.AstSync.{AstSync}
 use Rattle.til_parser.specs.declared.ltype.AstSync.TheVariants as syncs
@@ -34,10 +36,10 @@ use Rattle.til_parser.specs.Grammar.{Form, One, Of, Word, IsNamed, Name, IsWhole
 use Rattle.til_parser.specs.Lexemes.{Lexeme, IsFormed, between_marks}
 use Rattle.til_parser.specs.Numbers.{whole_of, numerator_of, denominator_of, lowest}
 use Rattle.til_parser.specs.ReadTypes.{name_at, name, whole, number, level_of, level, quoted, doc_of, doc, path, either_word, sync}
-use Rattle.til_parser.specs.Reading.{same_kind, is_kind, is_word, expect_word, token}
+use Rattle.til_parser.specs.Reading.{same_kind, is_kind, is_word, token}
 use Rattle.til_parser.specs.Words.{sync_of}
 use Rattle.til_parser.proofs.numbers.FractionLemmas.{IsReduced-lowest, lowest_from_IsReduced}
-use Rattle.til_parser.proofs.rules.TokenRules.{both, one, made, same_kind-is, is_word-is, kind-mark, word-rule, IsToken, token-rule, word_entry, word_token, Word-not_word}
+use Rattle.til_parser.proofs.rules.TokenRules.{both, one, made, same_kind-is, kind-mark, word_mark, IsToken, token-rule, word_entry, word_token, Word-not_word}
 
 -- ---- names
 
@@ -62,6 +64,16 @@ name_token = record {
 pub name-rule : IsRule IsFormed name Name (λ _. Anything) (λ _. Unit {0}) Never
 name-rule = token-rule kinds.Word (λ place spelling. name_at place (name_of spelling)) Name name_token (made kinds.Word (codes "a"))
     (record { name = codes "a"; place = start }) refl refl refl
+
+pub Name-filled : (x : AstName) (ts : List Lexeme) → Name x ts → 0 < length ts
+Name-filled x ts s = let size = ap length s.all in omega arith
+
+pub Name-not : (x : AstName) (kind : TokenKind) → same_kind kinds.Word kind ≡ false → (front rest : List Lexeme) → Name x front → tells (is_kind kind) false (front ++ rest) ≡ false
+Name-not x kind apart front rest s = rw (s.all, s.is.kind) apart
+
+pub Name-starts : (x : AstName) (kind : TokenKind) → same_kind kinds.Word kind ≡ false → (Second : Form) (front rest : List Lexeme) → (Name x ⋯ Second) front
+    → tells (is_kind kind) false (front ++ rest) ≡ false
+Name-starts x kind apart Second front rest = front-tells (is_kind kind) false (Name x) Second front rest (Name-not x kind apart)
 
 -- ---- whole numbers
 
@@ -217,11 +229,11 @@ told-rule : IsRule IsFormed (token kinds.Doc (λ place spelling. Some (between_m
 told-rule = token-rule kinds.Doc (λ place spelling. Some (between_marks spelling)) (λ text. One (IsMarked kinds.Doc text)) doc_token
     (made kinds.Doc (35 ∷ 35 ∷ [])) (between_marks (35 ∷ 35 ∷ [])) (empty_between 35) refl refl
 
-doc_shape : Reader Lexeme (Option (List ℕ))
-doc_shape = choose (is_kind kinds.Doc) false (Some <$> token kinds.Doc (λ place spelling. Some (between_marks spelling))) (pure None)
+abbrev doc_shape : Reader Lexeme (Option (List ℕ))
+doc_shape = optional (is_kind kinds.Doc) (token kinds.Doc (λ place spelling. Some (between_marks spelling)))
 
 doc_same : (ts : List Lexeme) → doc_shape ts ≡ doc ts
-unfolding doc_shape doc token
+unfolding doc token
 doc_same [] = refl
 doc_same (lexeme ∷ ts) = by_test (same_kind lexeme.kind kinds.Doc) refl
   where
@@ -232,121 +244,43 @@ doc_same (lexeme ∷ ts) = by_test (same_kind lexeme.kind kinds.Doc) refl
     by_test false is = chosen (is_kind kinds.Doc) false (Some <$> token kinds.Doc (λ place spelling. Some (between_marks spelling))) (pure None) (lexeme ∷ ts) false is
         ∙ ap (λ b. doc_of (cond b (Some (lexeme.place, lexeme.spelling)) None) (lexeme ∷ ts)) (sym is)
 
-Told : Option (List ℕ) → Form
-Told x ts = (text : List ℕ) × (x ≡ Some text) × One (IsMarked kinds.Doc text) ts
-
-doc_of_told : (x : Option (List ℕ)) (ts : List Lexeme) → Told x ts → Doc x ts
-unfolding Told
-doc_of_told x ts s = subst (λ o. Doc o ts) (sym s.1) s.2
-
-doc_of_none : (x : Option (List ℕ)) (ts : List Lexeme) → Only None x ts → Doc x ts
-doc_of_none x ts s = subst (λ o. Doc o ts) (sym s.0) s.1
-
-which_doc : (x : Option (List ℕ)) (ts : List Lexeme) → Doc x ts → Told x ts ⊎ Only None x ts
-unfolding Told
-which_doc None ts s = inr (refl, s)
-which_doc (Some text) ts s = inl (text, refl, s)
-
 pub doc-rule : IsRule IsFormed doc Doc (λ _. NoDoc) (λ _. Unit {0}) Never
-unfolding Told doc_shape
 doc-rule =
     read-rule IsFormed doc_shape doc Doc (λ _. NoDoc) (λ _. Unit {0}) Never doc_same
-    (choose-rule IsFormed (is_kind kinds.Doc) false (Some <$> token kinds.Doc (λ place spelling. Some (between_marks spelling))) (pure None)
-    Told (λ _. Anything) Never (Only None) (λ _. Anything) Never Doc (λ _. NoDoc) (λ _. Unit {0}) Never
-    (record {
-      one = doc_of_told;
-      other = doc_of_none;
-      which = which_doc;
-      one_next = λ x front rest s next. tt;
-      other_next = λ x front rest s next. tt;
-      one_begins = λ x front rest s next. rw (s.2.all) (same_kind-is s.2.lexeme.kind kinds.Doc s.2.is.kind_is);
-      other_begins = λ x front rest s next. rw (s.1) next;
-      one_deep = λ ts d. d;
-      other_deep = λ ts d. d;
-      which_deep = λ ts d. absurd d;
-      one_deep_begins = λ front rest d. absurd d;
-      other_deep_begins = λ front rest d. absurd d;
-    })
-    (map-rule IsFormed Some (token kinds.Doc (λ place spelling. Some (between_marks spelling))) (λ text. One (IsMarked kinds.Doc text)) (λ _. Anything) (λ _. Unit {0}) Never
-    Told (λ _. Anything) (λ _. Unit {0}) Never
-    (record {
-      there = λ x ts s. (x, refl, s);
-      back = λ y ts s. s;
-      follow = λ x rest next. tt;
-      within = λ x w. tt;
-      apart = λ x w. tt;
-      first = λ ts d. d;
-      deep = λ ts d. d;
-    })
-    told-rule)
-    (pure-rule IsFormed (λ _. Unit {0}) None tt))
+    (optional-rule (is_kind kinds.Doc) (as_flat told-rule) (λ text front rest s. rw (s.all) (same_kind-is s.lexeme.kind kinds.Doc s.is.kind_is)) (λ text rest. tt))
 
--- ---- one of some words
+-- after documentation, if there is any, what follows it tells of another kind
+pub doc_tells : (d : Option (List ℕ)) (kind : TokenKind) (Second : Form) (front rest : List Lexeme) → same_kind kinds.Doc kind ≡ false
+    → ((front rest : List Lexeme) → Second front → tells (is_kind kind) false (front ++ rest) ≡ false) → (Doc d ⋯ Second) front → tells (is_kind kind) false (front ++ rest) ≡ false
+doc_tells None kind Second front rest apart second s = rw (s.all, s.begins) (second s.back rest s.ends)
+doc_tells (Some text) kind Second front rest apart second s =
+    front-tells (is_kind kind) false (Doc (Some text)) Second front rest (λ f r o. rw (o.all, o.is.kind_is) apart) s
 
--- this word, which says this
-abbrev pub Fixed : {A : Type 0} → A → List ℕ → A → Form
-Fixed x word y ts = (y ≡ x) × Word word ts
-
-pub fixed-rule : {A : Type 0} (x : A) (word : List ℕ) → has_name_form word ≡ true
-    → IsRule IsFormed ((λ _. x) <$> expect_word word) (Fixed x word) (λ _. Anything) (λ _. Unit {0}) Never
-fixed-rule x word form =
-    map-rule IsFormed (λ _. x) (expect_word word) (λ _. Word word) (λ _. Anything) (λ _. Unit {0}) Never (Fixed x word) (λ _. Anything) (λ _. Unit {0}) Never
-    (record {
-      there = λ u ts s. (refl, s);
-      back = λ y ts s. (tt, s.0, s.1);
-      follow = λ u rest next. tt;
-      within = λ u w. tt;
-      apart = λ u w. tt;
-      first = λ ts d. d;
-      deep = λ ts d. d;
-    })
-    (word-rule word form)
-
--- this word, or what another rule reads
-pub word_or-rule : {A : Type 0} (x : A) (word : List ℕ) (q : Reader Lexeme A) (Other : A → Form) → has_name_form word ≡ true
-    → ((y : A) (front rest : List Lexeme) → Other y front → tells (is_word word) false (front ++ rest) ≡ false)
-    → IsRule IsFormed q Other (λ _. Anything) (λ _. Unit {0}) Never
-    → IsRule IsFormed (choose (is_word word) false ((λ _. x) <$> expect_word word) q) (λ y ts. Fixed x word y ts ⊎ Other y ts) (λ _. Anything) (λ _. Unit {0}) Never
-word_or-rule {A} x word q Other form apart rule =
-    choose-rule IsFormed (is_word word) false ((λ _. x) <$> expect_word word) q (Fixed x word) (λ _. Anything) Never Other (λ _. Anything) Never
-    (λ y ts. Fixed x word y ts ⊎ Other y ts) (λ _. Anything) (λ _. Unit {0}) Never
-    (record {
-      one = λ y ts s. inl s;
-      other = λ y ts s. inr s;
-      which = λ y ts s. s;
-      one_next = λ y front rest s next. tt;
-      other_next = λ y front rest s next. tt;
-      one_begins = λ y front rest s next. rw (s.1.all) (is_word-is word s.1.lexeme s.1.is);
-      other_begins = λ y front rest s next. apart y front rest s;
-      one_deep = λ ts d. d;
-      other_deep = λ ts d. d;
-      which_deep = λ ts d. absurd d;
-      one_deep_begins = λ front rest d. absurd d;
-      other_deep_begins = λ front rest d. absurd d;
-    })
-    (fixed-rule x word form) rule
-
--- the same tokens under another form
-pub plain-same : {A : Type 0} (p : Reader Lexeme A) (One Other : A → Form) → ((x : A) (ts : List Lexeme) → One x ts → Other x ts) → ((x : A) (ts : List Lexeme) → Other x ts → One x ts)
-    → IsRule IsFormed p One (λ _. Anything) (λ _. Unit {0}) Never → IsRule IsFormed p Other (λ _. Anything) (λ _. Unit {0}) Never
-plain-same p One Other there back =
-    same-rule IsFormed p One (λ _. Anything) (λ _. Unit {0}) Never Other (λ _. Anything) (λ _. Unit {0}) Never
-    (record { there = there; back = back; follow = λ x rest next. tt; within = λ x w. tt; apart = λ x w. tt; first = λ ts d. d; deep = λ ts d. d })
+-- ---- one of two words, and of some
 
 module _ (word : Bool → List ℕ) (form : (b : Bool) → has_name_form (word b) ≡ true) (apart : bytes_eq (word false) (word true) ≡ false) where
-  either_of : (b : Bool) (ts : List Lexeme) → Word (word b) ts → Fixed true (word true) b ts ⊎ Fixed false (word false) b ts
-  either_of true ts s = inl (refl, s)
-  either_of false ts s = inr (refl, s)
+  which_word : (b : Bool) (ts : List Lexeme) → Word (word b) ts → Made (λ (u : Unit {0}). true) (λ _. Word (word true)) b ts ⊎ Made (λ (u : Unit {0}). false) (λ _. Word (word false)) b ts
+  which_word true ts s = inl (tt, refl, s)
+  which_word false ts s = inr (tt, refl, s)
 
-  pub either-rule : IsRule IsFormed (either_word (word true) (word false)) (λ b. Word (word b)) (λ _. Anything) (λ _. Unit {0}) Never
+  pub either_word-rule : IsRule IsFormed (either_word (word true) (word false)) (λ b. Word (word b)) (λ _. Anything) (λ _. Unit {0}) Never
   unfolding either_word
-  either-rule =
-      plain-same (choose (is_word (word true)) false ((λ _. true) <$> expect_word (word true)) ((λ _. false) <$> expect_word (word false)))
-      (λ b ts. Fixed true (word true) b ts ⊎ Fixed false (word false) b ts) (λ b. Word (word b))
-      (λ b ts. ⊎_elim (λ s. subst (λ c. Word (word c) ts) (sym s.0) s.1) (λ s. subst (λ c. Word (word c) ts) (sym s.0) s.1))
-      either_of
-      (word_or-rule true (word true) ((λ _. false) <$> expect_word (word false)) (Fixed false (word false)) (form true)
-      (λ y front rest s. Word-not_word (word false) (word true) apart front rest s.1) (fixed-rule false (word false) (form false)))
+  either_word-rule =
+      either-rule (is_word (word true)) (λ _. true) (of_flat (of_mark (word_mark (word true) (form true)))) (λ _. false) (of_mark (word_mark (word false) (form false)))
+      (λ b. Word (word b)) (λ _. Anything) (λ _. Unit {0})
+      (record {
+        one = λ u ts s. s;
+        other = λ u ts s. s;
+        which = which_word;
+        one_next = λ u rest next. tt;
+        other_next = λ u rest next. tt;
+        one_begins = λ u. mark-tells (word_mark (word true) (form true));
+        deep_begins = λ front rest d. absurd d;
+        other_begins = λ u front rest s next. Word-not_word (word false) (word true) apart front rest s;
+        within_one = λ u w. tt;
+        one_within = λ u w. tt;
+        other_within = λ u. tt;
+      })
 
 sync_of-word : (word : List ℕ) (x : AstSync) → sync_of word ≡ Some x → word ≡ sync_word x
 unfolding sync_of
@@ -374,7 +308,8 @@ PathNext rest = tells (λ t. not (is_kind kinds.DoubleColon t)) true rest ≡ tr
 pub path-rule : IsRule IsFormed path (λ x. Path x.names) (λ _. PathNext) (λ _. Unit {0}) Never
 unfolding path
 path-rule =
-    map-rule IsFormed (λ (names : List AstName). record { names = names }) (joined (is_kind kinds.DoubleColon) name) Path (λ _. PathNext) (λ _. Unit {0}) Never
+    mapped (λ (names : List AstName). record { names = names })
+    (as_rule (joined-rule IsFormed (is_kind kinds.DoubleColon) (Of kinds.DoubleColon) name Name (kind-mark kinds.DoubleColon (codes "::") refl) name-rule))
     (λ (x : AstPath). Path x.names) (λ _. PathNext) (λ _. Unit {0}) Never
     (record {
       there = λ x ts s. s;
@@ -385,4 +320,3 @@ path-rule =
       first = λ ts d. d;
       deep = λ ts d. d;
     })
-    (joined-rule IsFormed (is_kind kinds.DoubleColon) (Of kinds.DoubleColon) name Name (kind-mark kinds.DoubleColon (codes "::") refl) name-rule)

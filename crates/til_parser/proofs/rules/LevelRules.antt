@@ -1,5 +1,5 @@
 -- The rule of types of so many levels; what begins a type that stands too deep.
-use Rattle.std.proofs.Common.{◌≡◌, ℕ, zero, suc, ◌<◌, ◌⊎◌, inl, inr, ⊎_elim, Bool, true, false, cond, List, [], ◌∷◌, ◌++◌, All, length, Option, Some, None, refl, sym, ap, ◌∙◌, subst, arith, codes, bytes_eq}
+use Rattle.std.proofs.Common.{◌≡◌, ℕ, zero, suc, ◌<◌, inl, inr, ⊎_elim, Bool, true, false, cond, List, [], ◌∷◌, ◌++◌, All, length, Option, Some, None, refl, sym, ap, ◌∙◌, subst, arith, codes, bytes_eq}
 use Rattle.std.proofs.lemmas.Option.{none-some}
 use Rattle.std.proofs.lemmas.List.Elements.{All-nil, All-cons, All-head}
 use Rattle.tydi_base.specs.Name.{is_name, has_name_form}
@@ -20,14 +20,14 @@ use Rattle.til_parser.specs.Lexemes.{Lexeme, IsFormed}
 use Rattle.til_parser.specs.Nesting.{SpellsPart, TypeTo}
 use Rattle.til_parser.specs.Reading.{same_kind, begins_type}
 use Rattle.til_parser.specs.Words.{type_word_of}
-use Rattle.til_parser.specs.ReadTypes.{name, bits, stream, ltype}
-use Rattle.til_parser.specs.Tree.{null, plain}
+use Rattle.til_parser.specs.ReadTypes.{ltype}
+use Rattle.til_parser.specs.Tree.{plain}
 use Rattle.til_parser.proofs.rules.LeafRules.{PathNext}
 use Rattle.til_parser.proofs.rules.StreamSteps.{ArgumentsOf, data_null, good_null, null_spelled, null_stream, null_arguments}
 use Rattle.til_parser.proofs.rules.TokenRules.{both, made, one, kind_is, same_kind-is}
 use Rattle.til_parser.proofs.rules.PartRules.{S}
 use Rattle.til_parser.proofs.rules.TypeWords.{type_word, type_word_of-word, Lead}
-use Rattle.til_parser.proofs.rules.TypeRules.{depth-some, Fits, After, of_word, there, by_word, back, type-rule}
+use Rattle.til_parser.proofs.rules.TypeRules.{depth-some, Fits, After, of_word, there, back, type-rule}
 
 -- ---- a type that stands too deep
 

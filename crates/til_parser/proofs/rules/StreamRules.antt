@@ -1,11 +1,11 @@
 -- The rule of the arguments of a Stream.
-use Rattle.std.proofs.Common.{◌≡◌, true, false, List, ◌++◌, Option, Some, None, refl, sym, subst, codes}
+use Rattle.std.proofs.Common.{◌≡◌, true, false, Option, Some, None, refl, sym, subst}
 use Rattle.std.specs.Option.{unwrap_or}
 use Rattle.tydi_reading.specs.Forms.{Anything, ◌⋯◌, Loop, LoopTo}
-use Rattle.tydi_reading.specs.Reading.{Reader, Turn, tells, checked, ◌<<◌}
+use Rattle.tydi_reading.specs.Reading.{Reader, Turn, tells, checked}
 use Rattle.tydi_reading.specs.Rules.{IsRule}
 use Rattle.tydi_reading.proofs.CheckedRule.{Checks, checked-rule}
-use Rattle.tydi_reading.proofs.MarkRules.{skip-rule, close-rule}
+use Rattle.tydi_reading.proofs.Rule.{as_rule, skip, close, mark-tells}
 use Rattle.tydi_reading.proofs.StepRules.{deep-rule}
 use Rattle.til_lexer.specs.declared.token.TokenKind.TheVariants as kinds
 use Rattle.til_parser.specs.declared.arguments.Arguments.{Arguments}
@@ -16,12 +16,12 @@ use Rattle.til_parser.specs.Grammar.{Form, Of, Bracketed}
 use Rattle.til_parser.specs.Grammar.{Argument, data_type, throughput, dimensionality, synchronicity, complexity, direction, user_type, keep}
 use Rattle.til_parser.specs.Lexemes.{Lexeme, IsFormed}
 use Rattle.til_parser.specs.Nesting.{ArgumentsTo}
-use Rattle.til_parser.specs.Reading.{is_kind, expect}
+use Rattle.til_parser.specs.Reading.{is_kind}
 use Rattle.til_parser.specs.ReadTypes.{none_given, filled, stream_of, arguments, stream}
 use Rattle.til_parser.proofs.rules.ArgumentFields.{Value, value, field, value-filled}
 use Rattle.til_parser.proofs.rules.ArgumentRules.{ValueWithin, StepDeep}
 use Rattle.til_parser.proofs.rules.LeafRules.{PathNext}
-use Rattle.til_parser.proofs.rules.TokenRules.{kind-rule, same_kind-is}
+use Rattle.til_parser.proofs.rules.TokenRules.{open_paren, close_paren}
 use Rattle.til_parser.proofs.rules.StreamSteps.{S, ArgumentsOf, map_some}
 use Rattle.til_parser.proofs.rules.StreamSteps as steps
 use Rattle.til_parser.proofs.rules.StreamForms as forms
@@ -84,20 +84,13 @@ module _ (inner : Reader Lexeme AstType) (W : AstType → Type 0) (D : Form) (ru
     mends = λ given ts is walk. forms.mends inner W D rule null_within given ts is walk;
   }
 
-  closes : (back rest : List Lexeme) → Of kinds.CloseParen back → tells (is_kind kinds.CloseParen) false (back ++ rest) ≡ true
-  closes back rest s = rw (s.all) (same_kind-is s.lexeme.kind kinds.CloseParen s.is)
-
   pub stream-rule : IsRule IsFormed (stream inner) (λ s. Bracketed (ArgumentsOf s)) (λ _. Anything) StreamWithin (Of kinds.OpenParen ⋯ ArgumentsTo D)
   unfolding stream
   stream-rule =
-      skip-rule IsFormed (expect kinds.OpenParen) (checked stream_of (arguments inner none_given) << expect kinds.CloseParen)
-      (Of kinds.OpenParen) (λ s. ArgumentsOf s ⋯ Of kinds.CloseParen) (λ _. Anything) StreamWithin _
-      (kind-rule kinds.OpenParen (codes "(") refl)
-      (close-rule IsFormed (checked stream_of (arguments inner none_given)) (expect kinds.CloseParen) ArgumentsOf
-      (λ _ rest. tells (is_kind kinds.CloseParen) false rest ≡ true) StreamWithin _ (Of kinds.CloseParen)
-      (λ s back rest c. closes back rest c)
-      (deep-rule IsFormed (checked stream_of (arguments inner none_given)) ArgumentsOf (λ _ rest. tells (is_kind kinds.CloseParen) false rest ≡ true) StreamWithin
+      (skip open_paren
+      (close
+      (as_rule (deep-rule IsFormed (checked stream_of (arguments inner none_given)) ArgumentsOf (λ _ rest. tells (is_kind kinds.CloseParen) false rest ≡ true) StreamWithin
       (LoopTo Turning (StepDeep inner W D rule) none_given) (ArgumentsTo D) (nesting.leads_to inner W D rule null_within) (nesting.arguments_to inner W D rule null_within)
       (checked-rule IsFormed stream_of (arguments inner none_given) (Loop Turning none_given) (λ _ rest. tells (is_kind kinds.CloseParen) false rest ≡ true) Wi
-      (LoopTo Turning (StepDeep inner W D rule) none_given) ArgumentsOf (λ _ rest. tells (is_kind kinds.CloseParen) false rest ≡ true) StreamWithin checks (steps.arguments-rule inner W D rule null_within)))
-      (kind-rule kinds.CloseParen (codes ")") refl))
+      (LoopTo Turning (StepDeep inner W D rule) none_given) ArgumentsOf (λ _ rest. tells (is_kind kinds.CloseParen) false rest ≡ true) StreamWithin checks (steps.arguments-rule inner W D rule null_within))))
+      close_paren (λ s. mark-tells close_paren))).is

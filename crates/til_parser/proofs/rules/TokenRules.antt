@@ -1,5 +1,5 @@
 -- The rules of one token: of a kind, a word, or a token of a kind with a meaning.
-use Rattle.std.proofs.Common.{◌≡◌, ℕ, Bool, true, false, cond, ◌&&◌, List, [], ◌∷◌, ◌++◌, All, Option, Some, None, option_and_then, refl, sym, ap, ◌∙◌, subst, bytes_eq, T}
+use Rattle.std.proofs.Common.{◌≡◌, ℕ, Bool, true, false, cond, ◌&&◌, List, [], ◌∷◌, ◌++◌, All, Option, Some, None, option_and_then, refl, sym, ap, ◌∙◌, subst, bytes_eq, codes, T}
 use Rattle.std.proofs.lemmas.Option.{none-some, same_Some}
 use Rattle.std.proofs.lemmas.Slice.Eq.{bytes_eq-Decides}
 use Rattle.std.proofs.lemmas.List.Elements.{All-head}
@@ -8,7 +8,8 @@ use Rattle.tydi_base.specs.declared.place.Place.{Place}
 use Rattle.tydi_reading.specs.Forms.{Never, Anything}
 use Rattle.tydi_reading.specs.Reading.{meant, leaf, tells}
 use Rattle.tydi_reading.specs.Rules.{IsRule}
-use Rattle.tydi_reading.proofs.MarkLemmas.{IsMark, mark-rule}
+use Rattle.tydi_reading.proofs.MarkLemmas.{IsMark}
+use Rattle.tydi_reading.proofs.Rule.{Mark}
 use Rattle.tydi_reading.proofs.StepRules.{leaf-rule, read-rule}
 use Rattle.til_lexer.specs.contracts.token.TokenKind.{the_type}
 use Rattle.til_lexer.specs.declared.token.TokenKind.{TokenKind}
@@ -18,7 +19,7 @@ use Rattle.til_lexer.specs.Spelling.{HasForm}
 use Rattle.tydi_base.specs.Name.{has_name_form}
 use Rattle.til_parser.specs.Grammar.{Form, One, Of, IsWord, Word}
 use Rattle.til_parser.specs.Lexemes.{Lexeme, IsFormed}
-use Rattle.til_parser.specs.Reading.{same_kind, is_kind, is_word, expect, expect_word, token}
+use Rattle.til_parser.specs.Reading.{same_kind, is_kind, is_word, token}
 
 -- ---- kinds and words
 
@@ -70,11 +71,39 @@ word-mark word form = record {
   back = λ ts s. (s.lexeme, s.all, is_word-is word s.lexeme s.is);
 }
 
-pub kind-rule : (kind : TokenKind) (spelling : List ℕ) → HasForm kind spelling → IsRule IsFormed (expect kind) (λ _. Of kind) (λ _. Anything) (λ _. Unit {0}) Never
-kind-rule kind spelling form = mark-rule IsFormed (is_kind kind) (Of kind) (kind-mark kind spelling form)
+-- a token of this kind, and this word
+abbrev pub kind_mark : (kind : TokenKind) (spelling : List ℕ) → HasForm kind spelling → Mark IsFormed
+kind_mark kind spelling form = record { test = is_kind kind; Spelled = Of kind; is = kind-mark kind spelling form }
 
-pub word-rule : (word : List ℕ) → has_name_form word ≡ true → IsRule IsFormed (expect_word word) (λ _. Word word) (λ _. Anything) (λ _. Unit {0}) Never
-word-rule word form = mark-rule IsFormed (is_word word) (Word word) (word-mark word form)
+abbrev pub word_mark : (word : List ℕ) → has_name_form word ≡ true → Mark IsFormed
+word_mark word form = record { test = is_word word; Spelled = Word word; is = word-mark word form }
+
+abbrev pub colon : Mark IsFormed
+colon = kind_mark kinds.Colon (codes ":") refl
+
+abbrev pub double_dash : Mark IsFormed
+double_dash = kind_mark kinds.DoubleDash (codes "--") refl
+
+abbrev pub equals : Mark IsFormed
+equals = kind_mark kinds.Equals (codes "=") refl
+
+abbrev pub point : Mark IsFormed
+point = kind_mark kinds.Point (codes ".") refl
+
+abbrev pub semicolon : Mark IsFormed
+semicolon = kind_mark kinds.Semicolon (codes ";") refl
+
+abbrev pub open_brace : Mark IsFormed
+open_brace = kind_mark kinds.OpenBrace (codes "{") refl
+
+abbrev pub close_brace : Mark IsFormed
+close_brace = kind_mark kinds.CloseBrace (codes "}") refl
+
+abbrev pub open_paren : Mark IsFormed
+open_paren = kind_mark kinds.OpenParen (codes "(") refl
+
+abbrev pub close_paren : Mark IsFormed
+close_paren = kind_mark kinds.CloseParen (codes ")") refl
 
 -- ---- what a token is not
 

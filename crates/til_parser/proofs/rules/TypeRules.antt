@@ -1,13 +1,14 @@
 -- The rule of a type, by that of the types inside it.
-use Rattle.std.proofs.Common.{◌≡◌, ℕ, suc, ◌<◌, ◌≤◌, ◌⊎◌, inl, inr, ⊎_elim, List, [], ◌∷◌, ◌++◌, refl, sym, ap, ◌∙◌, subst, arith, codes}
+use Rattle.std.proofs.Common.{◌≡◌, ℕ, suc, ◌≤◌, ◌⊎◌, inl, inr, ⊎_elim, List, [], ◌∷◌, ◌++◌, refl, sym, ap, ◌∙◌, subst, arith, codes}
 use Rattle.std.proofs.lemmas.List.{append-nil}
 use Rattle.tydi_reading.specs.Forms.{Never, Anything, ◌⋯◌}
 use Rattle.tydi_reading.specs.Lists.{EachIs}
-use Rattle.tydi_reading.specs.Reading.{Reader, pure, led, ◌<$>◌, ◌<<◌}
+use Rattle.tydi_reading.specs.Reading.{Reader, pure, led, ◌<$>◌}
 use Rattle.tydi_reading.specs.Rules.{IsRule}
+use Rattle.tydi_reading.proofs.FormLemmas.{with_ends}
 use Rattle.tydi_reading.proofs.LedRule.{led-rule}
-use Rattle.tydi_reading.proofs.MarkRules.{skip-rule, close-rule}
-use Rattle.tydi_reading.proofs.StepRules.{Only, pure-rule, map-rule, same-rule}
+use Rattle.tydi_reading.proofs.Rule.{as_rule, as_flat, flat_skip, flat_close, Made, made-rule}
+use Rattle.tydi_reading.proofs.StepRules.{Only, pure-rule, same-rule}
 use Rattle.til_lexer.specs.declared.token.TokenKind.TheVariants as kinds
 use Rattle.til_parser.specs.declared.keyword.TypeWord.{TypeWord}
 use Rattle.til_parser.specs.declared.keyword.TypeWord.TheVariants as words
@@ -19,16 +20,15 @@ use Rattle.til_parser.specs.Grammar.{Form, Of, Word, Whole, Path, Commas, Bracke
 use Rattle.til_parser.specs.Grammar as grammar
 use Rattle.til_parser.specs.Lexemes.{Lexeme, IsFormed}
 use Rattle.til_parser.specs.Nesting.{SpellsPart, BracketedTo, PartTo, ArgumentsTo, InsideTo}
-use Rattle.til_parser.specs.Reading.{expect}
 use Rattle.til_parser.specs.Words.{type_word_at}
-use Rattle.til_parser.specs.ReadTypes.{whole, path, bits, part, bracketed, stream, type_after, type_with}
+use Rattle.til_parser.specs.ReadTypes.{path, bits, type_after, type_with}
 use Rattle.til_parser.specs.Tree.{Ltype, null, Settings, plain, depth, depth_of_parts, settings_of}
 use Rattle.til_parser.specs.Tree as tree
 use Rattle.til_parser.proofs.rules.LeafRules.{PathNext, whole-rule, path-rule}
 use Rattle.til_parser.proofs.PlainLemmas.{plain_parts, plain-Null, plain-Bits, plain-Group, plain-Union, plain-Stream, plain-Path, of_plain, of_parts, of_plain-plain, plain-of_plain, plain_parts-of_parts}
 use Rattle.til_parser.proofs.rules.StreamSteps.{ArgumentsOf}
-use Rattle.til_parser.proofs.rules.StreamRules.{StreamWithin, stream-rule}
-use Rattle.til_parser.proofs.rules.TokenRules.{made, one, kind-rule}
+use Rattle.til_parser.proofs.rules.StreamRules.{stream-rule}
+use Rattle.til_parser.proofs.rules.TokenRules.{open_paren, close_paren}
 use Rattle.til_parser.proofs.rules.PartRules.{S, parts-rule}
 use Rattle.til_parser.proofs.rules.TypeWords.{type_word, Lead, lead-there, lead-rule, path-apart}
 
@@ -59,45 +59,20 @@ depth-parts n (p ∷ parts) most = (omega (arith, most), depth-parts n parts (om
 parts-there : (parts : List AstPart) (ts : List Lexeme) → Commas SpellsPart parts ts → SpellsParts (plain_parts parts) ts
 parts-there [] ts s = s
 parts-there (p ∷ []) ts s = s
-parts-there (p ∷ next ∷ parts) ts s = record {
-  front = s.front;
-  back = s.back;
-  all = s.all;
-  begins = s.begins;
-  ends = record { front = s.ends.front; back = s.ends.back; all = s.ends.all; begins = s.ends.begins; ends = parts-there (next ∷ parts) s.ends.back s.ends.ends };
-}
+parts-there (p ∷ next ∷ parts) ts s = with_ends s (with_ends s.ends (parts-there (next ∷ parts) s.ends.back s.ends.ends))
 
 parts-back : (parts : List AstPart) (ts : List Lexeme) → SpellsParts (plain_parts parts) ts → Commas SpellsPart parts ts
 parts-back [] ts s = s
 parts-back (p ∷ []) ts s = s
-parts-back (p ∷ next ∷ parts) ts s = record {
-  front = s.front;
-  back = s.back;
-  all = s.all;
-  begins = s.begins;
-  ends = record { front = s.ends.front; back = s.ends.back; all = s.ends.all; begins = s.ends.begins; ends = parts-back (next ∷ parts) s.ends.back s.ends.ends };
-}
+parts-back (p ∷ next ∷ parts) ts s = with_ends s (with_ends s.ends (parts-back (next ∷ parts) s.ends.back s.ends.ends))
 
 inside : {Inside Other : Form} {ts : List Lexeme} (First : Form) → ((back : List Lexeme) → Inside back → Other back) → (First ⋯ Bracketed Inside) ts → (First ⋯ Bracketed Other) ts
-inside First to s = record {
-  front = s.front;
-  back = s.back;
-  all = s.all;
-  begins = s.begins;
-  ends = record {
-    front = s.ends.front;
-    back = s.ends.back;
-    all = s.ends.all;
-    begins = s.ends.begins;
-    ends = record { front = s.ends.ends.front; back = s.ends.ends.back; all = s.ends.ends.all; begins = to s.ends.ends.front s.ends.ends.begins; ends = s.ends.ends.ends };
-  };
-}
+inside First to s =
+    let b = s.ends in
+    let i = b.ends in
+    with_ends s (with_ends b (record { front = i.front; back = i.back; all = i.all; begins = to i.front i.begins; ends = i.ends }))
 
 -- ---- a type, by the types inside it
-
--- a type that is made of what is spelled
-abbrev pub Made : {X : Type 0} → (X → AstType) → (X → Form) → AstType → Form
-Made {X} c P y ts = (x : X) × (y ≡ c x) × P x ts
 
 -- what follows the word of a type
 unfoldable pub After : TypeWord → AstType → Form
@@ -122,19 +97,19 @@ of_word words.Null y ts b =
     of_tree y null ts (ap plain b.ends.0 ∙ plain-Null) (subst (Word (codes "Null")) (sym (b.all ∙ ap (λ l. b.front ++ l) b.ends.1 ∙ append-nil b.front)) b.begins)
 of_word words.Bits y ts b =
     let m = b.ends in
-    of_tree y (tree.bits m.0) ts (ap plain m.1 ∙ plain-Bits m.0) (record { front = b.front; back = b.back; all = b.all; begins = b.begins; ends = m.2 })
+    of_tree y (tree.bits m.0) ts (ap plain m.1 ∙ plain-Bits m.0) (with_ends b m.2)
 of_word words.Group y ts b =
     let m = b.ends in
     of_tree y (tree.group (plain_parts m.0)) ts (ap plain m.1 ∙ plain-Group m.0)
-    (inside (Word (codes "Group")) (parts-there m.0) (record { front = b.front; back = b.back; all = b.all; begins = b.begins; ends = m.2 }))
+    (inside (Word (codes "Group")) (parts-there m.0) (with_ends b m.2))
 of_word words.Union y ts b =
     let m = b.ends in
     of_tree y (tree.union (plain_parts m.0)) ts (ap plain m.1 ∙ plain-Union m.0)
-    (inside (Word (codes "Union")) (parts-there m.0) (record { front = b.front; back = b.back; all = b.all; begins = b.begins; ends = m.2 }))
+    (inside (Word (codes "Union")) (parts-there m.0) (with_ends b m.2))
 of_word words.Stream y ts b =
     let m = b.ends in
     of_tree y (tree.stream (plain m.0.element) (plain m.0.user) (settings_of m.0)) ts (ap plain m.1 ∙ plain-Stream m.0)
-    (record { front = b.front; back = b.back; all = b.all; begins = b.begins; ends = m.2 })
+    (with_ends b m.2)
 
 pub there : (y : AstType) (ts : List Lexeme) → ByWord y ts ⊎ ByPath y ts → S y ts
 there y ts = ⊎_elim (λ s. of_word s.0 y ts s.1) (λ s. of_tree y (tree.path s.0.names) ts (ap plain s.1 ∙ plain-Path s.0) s.2)
@@ -154,7 +129,7 @@ of_stream element user settings = roll-AstStream (record {
 pub by_word : (k : TypeWord) (y : AstType) (ts : List Lexeme) (Second : Form) → (Word (type_word k) ⋯ Second) ts → ((back : List Lexeme) → Second back → After k y back)
     → ByWord y ts ⊎ ByPath y ts
 unfolding Lead
-by_word k y ts Second s to = inl (k, record { front = s.front; back = s.back; all = s.all; begins = s.begins; ends = to s.back s.ends })
+by_word k y ts Second s to = inl (k, with_ends s (to s.back s.ends))
 
 back_tree : (y : AstType) (t : Ltype) (ts : List Lexeme) → y ≡ of_plain t → SpellsType t ts → ByWord y ts ⊎ ByPath y ts
 unfolding Lead After
@@ -182,31 +157,13 @@ fits_null n = rw plain-Null (omega arith)
 pub null_within : (n : ℕ) (x : AstType) → Fits n x → Fits n types.Null
 null_within n x fits = let some = depth-some (plain x) in let is = ap depth plain-Null in omega (arith, is, fits, some)
 
-bits-rule : IsRule IsFormed bits (λ width. Bracketed (Whole width)) (λ _. Anything) (λ _. Unit {0}) (Of kinds.OpenParen ⋯ Never)
+bits-rule : IsRule IsFormed bits (λ width. Bracketed (Whole width)) (λ _. Anything) (λ _. Unit {0}) Never
 unfolding bits
-bits-rule =
-    skip-rule IsFormed (expect kinds.OpenParen) (whole << expect kinds.CloseParen) (Of kinds.OpenParen) (λ width. Whole width ⋯ Of kinds.CloseParen) (λ _. Anything) (λ _. Unit {0}) Never
-    (kind-rule kinds.OpenParen (codes "(") refl)
-    (close-rule IsFormed whole (expect kinds.CloseParen) Whole (λ _. Anything) (λ _. Unit {0}) Never (Of kinds.CloseParen) (λ x back rest s. tt) whole-rule (kind-rule kinds.CloseParen (codes ")") refl))
+bits-rule = (flat_skip open_paren (flat_close (as_flat whole-rule) close_paren (λ x front rest s. tt))).is
 
-module _ (n : ℕ) (inner : Reader Lexeme AstType) (D : Form) (rule : IsRule IsFormed inner S (λ _. PathNext) (Fits n) D) where
+module _ (n : ℕ) (inner : Reader Lexeme AstType) (D : Form) (one : IsRule IsFormed inner S (λ _. PathNext) (Fits n) D) where
   abbrev V : AstType → Type 0
   V = Fits (suc n)
-
-  made-rule : {X : Type 0} (c : X → AstType) (p : Reader Lexeme X) (P : X → Form) (Next : X → Form) (Wp : X → Type 0) (Dp : Form) → ((x : X) (rest : List Lexeme) → PathNext rest → Next x rest)
-      → ((x : X) → Wp x → V (c x)) → ((x : X) → V (c x) → Wp x) → IsRule IsFormed p P Next Wp Dp → IsRule IsFormed (c <$> p) (Made c P) (λ _. PathNext) V Dp
-  made-rule c p P Next Wp Dp follow to from one =
-      map-rule IsFormed c p P Next Wp Dp (Made c P) (λ _. PathNext) V Dp
-      (record {
-        there = λ x ts s. (x, refl, s);
-        back = λ y ts s. s;
-        follow = follow;
-        within = to;
-        apart = from;
-        first = λ ts d. d;
-        deep = λ ts d. d;
-      })
-      one
 
   group_fit : (parts : List AstPart) → EachIs (λ p. Fits n p.ltype) parts → V (types.Group parts)
   group_fit parts each = rw (plain-Group parts) (omega (arith, parts-depth n parts each))
@@ -223,7 +180,7 @@ module _ (n : ℕ) (inner : Reader Lexeme AstType) (D : Form) (rule : IsRule IsF
   -- what leads to something too deep after the word of a type
   AfterTo : TypeWord → Form
   AfterTo words.Null = Never
-  AfterTo words.Bits = Of kinds.OpenParen ⋯ Never
+  AfterTo words.Bits = Never
   AfterTo words.Group = BracketedTo SpellsPart (PartTo D)
   AfterTo words.Union = BracketedTo SpellsPart (PartTo D)
   AfterTo words.Stream = Of kinds.OpenParen ⋯ ArgumentsTo D
@@ -234,26 +191,22 @@ module _ (n : ℕ) (inner : Reader Lexeme AstType) (D : Form) (rule : IsRule IsF
       same-rule IsFormed (pure types.Null) (Only types.Null) (λ _. Anything) V Never (Only types.Null) (λ _. PathNext) V Never
       (record { there = λ x ts s. s; back = λ x ts s. s; follow = λ x rest next. tt; within = λ x w. w; apart = λ x w. w; first = λ ts d. d; deep = λ ts d. d })
       (pure-rule IsFormed V types.Null (fits_null n))
-  after-rule words.Bits = made-rule types.Bits bits (λ width. Bracketed (Whole width)) (λ _. Anything) (λ _. Unit {0}) (Of kinds.OpenParen ⋯ Never)
-      (λ x rest next. tt) (λ x w. rw (plain-Bits x) (omega arith)) (λ x w. tt) bits-rule
-  after-rule words.Group = made-rule types.Group (bracketed (part inner)) (λ parts. Bracketed (Commas SpellsPart parts)) (λ _. Anything) (EachIs (λ p. Fits n p.ltype)) (BracketedTo SpellsPart (PartTo D))
-      (λ x rest next. tt) group_fit fit_group (parts-rule inner (Fits n) D rule)
-  after-rule words.Union = made-rule types.Union (bracketed (part inner)) (λ parts. Bracketed (Commas SpellsPart parts)) (λ _. Anything) (EachIs (λ p. Fits n p.ltype)) (BracketedTo SpellsPart (PartTo D))
-      (λ x rest next. tt) union_fit fit_union (parts-rule inner (Fits n) D rule)
-  after-rule words.Stream = made-rule types.Stream (stream inner) (λ s. Bracketed (ArgumentsOf s)) (λ _. Anything) (StreamWithin inner (Fits n) D rule (null_within n)) (Of kinds.OpenParen ⋯ ArgumentsTo D)
+  after-rule words.Bits = made-rule types.Bits (as_rule bits-rule) (λ _. PathNext) V (λ x rest next. tt) (λ x w. rw (plain-Bits x) (omega arith)) (λ x w. tt)
+  after-rule words.Group = made-rule types.Group (as_rule (parts-rule inner (Fits n) D one)) (λ _. PathNext) V (λ x rest next. tt) group_fit fit_group
+  after-rule words.Union = made-rule types.Union (as_rule (parts-rule inner (Fits n) D one)) (λ _. PathNext) V (λ x rest next. tt) union_fit fit_union
+  after-rule words.Stream = made-rule types.Stream (as_rule (stream-rule inner (Fits n) D one (null_within n))) (λ _. PathNext) V
       (λ x rest next. tt) (λ s w. rw (plain-Stream s) (omega (arith, w.0, w.1)))
       (λ s w. let d = subst (λ t. depth t ≤ suc n) (plain-Stream s) w in (omega (arith, d), omega (arith, d)))
-      (stream-rule inner (Fits n) D rule (null_within n))
 
   path_type-rule : IsRule IsFormed (types.Path <$> path) ByPath (λ _. PathNext) V Never
-  path_type-rule = made-rule types.Path path (λ x. Path x.names) (λ _. PathNext) (λ _. Unit {0}) Never (λ x rest next. next) (λ x w. rw (plain-Path x) (omega arith)) (λ x w. tt) path-rule
+  path_type-rule = made-rule types.Path (as_rule path-rule) (λ _. PathNext) V (λ x rest next. next) (λ x w. rw (plain-Path x) (omega arith)) (λ x w. tt)
 
   abbrev WordTo : Form
   WordTo ts = ((k : TypeWord) × ((Lead k ⋯ AfterTo k) ts)) ⊎ Never ts
 
   to_word : (k : TypeWord) (Second : Form) (ts : List Lexeme) → (Word (type_word k) ⋯ Second) ts → ((back : List Lexeme) → Second back → AfterTo k back) → WordTo ts
   unfolding Lead
-  to_word k Second ts s to = inl (k, record { front = s.front; back = s.back; all = s.all; begins = s.begins; ends = to s.back s.ends })
+  to_word k Second ts s to = inl (k, with_ends s (to s.back s.ends))
 
   inside_to : (ts : List Lexeme) → WordTo ts → InsideTo D ts
   unfolding Lead AfterTo
@@ -261,7 +214,7 @@ module _ (n : ℕ) (inner : Reader Lexeme AstType) (D : Form) (rule : IsRule IsF
     where
       by_keyword : (k : TypeWord) → (Lead k ⋯ AfterTo k) ts → InsideTo D ts
       by_keyword words.Null d = absurd d.ends
-      by_keyword words.Bits d = absurd d.ends.ends
+      by_keyword words.Bits d = absurd d.ends
       by_keyword words.Group d = inl d
       by_keyword words.Union d = inr (inl d)
       by_keyword words.Stream d = inr (inr d)

@@ -16,7 +16,6 @@ use Rattle.til_parser.specs.Grammar as grammar
 use Rattle.til_parser.specs.Lexemes.{Lexeme, IsFormed}
 use Rattle.til_parser.specs.Reading.{same_kind}
 use Rattle.til_parser.specs.Words.{type_word_of, type_word_at}
-use Rattle.til_parser.specs.ReadTypes.{name}
 use Rattle.til_parser.proofs.rules.TokenRules.{made, one, kind_is, same_kind-is, word_entry}
 
 -- ---- the word with which a type begins
