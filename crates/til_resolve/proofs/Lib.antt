@@ -16,4 +16,8 @@ mod ContainmentLemmas
 mod BelowLemmas
 mod ShapeLemmas
 mod MisshapenLemmas
+mod MakingLemmas
+mod BodyLemmas
+mod LastLemmas
+mod WrittenLemmas
 mod Examples
