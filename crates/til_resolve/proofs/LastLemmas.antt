@@ -12,6 +12,8 @@ use Rattle.til_resolve.specs.Declarations.{Declaration, declarations}
 use Rattle.til_resolve.specs.Earliest.{IsEarliest, IsBelow}
 use Rattle.til_resolve.specs.Faults.{WrittenType, HasFault, HasTypeAt, IsCyclicAtTarget, IsToldBefore, IsToldUpTo, IsToldOf, IsSound, order_of, written_types}
 use Rattle.til_resolve.specs.Making.{type_of_port}
+use Rattle.til_resolve.specs.declared.project.Project.{Project}
+use Rattle.til_resolve.specs.Project.{IsProjectOf, IsStreamletOf, Pairwise, streamlet_numbers, tests_in}
 use Rattle.til_resolve.specs.Shapes.{IsMisshapen}
 use Rattle.til_resolve.specs.Types.{type_of, depth_of, is_stream}
 
@@ -108,3 +110,12 @@ module _ (all : List Declaration) (space : List (List ℕ)) (port : AstPort) (no
       by (inl deep) = absurd (none.told (faults.TypeTooLarge port.name.place) (omega arith)
           (record { one = type_of_port all space port; written = written; at = refl; is = inr deep }))
       by (inr within) = within
+
+-- ---- projects
+
+pub project_of : (ast : Ast) (all : List Declaration) (project : Project) → all ≡ declarations ast → Pairwise (IsStreamletOf all) (streamlet_numbers all) project.streamlets
+    → project.tests ≡ tests_in all all → IsProjectOf ast project
+project_of ast all project same streamlets tests = record {
+  streamlets_are = subst (λ (l : List Declaration). Pairwise (IsStreamletOf l) (streamlet_numbers l) project.streamlets) same streamlets;
+  tests_are = subst (λ (l : List Declaration). project.tests ≡ tests_in l l) same tests;
+}

@@ -1,8 +1,9 @@
 -- The ports of a streamlet stand among those that are written, and the type of a declaration that a path names is that of the path.
-use Rattle.std.proofs.Common.{◌≡◌, ℕ, zero, suc, ◌<◌, ◌⊎◌, inl, inr, List, [], ◌∷◌, ◌++◌, length, map, get_or, Option, Some, None, Contains, refl, sym, ap, subst, ◌∙◌, arith}
+use Rattle.std.proofs.Common.{◌≡◌, ℕ, zero, suc, ◌+◌, ◌<◌, ◌≤◌, ◌⊎◌, inl, inr, List, [], ◌∷◌, ◌++◌, length, map, take, get_or, Option, Some, None, IfSome, Contains, refl, sym, ap, subst, ◌∙◌, arith}
 use Rattle.std.specs.List.{flat_map}
-use Rattle.std.proofs.lemmas.List.{get_or-map, length-map}
+use Rattle.std.proofs.lemmas.List.{get_or-map, length-map, map-append, take_more, take_all}
 use Rattle.std.proofs.lemmas.List.Elements.{Contains-append_left, Contains-append_right, Contains-append_cases, Contains-get_or}
+use Rattle.til_parser.specs.declared.ltype.AstType.{AstType}
 use Rattle.til_parser.specs.declared.ltype.AstType.TheVariants as types
 use Rattle.til_parser.specs.declared.tree.AstKind.{AstKind}
 use Rattle.til_parser.specs.declared.tree.AstKind.TheVariants as decls
@@ -15,11 +16,14 @@ use Rattle.til_parser.specs.Tree.{plain}
 use Rattle.til_parser.proofs.PlainLemmas.{plain-Path}
 use Rattle.til_resolve.specs.Declarations.{Declaration, declaration, named, own_ports, PortOf, ports_in, ports_of, ports_of_number}
 use Rattle.til_resolve.specs.Faults.{WrittenType, types_of_kind, types_in, written_types}
-use Rattle.til_resolve.specs.Making.{type_of_port}
+use Rattle.til_resolve.specs.declared.project.Port.{Port}
+use Rattle.til_resolve.specs.Making.{type_of_port, written_in}
+use Rattle.til_resolve.specs.Project.{IsPortOf, Pairwise}
 use Rattle.til_resolve.specs.Ports.{owner_by, owner_of}
 use Rattle.til_resolve.specs.Shapes.{type_at}
 use Rattle.til_resolve.specs.Types.{type_of, type_of_number, meaning_of}
 use Rattle.til_resolve.proofs.EarliestLemmas.{Contains-nil, Contains-one}
+use Rattle.til_resolve.proofs.MakingLemmas.{Pairwise-push}
 
 -- ---- the ports of a streamlet
 
@@ -94,3 +98,25 @@ pub type_at-named : (all : List Declaration) (space : List (List ℕ)) (path : A
 type_at-named [] space path target is within = absurd (omega (arith, within))
 type_at-named (first ∷ more) space path target is within =
     named-by_number (first ∷ more) (length more) space path.names target is ∙ ap (type_of (first ∷ more) space) (sym (plain-Path path))
+
+-- the same of a type that is a path, if the path names something
+pub type_at-found : (all : List Declaration) (space : List (List ℕ)) (path : AstPath) (ltype : AstType) (found : Option ℕ) → ltype ≡ types.Path path → found ≡ named all space path
+    → IfSome found (λ target. target < length all) → IfSome found (λ target. type_at all (length all) target ≡ type_of all space (plain ltype))
+type_at-found all space path ltype None is at within = tt
+type_at-found all space path ltype (Some target) is at within = type_at-named all space path target at within ∙ ap (λ (t : AstType). type_of all space (plain t)) (sym is)
+
+-- ---- the ports that a declaration writes out, one after another
+
+pub written-more : (all : List Declaration) (space : List (List ℕ)) (listed : List AstPort) (i : ℕ) (port : AstPort) (so_far : List Port) (made : Port)
+    → i < length listed → port ≡ get_or listed i port → Pairwise (IsPortOf all) (written_in space (take i listed)) so_far → IsPortOf all (record { space = space; port = port }) made
+    → Pairwise (IsPortOf all) (written_in space (take (i + 1) listed)) (so_far ++ made ∷ [])
+written-more all space listed i port so_far made within is are one =
+    let of_port : AstPort → PortOf = λ (it : AstPort). record { space = space; port = it } in
+    subst (λ (l : List PortOf). Pairwise (IsPortOf all) l (so_far ++ made ∷ []))
+    (sym (map-append of_port (take i listed) (port ∷ [])) ∙ ap (written_in space) (sym (take_more listed i port within ∙ ap (λ (p : AstPort). take i listed ++ p ∷ []) (sym is))))
+    (Pairwise-push (IsPortOf all) (written_in space (take i listed)) so_far (record { space = space; port = port }) made are one)
+
+pub written-all : (all : List Declaration) (number i : ℕ) (listed : List AstPort) (made : List Port) → listed ≡ own_ports (declaration all number).kind → length listed ≤ i
+    → Pairwise (IsPortOf all) (written_in (declaration all number).space (take i listed)) made → Pairwise (IsPortOf all) (ports_in (declaration all number)) made
+written-all all number i listed made are done so_far =
+    subst (λ (l : List AstPort). Pairwise (IsPortOf all) (written_in (declaration all number).space l) made) (take_all i listed done ∙ are) so_far

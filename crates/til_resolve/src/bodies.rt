@@ -28,8 +28,8 @@ pub fn body_of(
     requires impls { FindsFirstImpl (get nat_eq impls.now) (declarations_of scope.now.declared) (length (declarations_of scope.now.declared)) }
     ensures { IfOk result (λ body. body ≡ spec.body_of (declarations_of scope.now.declared) streamlet) }
 {
-    match impls.get(&streamlet) {
-        Some(number) => written_impl(alloc, scope, table, *number),
+    match impls.get(&streamlet).copied() {
+        Some(number) => written_impl(alloc, scope, table, number),
         None => Ok(None),
     }
 }
