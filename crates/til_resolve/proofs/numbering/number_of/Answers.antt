@@ -10,6 +10,14 @@ bounds-table-streamlet c =
     let long : length c.args.table.now ≡ length all = ap length c.requires.table ∙ length-numbers all (length all) in
     omega (arith, c.in-Some.ensures.within)
 
+pub offset_bounds-table-streamlet : goal.offset_bounds-table-streamlet
+offset_bounds-table-streamlet c =
+    let all = declarations_of c.args.scope.now.declared in
+    let long : length c.args.table.now ≡ length all = ap length c.requires.table ∙ length-numbers all (length all) in
+    let known = c.well_formed in
+    let kept = c.type_inv.table in
+    ?
+
 pub returns-in-Some : goal.returns-in-Some
 returns-in-Some c =
     let all = declarations_of c.args.scope.now.declared in
