@@ -1,14 +1,14 @@
 -- Lists in which each thing is related to one of another list, and streamlets, instances, links and tests, one thing more.
-use Rattle.std.proofs.Common.{◌≡◌, ℕ, zero, suc, ◌+◌, ◌<◌, Bool, true, false, cond, List, [], ◌∷◌, ◌++◌, length, map, filter, take, get_or, refl, sym, ap, subst, ◌∙◌, arith, length-append, add-one}
+use Rattle.std.proofs.Common.{◌≡◌, ℕ, zero, suc, ◌+◌, ◌<◌, Bool, true, false, not, cond, List, [], ◌∷◌, ◌++◌, length, map, filter, take, get_or, refl, sym, ap, subst, ◌∙◌, arith, length-append, add-one}
 use Rattle.std.specs.List.{filter_map, range_with_len}
 use Rattle.std.proofs.lemmas.List.{take_more, map-append}
 use Rattle.std.proofs.lemmas.List.Elements.{filter-append, filter_map-append}
 use Rattle.til_parser.specs.declared.tree.AstStmt.{AstStmt}
-use Rattle.til_resolve.specs.declared.project.Instance.{Instance}
+use Rattle.til_resolve.specs.declared.project.Streamlet.{Streamlet}
 use Rattle.til_resolve.specs.Declarations.{Declaration, declaration, is_streamlet, before}
 use Rattle.til_resolve.specs.Making.{numbers_before}
 use Rattle.til_resolve.specs.Names.{instance_at}
-use Rattle.til_resolve.specs.Project.{Pairwise, streamlets_before, streamlet_number, instance_of, instances_in, link_at, links_of, test_of, tests_in}
+use Rattle.til_resolve.specs.Project.{Pairwise, IsStreamletOf, streamlets_before, streamlet_number, instance_of, instances_in, link_at, links_of, test_of, tests_in}
 use Rattle.til_resolve.proofs.AgainLemmas.{append_nil}
 use Rattle.til_resolve.proofs.TypeGraphLemmas.{each-at, length-each}
 
@@ -36,12 +36,25 @@ streamlets-more all n =
     ap (filter test) (ap (range_with_len 0) (add-one n) ∙ range-more 0 n ∙ ap (λ (k : ℕ). range_with_len 0 n ++ k ∷ []) same)
     ∙ filter-append test (range_with_len 0 n) (n ∷ [])
 
--- a streamlet more
-pub streamlets-here : (all : List Declaration) (n : ℕ) → is_streamlet (declaration all n) ≡ true → streamlets_before all (n + 1) ≡ streamlets_before all n ++ n ∷ []
+streamlets-here : (all : List Declaration) (n : ℕ) → is_streamlet (declaration all n) ≡ true → streamlets_before all (n + 1) ≡ streamlets_before all n ++ n ∷ []
 streamlets-here all n is = streamlets-more all n ∙ ap (λ b. streamlets_before all n ++ cond b (n ∷ []) []) is
 
-pub streamlets-not : (all : List Declaration) (n : ℕ) → is_streamlet (declaration all n) ≡ false → streamlets_before all (n + 1) ≡ streamlets_before all n
+streamlets-not : (all : List Declaration) (n : ℕ) → is_streamlet (declaration all n) ≡ false → streamlets_before all (n + 1) ≡ streamlets_before all n
 streamlets-not all n is = streamlets-more all n ∙ ap (λ b. streamlets_before all n ++ cond b (n ∷ []) []) is ∙ append_nil (streamlets_before all n)
+
+-- a declaration that is no streamlet
+pub streamlets-kept : (all : List Declaration) (n : ℕ) (is : Bool) → is ≡ is_streamlet (declaration all n) → not is ≡ true → streamlets_before all n ≡ streamlets_before all (n + 1)
+streamlets-kept all n true same other = cc
+streamlets-kept all n false same other = sym (streamlets-not all n (sym same))
+
+-- a streamlet more
+pub streamlets-push : (all : List Declaration) (n : ℕ) (is : Bool) (made : Streamlet) (so_far new : List Streamlet) → is ≡ is_streamlet (declaration all n) → not is ≡ false
+    → Pairwise (IsStreamletOf all) (streamlets_before all n) so_far → IsStreamletOf all n made → new ≡ so_far ++ made ∷ [] → Pairwise (IsStreamletOf all) (streamlets_before all (n + 1)) new
+streamlets-push all n true made so_far new same one are is grown =
+    subst (λ (l : List ℕ). Pairwise (IsStreamletOf all) l new) (sym (streamlets-here all n (sym same)))
+    (subst (λ (l : List Streamlet). Pairwise (IsStreamletOf all) (streamlets_before all n ++ n ∷ []) l) (sym grown)
+    (Pairwise-push (IsStreamletOf all) (streamlets_before all n) so_far n made are is))
+streamlets-push all n false made so_far new same one are is grown = cc
 
 pub number-more : (all : List Declaration) (n : ℕ) → streamlet_number all (n + 1) ≡ streamlet_number all n + cond (is_streamlet (declaration all n)) 1 0
 number-more all n = ap length (streamlets-more all n) ∙ length-append (streamlets_before all n) (cond (is_streamlet (declaration all n)) (n ∷ []) [])

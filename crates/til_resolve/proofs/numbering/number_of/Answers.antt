@@ -14,9 +14,8 @@ pub offset_bounds-table-streamlet : goal.offset_bounds-table-streamlet
 offset_bounds-table-streamlet c =
     let all = declarations_of c.args.scope.now.declared in
     let long : length c.args.table.now ≡ length all = ap length c.requires.table ∙ length-numbers all (length all) in
-    let known = c.well_formed in
-    let kept = c.type_inv.table in
-    ?
+    let within : c.in-Some.streamlet < length c.args.table.now = omega (arith, c.in-Some.ensures.within) in
+    omega arith
 
 pub returns-in-Some : goal.returns-in-Some
 returns-in-Some c =

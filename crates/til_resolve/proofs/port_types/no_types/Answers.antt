@@ -6,5 +6,5 @@ use Rattle.til_resolve.proofs.port_types.no_types.Goals as goal
 pub returns : goal.returns
 returns c =
     let all = declarations_of c.args.scope.now.declared in
-    let same : c.numbers._number ≡ length all = omega (arith, c.len-_number-end.ensures) in
+    let same : c.numbers._number ≡ length all = omega (arith, c.len-number-end.ensures) in
     none-built all (record { streams = c.numbers.streams }) (c.numbers.invariant.long ∙ same) c.numbers.invariant.empty
