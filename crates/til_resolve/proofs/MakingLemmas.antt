@@ -1,5 +1,5 @@
 -- Lists in which each thing is related to one of another list, and streamlets, instances, links and tests, one thing more.
-use Rattle.std.proofs.Common.{◌≡◌, ℕ, zero, suc, ◌+◌, ◌<◌, Bool, true, false, not, cond, List, [], ◌∷◌, ◌++◌, length, map, filter, take, get_or, refl, sym, ap, subst, ◌∙◌, arith, length-append, add-one}
+use Rattle.std.proofs.Common.{◌≡◌, ℕ, zero, suc, ◌+◌, ◌<◌, Bool, true, false, cond, List, [], ◌∷◌, ◌++◌, length, map, filter, take, get_or, refl, sym, ap, subst, ◌∙◌, arith, length-append, add-one}
 use Rattle.std.specs.List.{filter_map, range_with_len}
 use Rattle.std.proofs.lemmas.List.{take_more, map-append}
 use Rattle.std.proofs.lemmas.List.Elements.{filter-append, filter_map-append}
@@ -43,18 +43,16 @@ streamlets-not : (all : List Declaration) (n : ℕ) → is_streamlet (declaratio
 streamlets-not all n is = streamlets-more all n ∙ ap (λ b. streamlets_before all n ++ cond b (n ∷ []) []) is ∙ append_nil (streamlets_before all n)
 
 -- a declaration that is no streamlet
-pub streamlets-kept : (all : List Declaration) (n : ℕ) (is : Bool) → is ≡ is_streamlet (declaration all n) → not is ≡ true → streamlets_before all n ≡ streamlets_before all (n + 1)
-streamlets-kept all n true same other = cc
-streamlets-kept all n false same other = sym (streamlets-not all n (sym same))
+pub streamlets-kept : (all : List Declaration) (n : ℕ) (is : Bool) → is ≡ is_streamlet (declaration all n) → is ≡ false → streamlets_before all n ≡ streamlets_before all (n + 1)
+streamlets-kept all n is same other = sym (streamlets-not all n (sym same ∙ other))
 
 -- a streamlet more
-pub streamlets-push : (all : List Declaration) (n : ℕ) (is : Bool) (made : Streamlet) (so_far new : List Streamlet) → is ≡ is_streamlet (declaration all n) → not is ≡ false
+pub streamlets-push : (all : List Declaration) (n : ℕ) (is : Bool) (made : Streamlet) (so_far new : List Streamlet) → is ≡ is_streamlet (declaration all n) → is ≡ true
     → Pairwise (IsStreamletOf all) (streamlets_before all n) so_far → IsStreamletOf all n made → new ≡ so_far ++ made ∷ [] → Pairwise (IsStreamletOf all) (streamlets_before all (n + 1)) new
-streamlets-push all n true made so_far new same one are is grown =
-    subst (λ (l : List ℕ). Pairwise (IsStreamletOf all) l new) (sym (streamlets-here all n (sym same)))
+streamlets-push all n is made so_far new same one are is_it grown =
+    subst (λ (l : List ℕ). Pairwise (IsStreamletOf all) l new) (sym (streamlets-here all n (sym same ∙ one)))
     (subst (λ (l : List Streamlet). Pairwise (IsStreamletOf all) (streamlets_before all n ++ n ∷ []) l) (sym grown)
-    (Pairwise-push (IsStreamletOf all) (streamlets_before all n) so_far n made are is))
-streamlets-push all n false made so_far new same one are is grown = cc
+    (Pairwise-push (IsStreamletOf all) (streamlets_before all n) so_far n made are is_it))
 
 pub number-more : (all : List Declaration) (n : ℕ) → streamlet_number all (n + 1) ≡ streamlet_number all n + cond (is_streamlet (declaration all n)) 1 0
 number-more all n = ap length (streamlets-more all n) ∙ length-append (streamlets_before all n) (cond (is_streamlet (declaration all n)) (n ∷ []) [])
