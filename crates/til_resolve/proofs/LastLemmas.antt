@@ -1,5 +1,5 @@
 -- The faults that are looked for last, and what a tree without faults shows of its ports.
-use Rattle.std.proofs.Common.{◌≡◌, ℕ, ◌<◌, ◌≤◌, ◌⊎◌, inl, inr, Bool, true, false, not, List, length, Option, Some, None, Contains, IsTrue, refl, sym, ap, subst, ◌∙◌, arith}
+use Rattle.std.proofs.Common.{◌≡◌, ◌≢◌, ℕ, ◌<◌, ◌≤◌, ◌⊎◌, inl, inr, Bool, true, false, not, List, length, Option, Some, None, Result, Ok, Err, IfOk, IfErr, Contains, IsTrue, refl, sym, ap, subst, ◌∙◌, arith}
 use Rattle.std.proofs.lemmas.Bool.{cases_lt}
 use Rattle.tydi_base.specs.declared.place.Place.{Place}
 use Rattle.til_parser.specs.declared.tree.Ast.{Ast}
@@ -72,7 +72,7 @@ told-none_last all none streams is = record { told = never }
 
 -- ---- all faults
 
-pub sound : (ast : Ast) (all : List Declaration) → all ≡ declarations ast → IsToldUpTo all 7 None → IsSound ast
+sound : (ast : Ast) (all : List Declaration) → all ≡ declarations ast → IsToldUpTo all 7 None → IsSound ast
 sound ast all same none = λ fault. subst (λ (l : List Declaration). ¬ HasFault l fault) same (never fault)
   where
     never : (fault : ResolveFault) → ¬ HasFault all fault
@@ -86,7 +86,7 @@ sound ast all same none = λ fault. subst (λ (l : List Declaration). ¬ HasFaul
     never (faults.CyclicInstance q) there = none.told (faults.CyclicInstance q) (omega arith) there
     never faults.Memory there = there
 
-pub told_of : (ast : Ast) (all : List Declaration) (fault : ResolveFault) → all ≡ declarations ast → IsToldUpTo all 7 (Some fault) → IsToldOf ast fault
+told_of : (ast : Ast) (all : List Declaration) (fault : ResolveFault) → all ≡ declarations ast → IsToldUpTo all 7 (Some fault) → IsToldOf ast fault
 told_of ast all fault same is = record {
   there = subst (λ (l : List Declaration). HasFault l fault) same is.told.0;
   first = λ other there. is.told.1 other (subst (λ (l : List Declaration). HasFault l other) (sym same) there);
@@ -113,9 +113,20 @@ module _ (all : List Declaration) (space : List (List ℕ)) (port : AstPort) (no
 
 -- ---- projects
 
-pub project_of : (ast : Ast) (all : List Declaration) (project : Project) → all ≡ declarations ast → Pairwise (IsStreamletOf all) (streamlet_numbers all) project.streamlets
-    → project.tests ≡ tests_in all all → IsProjectOf ast project
-project_of ast all project same streamlets tests = record {
-  streamlets_are = subst (λ (l : List Declaration). Pairwise (IsStreamletOf l) (streamlet_numbers l) project.streamlets) same streamlets;
-  tests_are = subst (λ (l : List Declaration). project.tests ≡ tests_in l l) same tests;
-}
+module _ (ast : Ast) (all : List Declaration) (same : all ≡ declarations ast) where
+  pub sound_result : (result : Result Project ResolveFault) → IfOk result (λ project. IsToldUpTo all 7 None) → IfOk result (λ project. IsSound ast)
+  sound_result (Ok project) none = sound ast all same none
+  sound_result (Err fault) none = tt
+
+  pub project_result : (result : Result Project ResolveFault) → IfOk result (λ project. Pairwise (IsStreamletOf all) (streamlet_numbers all) project.streamlets)
+      → IfOk result (λ project. project.tests ≡ tests_in all all) → IfOk result (IsProjectOf ast)
+  project_result (Ok project) streamlets tests = record {
+    streamlets_are = subst (λ (l : List Declaration). Pairwise (IsStreamletOf l) (streamlet_numbers l) project.streamlets) same streamlets;
+    tests_are = subst (λ (l : List Declaration). project.tests ≡ tests_in l l) same tests;
+  }
+  project_result (Err fault) streamlets tests = tt
+
+  pub fault_result : (result : Result Project ResolveFault) → IfErr result (λ fault. fault ≢ faults.Memory → IsToldUpTo all 7 (Some fault))
+      → IfErr result (λ fault. fault ≢ faults.Memory → IsToldOf ast fault)
+  fault_result (Ok project) told = tt
+  fault_result (Err fault) told = λ other. told_of ast all fault same (told other)

@@ -1,8 +1,8 @@
 //! The project of a tree, or its first fault.
 
-ghost use Rattle.std.specs.Prelude.{◌≡◌, ◌≢◌, IfOk, IfErr};
+ghost use Rattle.std.specs.Prelude.{◌≡◌, ◌≢◌, Some, None, IfOk, IfErr};
 ghost use Rattle.til_resolve.specs.Faults.{IsSound, IsToldOf, IsToldUpTo};
-ghost use Rattle.til_resolve.specs.Project.{IsProjectOf};
+ghost use Rattle.til_resolve.specs.Project.{IsProjectOf, IsStreamletOf, Pairwise, streamlet_numbers, tests_in};
 ghost use Rattle.til_resolve.specs.Scope.{declarations_of};
 ghost use Rattle.til_resolve.specs.declared.fault.ResolveFault.TheVariants as faults;
 
@@ -25,9 +25,20 @@ pub fn resolve(alloc: Global, ast: &Ast) -> Result<Project, ResolveFault>
     ensures fault { IfErr result (λ fault. fault ≢ faults.Memory → IsToldOf ast.now fault) }
 {
     let scope = Scope::new(alloc, ast)?;
-    match first_of_all(alloc, &scope)? {
+    project_or_fault(alloc, &scope)
+}
+
+// The project of declarations, or their first fault.
+fn project_or_fault(alloc: Global, scope: &Scope<'_>) -> Result<Project, ResolveFault>
+    ensures sound { IfOk result (λ project. IsToldUpTo (declarations_of scope.now.declared) 7 None) }
+    ensures streamlets { IfOk result (λ project. Pairwise (IsStreamletOf (declarations_of scope.now.declared))
+        (streamlet_numbers (declarations_of scope.now.declared)) project.streamlets) }
+    ensures tests { IfOk result (λ project. project.tests ≡ tests_in (declarations_of scope.now.declared) (declarations_of scope.now.declared)) }
+    ensures fault { IfErr result (λ fault. fault ≢ faults.Memory → IsToldUpTo (declarations_of scope.now.declared) 7 (Some fault)) }
+{
+    match first_of_all(alloc, scope)? {
         Some(fault) => Err(fault),
-        None => Ok(project_of(alloc, &scope)?),
+        None => Ok(project_of(alloc, scope)?),
     }
 }
 

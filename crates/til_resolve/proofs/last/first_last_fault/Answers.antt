@@ -12,16 +12,16 @@ returns-in-Some c =
     let all = declarations_of c.args.scope.now.declared in
     told-no_stream all c.in-Some.place c.requires.before (subst (IsEarliest (HasTypeAt (IsMisshapen sorts.PortNotStream) (written_types all))) c.in-Some.is c.first_misshapen.ensures)
 
-pub returns-in-Some-first_cyclic_instance : goal.returns-in-Some-first_cyclic_instance
-returns-in-Some-first_cyclic_instance c =
+pub returns-in-Some-2 : goal.returns-in-Some-2
+returns-in-Some-2 c =
     let all = declarations_of c.args.scope.now.declared in
-    told-contained all c.in-Some-first_cyclic_instance.place c.requires.before
+    told-contained all c.in-Some-2.place c.requires.before
     (subst (IsEarliest (HasTypeAt (IsMisshapen sorts.PortNotStream) (written_types all))) c.in_default.is c.first_misshapen.ensures)
-    (subst (IsEarliest (IsBelow (IsCyclicAtTarget all) (length all))) c.in-Some-first_cyclic_instance.is c.in_ok-first_cyclic_instance.ensures)
+    (subst (IsEarliest (IsBelow (IsCyclicAtTarget all) (length all))) c.in-Some-2.is c.in_ok-place.ensures)
 
-pub returns : goal.returns
-returns c =
+pub returns-in-None : goal.returns-in-None
+returns-in-None c =
     let all = declarations_of c.args.scope.now.declared in
     told-none_last all c.requires.before
     (subst (IsEarliest (HasTypeAt (IsMisshapen sorts.PortNotStream) (written_types all))) c.in_default.is c.first_misshapen.ensures)
-    (subst (IsEarliest (IsBelow (IsCyclicAtTarget all) (length all))) c.in-None.is c.in_ok-first_cyclic_instance.ensures)
+    (subst (IsEarliest (IsBelow (IsCyclicAtTarget all) (length all))) c.in-None.is c.in_ok-place.ensures)
