@@ -3,14 +3,14 @@ use Rattle.std.proofs.Common.{◌≡◌, ℕ, zero, suc, ◌+◌, ◌<◌, ◌�
 use Rattle.std.specs.List.{filter_map, cons_option}
 use Rattle.std.specs.Option.{option_or}
 use Rattle.std.proofs.lemmas.Bool.{false≢true}
-use Rattle.std.proofs.lemmas.List.{length-take-le}
+use Rattle.std.proofs.lemmas.List.{length-take-le, take_all}
 use Rattle.std.proofs.lemmas.List.Quantifiers.{position-Some}
 use Rattle.til_parser.specs.declared.tree.AstKind.{AstKind}
 use Rattle.til_parser.specs.declared.tree.AstKind.TheVariants as decls
 use Rattle.til_parser.specs.declared.tree.AstName.{AstName}
 use Rattle.til_resolve.specs.declared.project.Impl.{Impl}
 use Rattle.til_resolve.specs.Declarations.{Declaration, declaration}
-use Rattle.til_resolve.specs.Making.{written_impl}
+use Rattle.til_resolve.specs.Making.{FindsFirstImpl, written_impl}
 use Rattle.til_resolve.specs.Names.{is_impl_of}
 use Rattle.til_resolve.specs.Project.{impl_of, impl_by, first_of, body_of}
 use Rattle.til_resolve.proofs.MakingLemmas.{taken-more}
@@ -101,3 +101,7 @@ module _ (all : List Declaration) (streamlet : ℕ) where
       let long : length (take number all) ≡ number = length-take-le number all (omega (arith, within)) in
       ap (position (is_impl_of all streamlet)) (taken-more all number within) ∙ position-push (is_impl_of all streamlet) (take number all) (declaration all number)
       ∙ ap (λ n. option_or (position (is_impl_of all streamlet) (take number all)) (cond (is_impl_of all streamlet (declaration all number)) (Some n) None)) long
+
+  -- what a look-up finds among all declarations
+  pub impl-found : (find : ℕ → Option ℕ) → FindsFirstImpl find all (length all) → find streamlet ≡ position (is_impl_of all streamlet) all
+  impl-found find finds = finds streamlet ∙ ap (position (is_impl_of all streamlet)) (take_all (length all) all (omega arith))

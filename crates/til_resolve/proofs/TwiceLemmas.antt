@@ -88,16 +88,13 @@ pub implemented-here : (all : List Declaration) (number streamlet first : ℕ) (
 implemented-here all number streamlet first place of is before at =
     subst (λ (p : Place). IsEarliest (Contains (implemented_again all number)) (Some p)) (sym at) (implemented-tested all number streamlet (Some first) true of is (lt-ltb first number before))
 
-pub implemented-first : (all : List Declaration) (number streamlet : ℕ) (first : Option ℕ) → Some streamlet ≡ implements all (declaration all number)
-    → first ≡ position (is_impl_of all streamlet) all → ((found : ℕ) → first ≡ Some found → number ≤ found) → IsEarliest (Contains (implemented_again all number)) None
-implemented-first all number streamlet first of is after = implemented-tested all number streamlet first false of is (by first refl)
-  where
-    by : (o : Option ℕ) → first ≡ o → found_before o number ≡ false
-    by None same = refl
-    by (Some found) same = le-ltb found number (after found same)
+pub implemented-later : (all : List Declaration) (number streamlet first : ℕ) → Some streamlet ≡ implements all (declaration all number)
+    → Some first ≡ position (is_impl_of all streamlet) all → number ≤ first → IsEarliest (Contains (implemented_again all number)) None
+implemented-later all number streamlet first of is after = implemented-tested all number streamlet (Some first) false of is (le-ltb first number after)
 
-pub implemented-none : (all : List Declaration) (number : ℕ) → None ≡ implements all (declaration all number) → IsEarliest (Contains (implemented_again all number)) None
-implemented-none all number of = subst (λ (l : List Place). IsEarliest (Contains l) None) (ap (implements_again all number) of) IsEarliest-nil
+pub implemented-by_none : (all : List Declaration) (number streamlet : ℕ) → Some streamlet ≡ implements all (declaration all number)
+    → None ≡ position (is_impl_of all streamlet) all → IsEarliest (Contains (implemented_again all number)) None
+implemented-by_none all number streamlet of is = implemented-tested all number streamlet None false of is refl
 
 -- ---- keys that were seen
 
