@@ -54,10 +54,7 @@ fn first_of_all(alloc: Global, scope: &Scope<'_>) -> Result<Option<ResolveFault>
 }
 
 // The first fault of those up to types with a fault.
-fn first_up_to_bad_types(
-    _alloc: Global,
-    _scope: &Scope<'_>,
-) -> Result<Option<ResolveFault>, Memory>
+fn first_up_to_bad_types(_alloc: Global, _scope: &Scope<'_>) -> Result<Option<ResolveFault>, Memory>
     ensures { IfOk result (IsToldUpTo (declarations_of _scope.now.declared) 5) }
 {
     Err(Memory)

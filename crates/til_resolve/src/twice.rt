@@ -234,7 +234,7 @@ fn implemented_again(scope: &Scope<'_>, impls: &FirstImpls, number: usize) -> Op
 {
     let streamlet = implements(scope, number)?;
     match impls.get(&streamlet).copied() {
-        Some(first) if first < number => Some(scope.get(number).name.place),
+        Some(one) if one < number => Some(scope.get(number).name.place),
         _ => None,
     }
 }
