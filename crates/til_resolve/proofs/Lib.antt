@@ -16,4 +16,9 @@ mod ContainmentLemmas
 mod BelowLemmas
 mod ShapeLemmas
 mod MisshapenLemmas
+mod MakingLemmas
+mod BodyLemmas
+mod LastLemmas
+mod BuildingLemmas
+mod WrittenLemmas
 mod Examples

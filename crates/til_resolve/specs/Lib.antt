@@ -15,3 +15,5 @@ pub mod Sought
 pub mod Graph
 pub mod Shapes
 pub mod Project
+pub mod Making
+pub mod Building
