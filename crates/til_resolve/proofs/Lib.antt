@@ -19,6 +19,6 @@ mod MisshapenLemmas
 mod MakingLemmas
 mod BodyLemmas
 mod LastLemmas
-mod BuildingLemmas
-mod WrittenLemmas
+mod SharedTypeLemmas
+mod PortsWrittenLemmas
 mod Examples

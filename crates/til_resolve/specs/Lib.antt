@@ -16,4 +16,4 @@ pub mod Graph
 pub mod Shapes
 pub mod Project
 pub mod Making
-pub mod Building
+pub mod SharedTypes

@@ -3,7 +3,7 @@
 ghost use Rattle.std.specs.Prelude.{◌≡◌, ◌<◌, length, None, Contains, IfOk, IfSome, OnOk};
 ghost use Rattle.logical_types.specs.Tree.{plain_of_stream};
 ghost use Rattle.til_parser.specs.Tree.{plain};
-ghost use Rattle.til_resolve.specs.Building.{AreBuilt};
+ghost use Rattle.til_resolve.specs.SharedTypes.{AreBuilt};
 ghost use Rattle.til_resolve.specs.Declarations.{declaration};
 ghost use Rattle.til_resolve.specs.Faults.{IsToldUpTo, written_types};
 ghost use Rattle.til_resolve.specs.Making.{type_of_port};

@@ -2,7 +2,7 @@
 
 ghost use Rattle.std.specs.Prelude.{◌≡◌, ◌+◌, ◌<◌, length, nat_eq, None, Contains, IfOk, OnOk};
 ghost use Rattle.indexmap.specs.IndexMap.{get};
-ghost use Rattle.til_resolve.specs.Building.{AreBuilt};
+ghost use Rattle.til_resolve.specs.SharedTypes.{AreBuilt};
 ghost use Rattle.til_resolve.specs.Declarations.{declaration, path_of, ports_in, ports_of};
 ghost use Rattle.til_resolve.specs.Faults.{IsToldUpTo, written_types};
 ghost use Rattle.til_resolve.specs.Making.{FindsFirstImpl, numbers_before, type_of_port};

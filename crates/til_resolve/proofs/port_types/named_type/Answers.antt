@@ -4,7 +4,7 @@ use Rattle.til_parser.specs.Tree.{plain}
 use Rattle.til_resolve.specs.Declarations.{declaration}
 use Rattle.til_resolve.specs.Scope.{declarations_of}
 use Rattle.til_resolve.specs.Types.{type_of}
-use Rattle.til_resolve.proofs.WrittenLemmas.{type_at-found}
+use Rattle.til_resolve.proofs.PortsWrittenLemmas.{type_at-found}
 use Rattle.til_resolve.proofs.port_types.named_type.Goals as goal
 
 pub returns-in-Path-clause-value : goal.returns-in-Path-clause-value

@@ -1,6 +1,6 @@
 use Rattle.std.proofs.Common.{◌≡◌, length, Option, IfSome, subst, sym, ◌∙◌, arith}
 use Rattle.til_resolve.specs.Scope.{declarations_of}
-use Rattle.til_resolve.proofs.BuildingLemmas.{none-built}
+use Rattle.til_resolve.proofs.SharedTypeLemmas.{none-built}
 use Rattle.til_resolve.proofs.port_types.no_types.Goals as goal
 
 pub returns : goal.returns

@@ -1,4 +1,4 @@
-use Rattle.til_resolve.specs.Building.{AreBuilt}
+use Rattle.til_resolve.specs.SharedTypes.{AreBuilt}
 use Rattle.til_resolve.specs.Project.{IsStreamletOf, Pairwise, streamlets_before}
 use Rattle.til_resolve.specs.Scope.{declarations_of}
 use Rattle.til_resolve.proofs.streamlets.all_streamlets.Given as goal

@@ -2,7 +2,7 @@ use Rattle.std.proofs.Common.{◌≡◌, List, IfOk, sym, subst}
 use Rattle.til_resolve.specs.Declarations.{PortOf, declaration}
 use Rattle.til_resolve.specs.Project.{IsPortOf, Pairwise}
 use Rattle.til_resolve.specs.Scope.{declarations_of}
-use Rattle.til_resolve.proofs.WrittenLemmas.{ports_of-owner, ports_of-none}
+use Rattle.til_resolve.proofs.PortsWrittenLemmas.{ports_of-owner, ports_of-none}
 use Rattle.til_resolve.proofs.streamlets.ports_of.Goals as goal
 
 pub returns-in-Some-clause-ports : goal.returns-in-Some-clause-ports

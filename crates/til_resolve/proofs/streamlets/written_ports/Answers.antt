@@ -1,7 +1,7 @@
 use Rattle.std.proofs.Common.{◌≡◌, ap, sym, subst, ◌∙◌}
 use Rattle.til_resolve.specs.Declarations.{declaration, own_ports}
 use Rattle.til_resolve.specs.Scope.{declarations_of}
-use Rattle.til_resolve.proofs.WrittenLemmas.{port-written, written-more, written-all}
+use Rattle.til_resolve.proofs.PortsWrittenLemmas.{port-written, written-more, written-all}
 use Rattle.til_resolve.proofs.streamlets.written_ports.Goals as goal
 
 pub port_of-requires-clause-written : goal.port_of-requires-clause-written

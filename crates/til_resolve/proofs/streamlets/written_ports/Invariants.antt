@@ -1,5 +1,5 @@
 use Rattle.std.proofs.Common.{take}
-use Rattle.til_resolve.specs.Building.{AreBuilt}
+use Rattle.til_resolve.specs.SharedTypes.{AreBuilt}
 use Rattle.til_resolve.specs.Declarations.{declaration}
 use Rattle.til_resolve.specs.Making.{written_in}
 use Rattle.til_resolve.specs.Project.{IsPortOf, Pairwise}

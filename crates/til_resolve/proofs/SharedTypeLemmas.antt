@@ -2,7 +2,7 @@
 use Rattle.std.proofs.Common.{◌≡◌, ◌≢◌, ℕ, ◌<◌, ◌≤◌, ◌⊎◌, inl, inr, List, length, get_or, Option, Some, None, IfSome, refl, sym, ap, subst, ◌∙◌, arith}
 use Rattle.logical_types.specs.Tree.{plain_of_stream}
 use Rattle.til_resolve.specs.declared.port_types.PortTypes.{PortTypes}
-use Rattle.til_resolve.specs.Building.{AreBuilt}
+use Rattle.til_resolve.specs.SharedTypes.{AreBuilt}
 use Rattle.til_resolve.specs.Declarations.{Declaration}
 use Rattle.til_resolve.specs.Shapes.{type_at}
 
