@@ -4,7 +4,10 @@
 //! are the types, these definitions and the three look-ups. The crate stands on `til_parser` and `logical_types`.
 #![tactic(auto)]
 
+mod bad_types;
+mod building;
 mod certificate;
+mod chains;
 mod containment;
 mod cyclic_types;
 mod declared;
@@ -29,6 +32,7 @@ mod shapes;
 mod tests;
 mod twice;
 mod type_graph;
+mod written;
 
 pub use fault::ResolveFault;
 pub use project::{Impl, Instance, Link, LinkEnd, Port, Project, Streamlet, Test};
