@@ -1,19 +1,23 @@
 -- The first written type that has a fault, one type after another, and what is kept of the types of declarations.
 use Rattle.std.proofs.Common.{◌≡◌, ℕ, zero, suc, ◌+◌, ◌<◌, ◌≤◌, ◌⊎◌, inl, inr, Bool, true, false, cond, ltb, List, [], ◌∷◌, ◌++◌, length, map, replicate, get_or, set, take, Option, Some, None, is_some, IfSome, Contains, refl, sym, ap, subst, ◌∙◌, arith}
 use Rattle.std.specs.Bool.{then_some}
-use Rattle.std.proofs.lemmas.Bool.{cases_eq, cases_lt}
+use Rattle.std.proofs.lemmas.Bool.{cases_eq, cases_lt, leb-true, leb-false, lt-ltb, ltb-true}
 use Rattle.std.proofs.lemmas.List.{take_more, take_all, map-append, get_or-set_same, get_or-set_other, set_past}
 use Rattle.std.proofs.lemmas.List.Elements.{Contains-append_left, Contains-append_right, Contains-push}
 use Rattle.tydi_base.specs.declared.place.Place.{Place}
 use Rattle.logical_types.specs.declared.fault.TypeFault.{TypeFault}
+use Rattle.logical_types.specs.declared.ltype.LType.{LType}
+use Rattle.logical_types.specs.Tree.{Ltype, plain}
 use Rattle.til_resolve.specs.declared.bad_types.BadType.{BadType}
 use Rattle.til_resolve.specs.declared.bad_types.Verdict.{Verdict}
 use Rattle.til_resolve.specs.declared.bad_types.Verdict.TheVariants as verdicts
+use Rattle.til_resolve.specs.declared.building.Room.{Room}
 use Rattle.til_resolve.specs.declared.fault.ResolveFault.TheVariants as faults
 use Rattle.til_resolve.specs.declared.written.Written.{Written}
 use Rattle.til_resolve.specs.BadTypes.{first_fault, AreAcyclic, HasSomeFault, IsBadIn, place_found, IsFirstBad, bad_at, bad_type, earlier_bad, verdict_at, AreVerdicts}
+use Rattle.til_resolve.specs.Building.{Builds}
 use Rattle.til_resolve.specs.Declarations.{Declaration, declaration}
-use Rattle.til_resolve.specs.Earliest.{IsEarliest, earlier}
+use Rattle.til_resolve.specs.Earliest.{IsEarliest, earlier, stands_first}
 use Rattle.til_resolve.specs.Faults.{WrittenType, HasTypeAt, IsToldUpTo, written_types}
 use Rattle.til_resolve.specs.Shapes.{type_at}
 use Rattle.til_resolve.specs.Types.{depth_of}
@@ -82,6 +86,30 @@ pub IsFirstBad-all : (all : List Declaration) (written : List Written) (i : ℕ)
 IsFirstBad-all all written i found done are so =
     subst (λ (l : List WrittenType). IsFirstBad l found) (ap (map (written_type all)) (take_all i written done) ∙ are.types) so
 
+-- ---- what one turn finds
+
+-- what was found stands no later
+pub earlier_bad-stays : (found : Option BadType) (place : Place) (o : Option TypeFault) → stands_first (place_found found) place ≡ true → found ≡ earlier_bad found (bad_at place o)
+earlier_bad-stays None place o first = cc
+earlier_bad-stays (Some bad) place None first = refl
+earlier_bad-stays (Some bad) place (Some fault) first = by (ltb place.offset bad.place.offset) refl
+  where
+    by : (b : Bool) → ltb place.offset bad.place.offset ≡ b → Some bad ≡ cond b (Some (record { place = place; fault = fault })) (Some bad)
+    by true before = absurd (omega (arith, ltb-true place.offset bad.place.offset before, leb-true bad.place.offset place.offset first))
+    by false before = refl
+
+-- the type stands before what was found
+pub earlier_bad-taken : (found : Option BadType) (place : Place) (fault : TypeFault) → stands_first (place_found found) place ≡ false
+    → Some (record { place = place; fault = fault }) ≡ earlier_bad found (bad_at place (Some fault))
+earlier_bad-taken None place fault later = refl
+earlier_bad-taken (Some bad) place fault later =
+    ap (λ (b : Bool). cond b (Some (record { place = place; fault = fault })) (Some bad)) (sym (lt-ltb place.offset bad.place.offset (leb-false bad.place.offset place.offset later)))
+
+-- the type has no fault
+pub earlier_bad-none : (found : Option BadType) (place : Place) → found ≡ earlier_bad found (bad_at place None)
+earlier_bad-none None place = refl
+earlier_bad-none (Some bad) place = refl
+
 -- ---- what is told before
 
 pub acyclic-told : (all : List Declaration) → IsToldUpTo all 4 None → AreAcyclic all
@@ -130,3 +158,12 @@ AreVerdicts-kept all old new number fault is right so = record { each = λ one o
     by one other (inl same) known = subst (λ (k : ℕ). other ≡ first_fault (type_at all (suc (length all)) k)) (sym same)
         (at other (cases_lt number (length old)) (subst (λ (k : ℕ). verdict_at (set old number (verdicts.Known fault)) k ≡ verdicts.Known other) same known))
     by one other (inr apart) known = so.each one other (sym (get_or-set_other old number one (verdicts.Known fault) verdicts.Unknown apart) ∙ known)
+
+-- the first fault of a root's type that is made
+pub fault-declared : (all : List Declaration) (room : Room) (root : ℕ) (wanted : Ltype) (built : LType) (fault : Option TypeFault) → fault ≡ first_fault (plain built)
+    → room.names ≡ length all → room.levels ≡ 64 → wanted ≡ type_at all (suc (length all)) root → depth_of wanted ≤ 64 → Builds room.levels (type_at all (suc room.names) root) built
+    → fault ≡ first_fault (type_at all (suc (length all)) root)
+fault-declared all room root wanted built fault told names levels same small so =
+    told ∙ ap first_fault
+    (subst (λ (n : ℕ). Builds n (type_at all (suc (length all)) root) built) levels (subst (λ (n : ℕ). Builds room.levels (type_at all (suc n) root) built) names so)
+    (subst (λ (t : Ltype). depth_of t ≤ 64) same small))

@@ -72,26 +72,14 @@ pub BuildsParts-more : (levels : ℕ) (meaning : List AstName → Ltype) (parts 
     → i < length parts → one ≡ get_or parts i one → new ≡ built ++ made ∷ [] → made.name ≡ one.name.name → Builds levels (replaced meaning (tree.plain one.ltype)) made.ltype
     → BuildsParts levels (replaced_list meaning (take i parts)) built → BuildsParts levels (replaced_list meaning (take (i + 1) parts)) new
 BuildsParts-more levels meaning parts i one built new made within is pushes name here so =
+    let before : Parts = replaced_list meaning (take i parts) in
+    let last : Ltype = replaced meaning (tree.plain one.ltype) in
+    let grown : replaced_list meaning (take (i + 1) parts) ≡ pushed before one.name.name last =
+    ap (replaced_list meaning) (take_more parts i one within ∙ ap (λ (p : AstPart). take i parts ++ p ∷ []) (sym is)) ∙ replaced_list-push meaning (take i parts) one in
+    let depth = depth-pushed before one.name.name last in
     subst (λ (ps : Parts). BuildsParts levels ps new) (sym grown)
-    (λ deep. ap plain_parts pushes ∙ plain_parts-push built made ∙ ap (λ (ps : Parts). pushed ps made.name (plain made.ltype)) (so (front deep))
-    ∙ ap (λ (n : List ℕ). pushed before n (plain made.ltype)) name ∙ ap (pushed before one.name.name) (here (back deep)))
-  where
-    before : Parts
-    before = replaced_list meaning (take i parts)
-
-    last : Ltype
-    last = replaced meaning (tree.plain one.ltype)
-
-    grown : replaced_list meaning (take (i + 1) parts) ≡ pushed (replaced_list meaning (take i parts)) one.name.name (replaced meaning (tree.plain one.ltype))
-    grown = ap (replaced_list meaning) (take_more parts i one within ∙ ap (λ (p : AstPart). take i parts ++ p ∷ []) (sym is)) ∙ replaced_list-push meaning (take i parts) one
-
-    front : depth_of_parts (pushed (replaced_list meaning (take i parts)) one.name.name (replaced meaning (tree.plain one.ltype))) ≤ levels
-        → depth_of_parts (replaced_list meaning (take i parts)) ≤ levels
-    front deep = omega (arith, deep, depth-pushed (replaced_list meaning (take i parts)) one.name.name (replaced meaning (tree.plain one.ltype)))
-
-    back : depth_of_parts (pushed (replaced_list meaning (take i parts)) one.name.name (replaced meaning (tree.plain one.ltype))) ≤ levels
-        → depth_of (replaced meaning (tree.plain one.ltype)) ≤ levels
-    back deep = omega (arith, deep, depth-pushed (replaced_list meaning (take i parts)) one.name.name (replaced meaning (tree.plain one.ltype)))
+    (λ deep. ap plain_parts pushes ∙ plain_parts-push built made ∙ ap (λ (ps : Parts). pushed ps made.name (plain made.ltype)) (so (omega (arith, deep, depth)))
+    ∙ ap (λ (n : List ℕ). pushed before n (plain made.ltype)) name ∙ ap (pushed before one.name.name) (here (omega (arith, deep, depth))))
 
 -- ---- one node
 
@@ -121,14 +109,10 @@ module _ (meaning : List AstName → Ltype) (ltype : AstType) (levels inside : �
   pub Builds-Stream : (one : AstStream) (built : StreamType) → ltype ≡ written.Stream one
       → BuildsStream inside (replaced meaning (tree.plain one.element)) (replaced meaning (tree.plain one.user)) (settings_of (tree.settings_of one)) built
       → Builds levels (replaced meaning (tree.plain ltype)) (types.Stream built)
-  Builds-Stream one built is so = Builds-same levels wanted (replaced meaning (tree.plain ltype)) (types.Stream built) (sym same)
-      (λ deep. plain-Stream built ∙ so (omega (arith, deep, room)))
-    where
-      wanted : Ltype
-      wanted = stream (replaced meaning (tree.plain one.element)) (replaced meaning (tree.plain one.user)) (settings_of (tree.settings_of one))
-
-      same : replaced meaning (tree.plain ltype) ≡ stream (replaced meaning (tree.plain one.element)) (replaced meaning (tree.plain one.user)) (settings_of (tree.settings_of one))
-      same = ap (λ (t : AstType). replaced meaning (tree.plain t)) is ∙ ap (replaced meaning) (tree_plain.plain-Stream one)
+  Builds-Stream one built is so =
+      let wanted : Ltype = stream (replaced meaning (tree.plain one.element)) (replaced meaning (tree.plain one.user)) (settings_of (tree.settings_of one)) in
+      let same : replaced meaning (tree.plain ltype) ≡ wanted = ap (λ (t : AstType). replaced meaning (tree.plain t)) is ∙ ap (replaced meaning) (tree_plain.plain-Stream one) in
+      Builds-same levels wanted (replaced meaning (tree.plain ltype)) (types.Stream built) (sym same) (λ deep. plain-Stream built ∙ so (omega (arith, deep, room)))
 
   pub Builds-Path : (path : AstPath) (built : LType) → ltype ≡ written.Path path → Builds levels (meaning path.names) built → Builds levels (replaced meaning (tree.plain ltype)) built
   Builds-Path path built is so = Builds-same levels (meaning path.names) (replaced meaning (tree.plain ltype)) built

@@ -46,8 +46,11 @@ next-within all one n is = let d = declaration all one in by d.space d.kind is
 
 -- one name fewer
 next-is : (all : List Declaration) (less one n : ℕ) → next_of all one ≡ Some n → type_at all less one ≡ type_at all (less - 1) n
-next-is all zero one n is = ap (λ (k : ℕ). type_at all k n) (omega arith)
-next-is all (suc less) one n is = let d = declaration all one in by d.space d.name d.kind is ∙ ap (λ (k : ℕ). type_at all k n) (omega arith)
+next-is all zero one n is = let same : zero ≡ zero - 1 = omega arith in ap (λ (k : ℕ). type_at all k n) same
+next-is all (suc less) one n is =
+    let d = declaration all one in
+    let same : less ≡ suc less - 1 = omega arith in
+    by d.space d.name d.kind is ∙ ap (λ (k : ℕ). type_at all k n) same
   where
     by : (space : List (List ℕ)) (name : AstName) (kind : AstKind) → next_of_kind all space kind ≡ Some n
         → type_by (meaning_of all less) (record { space = space; name = name; kind = kind }) ≡ type_at all less n

@@ -96,10 +96,12 @@ module _ (all : List Declaration) (acyclic : AreAcyclic all) where
 
   -- one name more
   pub still : (less one : ℕ) → one < length all → length all ≤ less → type_at all (suc less) one ≡ type_at all less one
+  unfolding IsDistinct
   still less one within enough = still-on less [] one (record { distinct = tt; within = λ n there. absurd (Contains-nil n there); leads = λ n there. absurd (Contains-nil n there) }) within (omega (arith, enough))
 
   -- any number of names more
   pub still-more : (more one : ℕ) → one < length all → type_at all (more + length all) one ≡ type_at all (length all) one
-  still-more zero one within = ap (λ (n : ℕ). type_at all n one) (omega arith)
+  still-more zero one within = let same : zero + length all ≡ length all = omega arith in ap (λ (n : ℕ). type_at all n one) same
   still-more (suc more) one within =
-      ap (λ (n : ℕ). type_at all n one) (omega arith) ∙ still (more + length all) one within (omega arith) ∙ still-more more one within
+      let same : suc more + length all ≡ suc (more + length all) = omega arith in
+      ap (λ (n : ℕ). type_at all n one) same ∙ still (more + length all) one within (omega arith) ∙ still-more more one within

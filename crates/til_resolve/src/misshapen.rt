@@ -25,9 +25,9 @@ pub enum Sort {
 }
 
 /// The first written type with which this is wrong, where it is told.
-pub fn first_misshapen(
-    scope: &Scope<'_>,
-    written: &[Written<'_>],
+pub fn first_misshapen<'a>(
+    scope: &Scope<'a>,
+    written: &[Written<'a>],
     table: &[Shape],
     sort: Sort,
 ) -> Option<Place>

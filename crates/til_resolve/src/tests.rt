@@ -168,7 +168,10 @@ const FAULTY: [(&str, Option<(u8, u32)>); 44] = [
         "namespace a { streamlet s = (p: in Stream(data: b)); type b = Union(); type c = Bits(0); }",
         Some((6, 29)),
     ),
-    ("namespace a { type b = c; type c = d; type d = Bits(1); }", None),
+    (
+        "namespace a { type b = c; type c = d; type d = Bits(1); }",
+        None,
+    ),
 ];
 
 // Each type holds the one before twice: 49,151 nodes.

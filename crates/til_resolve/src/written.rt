@@ -23,10 +23,7 @@ pub enum Written<'a> {
 }
 
 /// The types of all type declarations and ports.
-pub fn written_types<'a>(
-    alloc: Global,
-    scope: &Scope<'a>,
-) -> Result<List<Written<'a>>, Memory>
+pub fn written_types<'a>(alloc: Global, scope: &Scope<'a>) -> Result<List<Written<'a>>, Memory>
     ensures { IfOk result (AreWritten (declarations_of scope.now.declared)) }
 {
     let mut written = List::new(alloc);
@@ -69,7 +66,7 @@ fn add_ports<'a>(
 }
 
 /// Where a written type is told of: at the name of its declaration or of its port.
-pub fn place_of(scope: &Scope<'_>, one: &Written<'_>) -> Place
+pub fn place_of<'a>(scope: &Scope<'a>, one: &Written<'a>) -> Place
     requires { IsWithin (declarations_of scope.now.declared) one.now }
     ensures { result ≡ place_of (declarations_of scope.now.declared) one.now }
 {
