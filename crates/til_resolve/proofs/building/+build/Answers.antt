@@ -1,5 +1,4 @@
 use Rattle.std.proofs.Common.{◌≡◌, ◌-◌, List, ap, subst, sym, ◌∙◌, arith}
-use Rattle.std.proofs.lemmas.Bool.{eqb-true}
 use Rattle.til_parser.specs.declared.ltype.AstPart.{AstPart}
 use Rattle.til_parser.specs.Tree.{plain}
 use Rattle.logical_types.specs.declared.ltype.LType.TheVariants as types
@@ -14,13 +13,13 @@ pub build_parts-parts-preserved : goal.build_parts-parts-preserved
 build_parts-parts-preserved k c =
     let all = declarations_of c.args.scope.now.declared in
     BuildsParts-more c.args.room.levels (meaning_of all c.args.room.names (declaration all c.args.number).space) c.args.parts.now c.parts.part-index c.part-item.result c.parts.built
-    c.push.new.self (record { name = c.in_ok-name.name; ltype = c.in_ok-ltype.ltype }) c.parts-test.true c.part-item.is c.in_ok-push.ensures c.in_ok-name.ensures c.in_ok-ltype.ensures c.parts.invariant
+    c.push.new.self (record { name = c.in_ok-name.name; ltype = c.in_ok-ltype.ltype }) c.parts-test.true c.part-item.is c.in_ok-push.ensures.ok c.in_ok-name.ensures c.in_ok-ltype.ensures c.parts.invariant
 
 pub build_type-returns-then-room-eq0 : goal.build_type-returns-then-room-eq0
 build_type-returns-then-room-eq0 k c =
     let all = declarations_of c.args.scope.now.declared in
     Builds-none c.args.room.levels (replaced (meaning_of all c.args.room.names (declaration all c.args.number).space) (plain c.args.ltype.now)) types.Null
-    (eqb-true c.args.room.levels 0 c.if-room-eq0.true)
+    c.if-room-eq0.true
 
 pub build_type-returns-in_ok-parts-in-Group : goal.build_type-returns-in_ok-parts-in-Group
 build_type-returns-in_ok-parts-in-Group k c =
