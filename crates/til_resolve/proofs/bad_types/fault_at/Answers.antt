@@ -1,6 +1,7 @@
-use Rattle.std.proofs.Common.{◌≡◌, length, suc, subst, sym, ap, ◌∙◌}
+use Rattle.std.proofs.Common.{◌≡◌, List, length, suc, subst, sym, ap, ◌∙◌}
+use Rattle.til_resolve.specs.declared.bad_types.Verdict.{Verdict}
 use Rattle.til_resolve.specs.declared.chains.Chain.{Chain}
-use Rattle.til_resolve.specs.BadTypes.{first_fault}
+use Rattle.til_resolve.specs.BadTypes.{first_fault, verdict_at}
 use Rattle.til_resolve.specs.Chains.{IsChain}
 use Rattle.til_resolve.specs.Scope.{declarations_of}
 use Rattle.til_resolve.specs.Shapes.{type_at}
@@ -14,7 +15,7 @@ returns-in-Known-clause-fault c =
     let chain = c.chain_at-root.result in
     let same = root-is all chain c.args.number c.requires.acyclic c.requires.within
     (subst (λ (x : Chain). IsChain all c.args.number x) (sym c.chain_at-root.ensures) (c.requires.chains.each c.args.number c.requires.within)) in
-    c.requires.verdicts.each chain.root c.in-Known.fault (sym c.verdict_at.ensures ∙ c.in-Known.is) ∙ ap first_fault (sym same)
+    c.requires.verdicts.each chain.root c.in-Known.fault (ap (λ (l : List Verdict). verdict_at l chain.root) (sym c.deref.ensures.value) ∙ sym c.verdict_at.ensures ∙ c.in-Known.is) ∙ ap first_fault (sym same)
 
 pub returns-clause-fault : goal.returns-clause-fault
 returns-clause-fault c =

@@ -12,9 +12,11 @@ or_bad-requires-clause-small c =
     (Contains-at c.args.written.now c.written.one-index c.one-item.result c.written-test.true c.one-item.is)
 
 pub written-preserved : goal.written-preserved
-written-preserved c =
-    (IsFirstBad-more (declarations_of c.args.scope.now.declared) c.args.written.now c.written.one-index c.one-item.result c.written.found c.in_ok-found.found c.written-test.true c.one-item.is
-    c.in_ok-found.ensures.found c.written.invariant.0, c.in_ok-found.ensures.verdicts)
+written-preserved c = (
+  IsFirstBad-more (declarations_of c.args.scope.now.declared) c.args.written.now c.written.one-index c.one-item.result c.written.found c.in_ok-found.found c.written-test.true c.one-item.is
+      c.in_ok-found.ensures.found c.written.invariant.0,
+  c.in_ok-found.ensures.verdicts,
+)
 
 pub returns : goal.returns
 returns c =

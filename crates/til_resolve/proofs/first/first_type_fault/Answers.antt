@@ -24,11 +24,11 @@ returns-in-Some-2 c =
     let all = declarations_of c.args.scope.now.declared in
     told-bad all c.in-Some-2.bad
     (told-none_too_large all c.requires.early (subst (IsEarliest (HasTypeAt (IsMisshapen sorts.TooLarge) (written_types all))) c.in_default.is c.first_misshapen.ensures))
-    c.in-Some-2.ensures
+    (subst (IsFirstBad (written_types all)) c.in-Some-2.is c.in_ok-bad.ensures)
 
 pub returns : goal.returns
 returns c =
     let all = declarations_of c.args.scope.now.declared in
     told-no_bad all
     (told-none_too_large all c.requires.early (subst (IsEarliest (HasTypeAt (IsMisshapen sorts.TooLarge) (written_types all))) c.in_default.is c.first_misshapen.ensures))
-    c.in-None.ensures
+    (subst (IsFirstBad (written_types all)) c.in-None.is c.in_ok-bad.ensures)
