@@ -4,8 +4,11 @@
 //! are the types, these definitions and the three look-ups. The crate stands on `til_parser` and `logical_types`.
 #![tactic(auto)]
 
+mod bad_types;
 mod bodies;
+mod building;
 mod certificate;
+mod chains;
 mod containment;
 mod cyclic_types;
 mod declared;
@@ -33,12 +36,12 @@ mod search;
 mod shape;
 mod shapes;
 mod statements;
-mod stream_types;
 mod streamlets;
 #[cfg(test)]
 mod tests;
 mod twice;
 mod type_graph;
+mod written;
 mod written_tests;
 
 pub use fault::ResolveFault;

@@ -1,9 +1,10 @@
 //! The types of ports. A type that is named is built once, and shared by the ports that name it.
 
-ghost use Rattle.std.specs.Prelude.{◌≡◌, ◌<◌, length, None, Contains, IfOk, IfSome, OnOk};
+ghost use Rattle.std.specs.Prelude.{◌≡◌, suc, ◌<◌, length, None, Contains, IfOk, IfSome, OnOk};
 ghost use Rattle.logical_types.specs.Tree.{plain_of_stream};
 ghost use Rattle.til_parser.specs.Tree.{plain};
 ghost use Rattle.til_resolve.specs.SharedTypes.{AreBuilt};
+ghost use Rattle.til_resolve.specs.Chains.{AreChains};
 ghost use Rattle.til_resolve.specs.Declarations.{declaration};
 ghost use Rattle.til_resolve.specs.Faults.{IsToldUpTo, written_types};
 ghost use Rattle.til_resolve.specs.Making.{type_of_port};
@@ -11,29 +12,32 @@ ghost use Rattle.til_resolve.specs.Scope.{declarations_of};
 ghost use Rattle.til_resolve.specs.Shapes.{type_at};
 ghost use Rattle.til_resolve.specs.Types.{type_of};
 
+use crate::building::build_port;
+use crate::chains::{Chain, chain_at, find_chains, named_alone};
 use crate::scope::Scope;
-use crate::stream_types::stream_of;
 use logical_types::StreamType;
 use std::alloc::Global;
 use std::rc::Rc;
 use til_parser::{AstPort, AstType};
-use tydi_base::Memory;
+use tydi_base::{List, Memory};
 
-/// The Streams that were built of type declarations, by their numbers.
+/// The Streams that were built of the roots of type declarations, by their numbers.
 #[derive(Drop)]
 pub struct PortTypes {
     pub streams: Vec<Option<Rc<StreamType>>>,
+    pub chains: List<Chain>,
 }
 
 /// No types yet.
 pub fn no_types(alloc: Global, scope: &Scope<'_>) -> Result<PortTypes, Memory>
     ensures { IfOk result (AreBuilt (declarations_of scope.now.declared)) }
 {
+    let chains = find_chains(alloc, scope)?;
     let mut streams = Vec::new(alloc);
     'numbers: for _number in 0..scope.len() {
         streams.push(None)?;
     }
-    Ok(PortTypes { streams })
+    Ok(PortTypes { streams, chains })
 }
 
 /// The Stream that is the type of a port, which the declaration of a number writes.
@@ -53,22 +57,29 @@ pub fn type_of_port<'a>(
     ensures stream { IfOk result (λ stream. plain_of_stream stream.value
         ≡ type_of (declarations_of scope.now.declared) (declaration (declarations_of scope.now.declared) number).space (plain port.now.ltype)) }
 {
-    match named_type(scope, number, &port.ltype) {
-        Some(target) => shared_type(alloc, scope, types, number, port, target),
-        None => built_type(alloc, scope, number, port),
+    match named_root(scope, types.chains.as_slice(), number, &port.ltype) {
+        Some(root) => shared_type(alloc, scope, types, number, port, root),
+        None => built_type(alloc, scope, types.chains.as_slice(), number, port),
     }
 }
 
-// The declaration that a type names, if it is a name alone.
-fn named_type<'a>(scope: &Scope<'a>, number: usize, ltype: &'a AstType) -> Option<usize>
-    requires { number < length (declarations_of scope.now.declared) }
-    ensures within { IfSome result (λ target. target < length (declarations_of scope.now.declared)) }
-    ensures value { IfSome result (λ target. type_at (declarations_of scope.now.declared) (length (declarations_of scope.now.declared)) target
+// The root of the declaration that a type names, if it is a name alone.
+fn named_root<'a>(
+    scope: &Scope<'a>,
+    chains: &[Chain],
+    number: usize,
+    ltype: &'a AstType,
+) -> Option<usize>
+    requires sound { IsToldUpTo (declarations_of scope.now.declared) 7 None }
+    requires chains { AreChains (declarations_of scope.now.declared) chains.now }
+    requires within { number < length (declarations_of scope.now.declared) }
+    ensures within { IfSome result (λ root. root < length (declarations_of scope.now.declared)) }
+    ensures value { IfSome result (λ root. type_at (declarations_of scope.now.declared) (suc (length (declarations_of scope.now.declared))) root
         ≡ type_of (declarations_of scope.now.declared) (declaration (declarations_of scope.now.declared) number).space (plain ltype.now)) }
 {
-    match ltype {
-        AstType::Path(path) => scope.named(number, path),
-        _ => None,
+    match named_alone(scope, number, ltype) {
+        Some(target) => Some(chain_at(chains, target).root),
+        None => None,
     }
 }
 
@@ -79,25 +90,25 @@ fn shared_type<'a>(
     types: &mut PortTypes,
     number: usize,
     port: &'a AstPort,
-    target: usize,
+    root: usize,
 ) -> Result<Rc<StreamType>, Memory>
     requires sound { IsToldUpTo (declarations_of scope.now.declared) 7 None }
     requires built { AreBuilt (declarations_of scope.now.declared) types.old }
     requires within { number < length (declarations_of scope.now.declared) }
     requires written { Contains (written_types (declarations_of scope.now.declared))
         (type_of_port (declarations_of scope.now.declared) (declaration (declarations_of scope.now.declared) number).space port.now) }
-    requires target { target < length (declarations_of scope.now.declared) }
-    requires same { type_at (declarations_of scope.now.declared) (length (declarations_of scope.now.declared)) target
+    requires root { root < length (declarations_of scope.now.declared) }
+    requires same { type_at (declarations_of scope.now.declared) (suc (length (declarations_of scope.now.declared))) root
         ≡ type_of (declarations_of scope.now.declared) (declaration (declarations_of scope.now.declared) number).space (plain port.now.ltype) }
     ensures built { OnOk result (AreBuilt (declarations_of scope.now.declared) types.new) }
     ensures stream { IfOk result (λ stream. plain_of_stream stream.value
         ≡ type_of (declarations_of scope.now.declared) (declaration (declarations_of scope.now.declared) number).space (plain port.now.ltype)) }
 {
-    if let Some(stream) = &types.streams[target] {
+    if let Some(stream) = &types.streams[root] {
         return Ok(stream.clone()?);
     }
-    let stream = built_type(alloc, scope, number, port)?;
-    types.streams[target] = Some(stream.clone()?);
+    let stream = built_type(alloc, scope, types.chains.as_slice(), number, port)?;
+    types.streams[root] = Some(stream.clone()?);
     Ok(stream)
 }
 
@@ -105,15 +116,21 @@ fn shared_type<'a>(
 fn built_type<'a>(
     alloc: Global,
     scope: &Scope<'a>,
+    chains: &[Chain],
     number: usize,
     port: &'a AstPort,
 ) -> Result<Rc<StreamType>, Memory>
     requires sound { IsToldUpTo (declarations_of scope.now.declared) 7 None }
+    requires chains { AreChains (declarations_of scope.now.declared) chains.now }
     requires within { number < length (declarations_of scope.now.declared) }
     requires written { Contains (written_types (declarations_of scope.now.declared))
         (type_of_port (declarations_of scope.now.declared) (declaration (declarations_of scope.now.declared) number).space port.now) }
     ensures { IfOk result (λ stream. plain_of_stream stream.value
         ≡ type_of (declarations_of scope.now.declared) (declaration (declarations_of scope.now.declared) number).space (plain port.now.ltype)) }
 {
-    Ok(Rc::new(alloc, stream_of(alloc, scope, number, &port.ltype)?)?)
+    match build_port(alloc, scope, chains, number, &port.ltype)? {
+        Some(stream) => Ok(Rc::new(alloc, stream)?),
+        // A port whose type is no Stream was told before.
+        None => unreachable!(),
+    }
 }

@@ -7,14 +7,12 @@ ghost use Rattle.til_resolve.specs.Scope.{declarations_of};
 ghost use Rattle.til_resolve.specs.declared.fault.ResolveFault.TheVariants as faults;
 
 use crate::fault::ResolveFault;
-use crate::last::first_last_fault;
+use crate::first::first_fault;
 use crate::making::project_of;
 use crate::project::Project;
 use crate::scope::Scope;
-use crate::shapes::shapes;
 use std::alloc::Global;
 use til_parser::Ast;
-use tydi_base::Memory;
 
 /// The project that a tree stands for. Apart from `Memory` it fails exactly where the tree has a fault, and the error is the fault
 /// that is looked for first, at its first place in the text: see `ResolveFault`. It takes time and memory in proportion to the text,
@@ -36,26 +34,8 @@ fn project_or_fault(alloc: Global, scope: &Scope<'_>) -> Result<Project, Resolve
     ensures tests { IfOk result (λ project. project.tests ≡ tests_in (declarations_of scope.now.declared) (declarations_of scope.now.declared)) }
     ensures fault { IfErr result (λ fault. fault ≢ faults.Memory → IsToldUpTo (declarations_of scope.now.declared) 7 (Some fault)) }
 {
-    match first_of_all(alloc, scope)? {
+    match first_fault(alloc, scope)? {
         Some(fault) => Err(fault),
         None => Ok(project_of(alloc, scope)?),
     }
-}
-
-// The first fault of a tree.
-fn first_of_all(alloc: Global, scope: &Scope<'_>) -> Result<Option<ResolveFault>, Memory>
-    ensures { IfOk result (IsToldUpTo (declarations_of scope.now.declared) 7) }
-{
-    if let Some(fault) = first_up_to_bad_types(alloc, scope)? {
-        return Ok(Some(fault));
-    }
-    let table = shapes(alloc, scope)?;
-    first_last_fault(alloc, scope, table.as_slice())
-}
-
-// The first fault of those up to types with a fault.
-fn first_up_to_bad_types(_alloc: Global, _scope: &Scope<'_>) -> Result<Option<ResolveFault>, Memory>
-    ensures { IfOk result (IsToldUpTo (declarations_of _scope.now.declared) 5) }
-{
-    Err(Memory)
 }
