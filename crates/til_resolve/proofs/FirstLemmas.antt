@@ -2,9 +2,11 @@
 use Rattle.std.proofs.Common.{◌≡◌, ℕ, zero, suc, ◌<◌, ◌≤◌, ◌⊎◌, inl, inr, Bool, true, false, cond, ltb, List, [], ◌∷◌, ◌++◌, length, Option, Some, None, Contains, refl, sym, ap, subst, ◌∙◌, arith}
 use Rattle.std.proofs.lemmas.Bool.{ltb-true, ltb-false}
 use Rattle.tydi_base.specs.declared.place.Place.{Place}
+use Rattle.til_resolve.specs.declared.bad_types.BadType.{BadType}
 use Rattle.til_resolve.specs.declared.fault.ResolveFault.{ResolveFault}
 use Rattle.til_resolve.specs.declared.fault.ResolveFault.TheVariants as faults
 use Rattle.til_resolve.specs.declared.names.Sought.TheVariants as sought
+use Rattle.til_resolve.specs.BadTypes.{IsFirstBad}
 use Rattle.til_resolve.specs.Declarations.{Declaration, declaration, before}
 use Rattle.til_resolve.specs.Earliest.{IsFirst, IsEarliest}
 use Rattle.til_resolve.specs.declared.misshapen.Sort.TheVariants as sorts
@@ -134,6 +136,37 @@ told-none_too_large all none is = record { told = never }
     never (faults.CyclicType q) low there = none.told (faults.CyclicType q) (omega arith) there
     never (faults.TypeTooLarge q) low there = is.told q (record { one = there.one; written = there.written; at = there.at; is = there.is })
     never (faults.BadType q fault) low there = absurd (omega (arith, low))
+    never (faults.PortNotStream q) low there = absurd (omega (arith, low))
+    never (faults.CyclicInstance q) low there = absurd (omega (arith, low))
+    never faults.Memory low there = there
+
+-- ---- types that have a fault
+
+pub told-bad : (all : List Declaration) (bad : BadType) → IsToldUpTo all 4 None → IsFirstBad (written_types all) (Some bad) → IsToldUpTo all 5 (Some (faults.BadType bad.place bad.fault))
+told-bad all bad none is = record { told = (is.bad, first) }
+  where
+    first : (other : ResolveFault) → HasFault all other → IsToldBefore (faults.BadType bad.place bad.fault) other
+    first (faults.DeclaredTwice q) there = absurd (none.told (faults.DeclaredTwice q) (omega arith) there)
+    first (faults.UnknownName q) there = absurd (none.told (faults.UnknownName q) (omega arith) there)
+    first (faults.WrongKind q) there = absurd (none.told (faults.WrongKind q) (omega arith) there)
+    first (faults.CyclicType q) there = absurd (none.told (faults.CyclicType q) (omega arith) there)
+    first (faults.TypeTooLarge q) there = absurd (none.told (faults.TypeTooLarge q) (omega arith) there)
+    first (faults.BadType q fault) there =
+        inr (refl, is.first.told.first q (record { one = there.one; written = there.written; at = there.at; is = record { fault = fault; first = there.is } }))
+    first (faults.PortNotStream q) there = inl (omega arith)
+    first (faults.CyclicInstance q) there = inl (omega arith)
+    first faults.Memory there = absurd there
+
+pub told-no_bad : (all : List Declaration) → IsToldUpTo all 4 None → IsFirstBad (written_types all) None → IsToldUpTo all 5 None
+told-no_bad all none is = record { told = never }
+  where
+    never : (fault : ResolveFault) → order_of fault ≤ 5 → ¬ HasFault all fault
+    never (faults.DeclaredTwice q) low there = none.told (faults.DeclaredTwice q) (omega arith) there
+    never (faults.UnknownName q) low there = none.told (faults.UnknownName q) (omega arith) there
+    never (faults.WrongKind q) low there = none.told (faults.WrongKind q) (omega arith) there
+    never (faults.CyclicType q) low there = none.told (faults.CyclicType q) (omega arith) there
+    never (faults.TypeTooLarge q) low there = none.told (faults.TypeTooLarge q) (omega arith) there
+    never (faults.BadType q fault) low there = is.first.told q (record { one = there.one; written = there.written; at = there.at; is = record { fault = fault; first = there.is } })
     never (faults.PortNotStream q) low there = absurd (omega (arith, low))
     never (faults.CyclicInstance q) low there = absurd (omega (arith, low))
     never faults.Memory low there = there

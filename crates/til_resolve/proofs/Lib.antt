@@ -14,6 +14,17 @@ mod TypeGraphLemmas
 mod RankLemmas
 mod ContainmentLemmas
 mod BelowLemmas
+mod MeaningLemmas
+pub mod StableLemmas
 mod ShapeLemmas
+mod ChainLemmas
+mod BuildingLemmas
+mod WrittenLemmas
 mod MisshapenLemmas
+mod BadTypeLemmas
+mod MakingLemmas
+mod BodyLemmas
+mod LastLemmas
+mod SharedTypeLemmas
+mod PortsWrittenLemmas
 mod Examples

@@ -60,30 +60,6 @@ module _ (Is : WrittenType → Type 0) where
       (sym (splits (take i xs) (x ∷ [])) ∙ ap of (sym (take_more xs i x within ∙ ap (λ (y : X). take i xs ++ y ∷ []) (sym is))))
       (types-append (of (take i xs)) (of (x ∷ [])) one other so here))
 
-  -- those of one port more
-  pub port_types-more : (all : List Declaration) (space : List (List ℕ)) (ports : List AstPort) (i : ℕ) (port : AstPort) (one other result : Option Place)
-      → i < length ports → port ≡ get_or ports i port → result ≡ earlier one other → IsEarliest (HasTypeAt Is (port_types all space (take i ports))) one
-      → IsEarliest (HasTypeAt Is (port_types all space (port ∷ []))) other → IsEarliest (HasTypeAt Is (port_types all space (take (i + 1) ports))) result
-  port_types-more all space ports i port one other result within is told so here =
-      types-grown (port_types all space) ports i port one other result splits within is told so here
-    where
-      splits : (front back : List AstPort) → port_types all space (front ++ back) ≡ port_types all space front ++ port_types all space back
-      splits [] back = refl
-      splits (first ∷ more) back = ap (λ (l : List WrittenType). port_types all space (first ∷ []) ++ l) (splits more back)
-
-  -- those of one declaration more
-  pub types_in-more : (all : List Declaration) (i : ℕ) (one other result : Option Place) → i < length all → result ≡ earlier one other
-      → IsEarliest (HasTypeAt Is (flat_map (types_in all) (take i all))) one → IsEarliest (HasTypeAt Is (types_in all (declaration all i))) other
-      → IsEarliest (HasTypeAt Is (flat_map (types_in all) (take (i + 1) all))) result
-  types_in-more all i one other result within told so here =
-      types-grown (flat_map (types_in all)) all i (declaration all i) one other result (λ front back. flat_map-append (types_in all) front back) within (any all i _ _ within) told so
-      (subst (λ (l : List WrittenType). IsEarliest (HasTypeAt Is l) other) (sym (append_nil (types_in all (declaration all i)))) here)
-    where
-      any : (xs : List Declaration) (k : ℕ) (d e : Declaration) → k < length xs → get_or xs k d ≡ get_or xs k e
-      any [] k d e inside = absurd (omega (arith, inside))
-      any (x ∷ xs) zero d e inside = refl
-      any (x ∷ xs) (suc k) d e inside = any xs k d e (omega arith)
-
 -- ---- what a shape shows
 
 pub misshapen-there : (sort : Sort) (one : WrittenType) → is_misshapen sort one.in_port (shape_of one.ltype) ≡ true → IsMisshapen sort one

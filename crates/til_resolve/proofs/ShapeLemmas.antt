@@ -1,5 +1,5 @@
 -- Shapes of written types, and tables of the shapes of declarations: of a round more, and of ranks that fall.
-use Rattle.std.proofs.Common.{◌≡◌, ℕ, zero, suc, ◌+◌, ◌<◌, ◌≤◌, ◌⊎◌, inl, inr, Bool, true, false, cond, min, max, List, [], ◌∷◌, ◌++◌, length, get_or, take, Option, Some, None, Contains, refl, sym, ap, subst, ◌∙◌, arith}
+use Rattle.std.proofs.Common.{◌≡◌, ℕ, zero, suc, ◌+◌, ◌<◌, ◌≤◌, ◌⊎◌, inl, inr, Bool, true, false, min, max, List, [], ◌∷◌, ◌++◌, length, get_or, take, Option, Some, None, Contains, refl, sym, ap, subst, ◌∙◌, arith}
 use Rattle.std.proofs.lemmas.List.{take_more}
 use Rattle.std.proofs.lemmas.List.Elements.{Contains-append_left, Contains-append_right, Contains-push}
 use Rattle.til_parser.specs.declared.ltype.AstPart.{AstPart}
@@ -13,11 +13,12 @@ use Rattle.til_parser.proofs.PlainLemmas.{plain_parts}
 use Rattle.logical_types.specs.Tree.{Ltype, null, Parts}
 use Rattle.til_resolve.specs.declared.shape.Shape.{Shape}
 use Rattle.til_resolve.specs.Cycles.{NamesType, paths_of_alias}
-use Rattle.til_resolve.specs.Declarations.{Declaration, declaration, named, named_as, is_type, is_type_kind, kept_as}
+use Rattle.til_resolve.specs.Declarations.{Declaration, declaration, named_as, is_type}
 use Rattle.til_resolve.specs.Graph.{Leads, rank_of, type_graph}
 use Rattle.til_resolve.specs.Names.{paths_in, paths_in_parts}
 use Rattle.til_resolve.specs.Shapes.{shape_of, leaf, nothing, beside, around, shape_by, shape_by_parts, shape_by_list, shape_at, shape_of_number, shape_named, shape_of_kind, declared_shape, round, type_at, HasShape, IsTable, IsOwnRound, IsRanked}
-use Rattle.til_resolve.specs.Types.{number_of_nodes, nodes_in_parts, depth_of, depth_of_parts, replaced, replaced_parts, type_by, type_of_number, meaning_of, type_of}
+use Rattle.til_resolve.specs.Types.{number_of_nodes, nodes_in_parts, depth_of, depth_of_parts, replaced, replaced_parts, type_by, meaning_of, type_of}
+use Rattle.til_resolve.proofs.MeaningLemmas.{type_of_named, meant-named}
 use Rattle.til_resolve.proofs.TypeGraphLemmas.{each-at, length-type_graph, Leads-NamesType, named-within}
 
 -- ---- shapes
@@ -131,36 +132,14 @@ mutual
 
 -- ---- what a path means
 
--- a declaration that is no type gives a name to none
-no_type : (meaning : List (List ℕ) → List AstName → Ltype) (space : List (List ℕ)) (name : AstName) (kind : AstKind) → is_type_kind kind ≡ false
-    → type_by meaning (record { space = space; name = name; kind = kind }) ≡ null
-no_type meaning space name (decls.Alias ltype) is = cc
-no_type meaning space name (decls.Interface listed) is = refl
-no_type meaning space name (decls.Streamlet listed) is = refl
-no_type meaning space name (decls.Impl target body) is = refl
-no_type meaning space name (decls.Test target port value plan) is = refl
-
 shape-meant : (all : List Declaration) (depth : ℕ) (table : List Shape) (space : List (List ℕ)) (path : AstPath)
     → ((n : ℕ) → named_as is_type all space path ≡ Some n → HasShape all depth table n)
     → shape_named all table space path.names ≡ shape_of (meaning_of all depth space path.names)
-shape-meant all zero table space path has = by (named_as is_type all space path) has
+shape-meant all depth table space path has = by (named_as is_type all space path) has ∙ ap shape_of (sym (meant-named all depth space path))
   where
-    by : (o : Option ℕ) → ((n : ℕ) → o ≡ Some n → HasShape all zero table n) → shape_of_number table o ≡ leaf
+    by : (o : Option ℕ) → ((n : ℕ) → o ≡ Some n → HasShape all depth table n) → shape_of_number table o ≡ shape_of (type_of_named all depth o)
     by None is = refl
     by (Some n) is = is n refl
-shape-meant all (suc less) table space path has = by (named all space path) has
-  where
-    by : (o : Option ℕ) → ((n : ℕ) → kept_as is_type all o ≡ Some n → HasShape all (suc less) table n)
-        → shape_of_number table (kept_as is_type all o) ≡ shape_of (type_of_number (meaning_of all less) all o)
-    by None is = refl
-    by (Some n) is = tested (is_type (declaration all n)) refl is
-      where
-        tested : (b : Bool) → is_type (declaration all n) ≡ b → ((m : ℕ) → cond b (Some n) None ≡ Some m → HasShape all (suc less) table m)
-            → shape_of_number table (cond b (Some n) None) ≡ shape_of (type_by (meaning_of all less) (declaration all n))
-        tested true test there = there n refl
-        tested false test there =
-            let d = declaration all n in
-            ap shape_of (sym (no_type (meaning_of all less) d.space d.name d.kind test))
 
 -- the shape of a written type is right where it is for the types that are named
 shape-written : (all : List Declaration) (depth : ℕ) (table : List Shape) (space : List (List ℕ)) (t : tree.Ltype)
@@ -234,3 +213,9 @@ pub shape-by_table : (all : List Declaration) (table : List Shape) (space : List
     → shape_by (shape_named all table space) t ≡ shape_of (type_of all space t)
 shape-by_table all table space t so =
     shape-written all (length all) table space t (λ path n there is. so.each n (named-within is_type all space path n is))
+
+-- the shape of a declaration by a table of all
+pub shape-of_declaration : (all : List Declaration) (table : List Shape) (one : ℕ) → IsTable all (length all) table
+    → declared_shape all table (declaration all one) ≡ shape_of (type_at all (suc (length all)) one)
+shape-of_declaration all table one so =
+    shape-declared all (length all) table one (λ n names. so.each n (named-within is_type all (declaration all one).space names.path n names.names))

@@ -18,7 +18,7 @@ use Rattle.til_parser.specs.declared.tree.AstStmt.{AstStmt}
 use Rattle.til_parser.specs.declared.tree.AstStmt.TheVariants as statements
 use Rattle.til_resolve.specs.Declarations.{Declaration, declaration, path_of, first_of_path, named_as, is_streamlet, PortOf, ports_of_streamlet}
 use Rattle.til_resolve.specs.Earliest.{IsEarliest, earlier}
-use Rattle.til_resolve.specs.Names.{declared_again, seconds, WrittenInstance, instance_at, instances_of, instances_again, instances_named_as_ports, names_again_in_impl, has_port}
+use Rattle.til_resolve.specs.Names.{declared_again, implements, is_impl_of, implements_again, implemented_again, seconds, WrittenInstance, instance_at, instances_of, instances_again, instances_named_as_ports, names_again_in_impl, has_port}
 use Rattle.til_resolve.specs.Twice.{is_same_name, FindsNames, AddsInstance, instance_again}
 use Rattle.til_resolve.proofs.EarliestLemmas.{IsEarliest-nil, IsEarliest-at, IsEarliest-append}
 use Rattle.til_resolve.proofs.AgainLemmas.{append_nil, IsEarliest-if, seconds-grown}
@@ -72,6 +72,29 @@ declared_again-first all number first is after = tested all number (Some first) 
 
 pub declared_again-none : (all : List Declaration) (number : ℕ) → None ≡ first_of_path all (path_of (declaration all number)) → IsEarliest (Contains (declared_again all number)) None
 declared_again-none all number is = tested all number None false is refl
+
+-- ---- implementations
+
+implemented-tested : (all : List Declaration) (number streamlet : ℕ) (first : Option ℕ) (b : Bool) → Some streamlet ≡ implements all (declaration all number)
+    → first ≡ position (is_impl_of all streamlet) all → found_before first number ≡ b → IsEarliest (Contains (implemented_again all number)) (then_some b (declaration all number).name.place)
+implemented-tested all number streamlet first b of is so =
+    let place = (declaration all number).name.place in
+    subst (λ (l : List Place). IsEarliest (Contains l) (then_some b place)) (ap (implements_again all number) of)
+    (subst (λ t. IsEarliest (Contains (cond t (place ∷ []) [])) (then_some b place))
+    (sym so ∙ ap (λ (o : Option ℕ). found_before o number) is ∙ sym (list_any-take (is_impl_of all streamlet) all number)) (IsEarliest-if b place))
+
+pub implemented-here : (all : List Declaration) (number streamlet first : ℕ) (place : Place) → Some streamlet ≡ implements all (declaration all number)
+    → Some first ≡ position (is_impl_of all streamlet) all → first < number → place ≡ (declaration all number).name.place → IsEarliest (Contains (implemented_again all number)) (Some place)
+implemented-here all number streamlet first place of is before at =
+    subst (λ (p : Place). IsEarliest (Contains (implemented_again all number)) (Some p)) (sym at) (implemented-tested all number streamlet (Some first) true of is (lt-ltb first number before))
+
+pub implemented-later : (all : List Declaration) (number streamlet first : ℕ) → Some streamlet ≡ implements all (declaration all number)
+    → Some first ≡ position (is_impl_of all streamlet) all → number ≤ first → IsEarliest (Contains (implemented_again all number)) None
+implemented-later all number streamlet first of is after = implemented-tested all number streamlet (Some first) false of is (le-ltb first number after)
+
+pub implemented-by_none : (all : List Declaration) (number streamlet : ℕ) → Some streamlet ≡ implements all (declaration all number)
+    → None ≡ position (is_impl_of all streamlet) all → IsEarliest (Contains (implemented_again all number)) None
+implemented-by_none all number streamlet of is = implemented-tested all number streamlet None false of is refl
 
 -- ---- keys that were seen
 

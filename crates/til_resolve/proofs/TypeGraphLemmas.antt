@@ -34,7 +34,7 @@ types_named-more all space parts i part within is =
 
 -- ---- a list of what stands at each number
 
-length-each : {A : Type 0} (of : ℕ → A) (n : ℕ) → length (before (λ one. of one ∷ []) n) ≡ n
+pub length-each : {A : Type 0} (of : ℕ → A) (n : ℕ) → length (before (λ one. of one ∷ []) n) ≡ n
 length-each of zero = refl
 length-each of (suc n) = length-append (before (λ one. of one ∷ []) n) (of n ∷ []) ∙ ap (λ k. k + 1) (length-each of n) ∙ omega arith
 

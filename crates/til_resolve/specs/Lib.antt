@@ -14,4 +14,10 @@ pub mod Twice
 pub mod Sought
 pub mod Graph
 pub mod Shapes
+pub mod Written
+pub mod Chains
+pub mod Building
+pub mod BadTypes
 pub mod Project
+pub mod Making
+pub mod SharedTypes

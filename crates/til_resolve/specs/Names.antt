@@ -108,13 +108,14 @@ is_number one (Some number) = number == one
 abbrev pub is_impl_of : List Declaration → ℕ → Declaration → Bool
 is_impl_of all streamlet one = is_number streamlet (implements all one)
 
+-- the declaration of a number, where one before it implements this streamlet too
+abbrev pub implements_again : List Declaration → ℕ → Option ℕ → List Place
+implements_again all number None = []
+implements_again all number (Some streamlet) = if list_any (is_impl_of all streamlet) (take number all) then (declaration all number).name.place ∷ [] else []
+
 -- an `impl` of a streamlet that one before it implements
 abbrev pub implemented_again : List Declaration → ℕ → List Place
-implemented_again all number = of_streamlet (implements all (declaration all number))
-  where
-    of_streamlet : Option ℕ → List Place
-    of_streamlet None = []
-    of_streamlet (Some streamlet) = if list_any (is_impl_of all streamlet) (take number all) then (declaration all number).name.place ∷ [] else []
+implemented_again all number = implements_again all number (implements all (declaration all number))
 
 -- what a declaration declares twice by itself, or after those before it
 abbrev pub twice_at : List Declaration → ℕ → List Place

@@ -15,12 +15,13 @@ use Rattle.til_parser.specs.Tree.{plain}
 use Rattle.logical_types.specs.Tree.{plain_of_stream}
 use Rattle.til_resolve.specs.Declarations.{Declaration, PortOf, declaration, declarations, place_of, path_of, named_as, ports_of, is_streamlet}
 use Rattle.til_resolve.specs.Types.{type_of}
-use Rattle.til_resolve.specs.Names.{is_impl_of, instances_of}
+use Rattle.til_resolve.specs.Names.{WrittenInstance, instance_at, is_impl_of}
 use Rattle.til_resolve.specs.declared.project.Project.{Project}
 use Rattle.til_resolve.specs.declared.project.Streamlet.{Streamlet}
 use Rattle.til_resolve.specs.declared.project.Port.{Port}
 use Rattle.til_resolve.specs.declared.project.Impl.{Impl}
 use Rattle.til_resolve.specs.declared.project.Impl.TheVariants as impls
+use Rattle.til_resolve.specs.declared.project.Instance.{Instance}
 use Rattle.til_resolve.specs.declared.project.Link.{Link}
 use Rattle.til_resolve.specs.declared.project.LinkEnd.{LinkEnd}
 use Rattle.til_resolve.specs.declared.project.Test.{Test}
@@ -46,38 +47,46 @@ streamlet_numbers all = streamlets_before all (length all)
 abbrev pub streamlet_number : List Declaration → ℕ → ℕ
 streamlet_number all number = length (streamlets_before all number)
 
+-- the same of the streamlet of a number, if there is one; else 0
+abbrev pub numbered : List Declaration → Option ℕ → ℕ
+numbered all None = 0
+numbered all (Some streamlet) = streamlet_number all streamlet
+
 -- the number of the streamlet that a path names; 0 where it names none, which is told before
 abbrev pub number_of : List Declaration → List (List ℕ) → AstPath → ℕ
-number_of all space path = found (named_as is_streamlet all space path)
-  where
-    found : Option ℕ → ℕ
-    found None = 0
-    found (Some streamlet) = streamlet_number all streamlet
+number_of all space path = numbered all (named_as is_streamlet all space path)
 
 -- ---- implementations
 
--- an end of a link: `port`, or `instance.port`
-abbrev pub end_of : AstEnd → LinkEnd
-end_of end = by_second end.second
-  where
-    by_second : Option AstName → LinkEnd
-    by_second None = record { instance = None; port = end.first.name }
-    by_second (Some port) = record { instance = Some end.first.name; port = port.name }
+-- an instance of a body, whose streamlet's path stands in this namespace
+abbrev pub instance_of : List Declaration → List (List ℕ) → WrittenInstance → Instance
+instance_of all space one = record { name = one.name.name; streamlet = number_of all space one.streamlet }
 
--- the links of a body, each at its first name
+-- the instances of a body
+abbrev pub instances_in : List Declaration → List (List ℕ) → List AstStmt → List Instance
+instances_in all space written = map (instance_of all space) (filter_map instance_at written)
+
+-- an end of a link by its names: `port`, or `instance.port`
+abbrev pub end_by : AstName → Option AstName → LinkEnd
+end_by first None = record { instance = None; port = first.name }
+end_by first (Some port) = record { instance = Some first.name; port = port.name }
+
+abbrev pub end_of : AstEnd → LinkEnd
+end_of end = end_by end.first end.second
+
+-- the link that a statement is, if it is one, at its first name
+abbrev pub link_at : AstStmt → Option Link
+link_at (stmts.Instance name streamlet) = None
+link_at (stmts.Link first second) = Some (record { first = end_of first; second = end_of second; place = first.first.place })
+
+-- the links of a body
 abbrev pub links_of : List AstStmt → List Link
-links_of all = filter_map link_at all
-  where
-    link_at : AstStmt → Option Link
-    link_at (stmts.Instance name streamlet) = None
-    link_at (stmts.Link first second) = Some (record { first = end_of first; second = end_of second; place = first.first.place })
+links_of written = filter_map link_at written
 
 -- the implementation that a body is, behind this path after `of`
 abbrev pub impl_of : List Declaration → List (List ℕ) → AstPath → AstBody → Impl
 impl_of all space target (bodies.Linked text) = impls.Linked text
-impl_of all space target (bodies.Structural written) = impls.Structural (place_of target)
-    (map (λ one. record { name = one.name.name; streamlet = number_of all space one.streamlet }) (instances_of (bodies.Structural written)))
-    (links_of written)
+impl_of all space target (bodies.Structural written) = impls.Structural (place_of target) (instances_in all space written) (links_of written)
 
 -- the implementation of the streamlet of a number, if a declaration is one
 abbrev pub impl_by : List Declaration → ℕ → Declaration → Option Impl
@@ -105,7 +114,7 @@ body_of all streamlet = first_of (filter_map (impl_by all streamlet) all)
 pub record IsPortOf (all : List Declaration) (one : PortOf) (port : Port) : Type 0 where
   pub name_is : port.name ≡ one.port.name.name
   pub inward_is : port.inward ≡ one.port.inward
-  pub type_is : plain_of_stream port.ltype ≡ type_of all one.space (plain one.port.ltype)
+  pub type_is : plain_of_stream port.ltype.value ≡ type_of all one.space (plain one.port.ltype)
 
 -- a streamlet of the project is the written one of this number
 pub record IsStreamletOf (all : List Declaration) (one : ℕ) (streamlet : Streamlet) : Type 0 where
@@ -124,7 +133,11 @@ test_of all one = of_kind one.kind
     of_kind (decls.Impl target body) = None
     of_kind (decls.Test target port value plan) = Some (record { path = path_of one; streamlet = number_of all one.space target; port = port.name; value = value; plan = plan })
 
+-- the tests that declarations are, in text order
+abbrev pub tests_in : List Declaration → List Declaration → List Test
+tests_in all some = filter_map (test_of all) some
+
 -- a project is that of a tree: its streamlets and its tests, in text order
 pub record IsProjectOf (ast : Ast) (project : Project) : Type 0 where
   pub streamlets_are : Pairwise (IsStreamletOf (declarations ast)) (streamlet_numbers (declarations ast)) project.streamlets
-  pub tests_are : project.tests ≡ filter_map (test_of (declarations ast)) (declarations ast)
+  pub tests_are : project.tests ≡ tests_in (declarations ast) (declarations ast)

@@ -1,18 +1,13 @@
--- What is declared so far. It serves the search for what is declared twice, and no public clause.
-use Rattle.std.specs.Prelude.{◌≡◌, ℕ, Bool, List, [], ◌∷◌, ◌++◌, take, Option, Some, None, Contains, if◌then◌else◌}
+-- Instances so far. It serves the search for what is declared twice, and no public clause.
+use Rattle.std.specs.Prelude.{◌≡◌, ℕ, Bool, List, [], ◌∷◌, ◌++◌, Option, Some, None, Contains, if◌then◌else◌}
 use Rattle.std.specs.Borrow.{Bor}
 use Rattle.std.specs.List.{list_any}
 use Rattle.std.specs.Option.{option_to_list}
 use Rattle.std.specs.Str.{bytes_eq}
 use Rattle.tydi_base.specs.declared.place.Place.{Place}
 use Rattle.til_parser.specs.declared.tree.AstName.{AstName}
-use Rattle.til_resolve.specs.Declarations.{Declaration}
 use Rattle.til_resolve.specs.Earliest.{IsEarliest}
-use Rattle.til_resolve.specs.Names.{WrittenInstance, is_impl_of}
-
--- a look-up finds the streamlets that a declaration before a number implements
-abbrev pub FindsImpls : (ℕ → Bool) → List Declaration → ℕ → Type 0
-FindsImpls find all number = (streamlet : ℕ) → find streamlet ≡ list_any (is_impl_of all streamlet) (take number all)
+use Rattle.til_resolve.specs.Names.{WrittenInstance}
 
 -- names by their texts
 abbrev pub is_same_name : Bor AstName → Bor AstName → Bool

@@ -12,10 +12,10 @@ ghost use Rattle.til_resolve.specs.Scope.{declarations_of};
 
 use crate::certificate::{is_cyclic, ranks_of};
 use crate::earliest::stands_first;
+use crate::implementing::implements;
 use crate::kinds::Asked;
 use crate::names::place_of;
 use crate::scope::Scope;
-use crate::twice::implements;
 use crate::type_graph::add_path;
 use std::alloc::Global;
 use til_parser::{AstBody, AstKind, AstStmt};

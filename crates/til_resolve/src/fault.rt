@@ -1,5 +1,8 @@
+ghost use Rattle.std.specs.Prelude.{◌≡◌};
+ghost use Rattle.til_resolve.specs.declared.fault.ResolveFault.TheVariants as faults;
+
 use logical_types::TypeFault;
-use tydi_base::Place;
+use tydi_base::{Memory, Place};
 
 /// Why a tree stands for no project. Faults earlier in this list are looked for over the whole text before those later, but
 /// `UnknownName` and `WrongKind` together; of one kind the first place in the text is told.
@@ -33,4 +36,12 @@ pub enum ResolveFault {
 
     /// There was no memory.
     Memory,
+}
+
+impl From<Memory> for ResolveFault {
+    ghost from_gives = { λ _ e. e ≡ faults.Memory };
+
+    fn from(_error: Memory) -> ResolveFault {
+        ResolveFault::Memory
+    }
 }

@@ -1,31 +1,62 @@
 //! The first fault of a tree.
 
-ghost use Rattle.std.specs.Prelude.{◌≡◌, IfOk};
+ghost use Rattle.std.specs.Prelude.{◌≡◌, length, IfOk, None};
 ghost use Rattle.til_resolve.specs.Faults.{IsToldUpTo};
 ghost use Rattle.til_resolve.specs.Scope.{declarations_of};
+ghost use Rattle.til_resolve.specs.Shapes.{IsTable};
 ghost use Rattle.til_resolve.specs.Sought as spec;
+ghost use Rattle.til_resolve.specs.Written.{AreWritten};
 
+use crate::bad_types::first_bad_type;
+use crate::chains::find_chains;
 use crate::cyclic_types::first_cyclic_type;
 use crate::fault::ResolveFault;
+use crate::last::first_last_fault;
 use crate::misshapen::{Sort, first_misshapen};
 use crate::names::{Sought, first_refused};
 use crate::ports::all_ports;
 use crate::scope::Scope;
+use crate::shape::Shape;
 use crate::shapes::shapes;
 use crate::twice::first_twice;
+use crate::written::{Written, written_types};
 use std::alloc::Global;
 use tydi_base::{Memory, Place};
 
-/// The first fault of names, or else the first type declaration that leads to itself, or else the first type that is too large.
+/// The first fault of a tree.
 pub fn first_fault(alloc: Global, scope: &Scope<'_>) -> Result<Option<ResolveFault>, Memory>
-    ensures { IfOk result (IsToldUpTo (declarations_of scope.now.declared) 4) }
+    ensures { IfOk result (IsToldUpTo (declarations_of scope.now.declared) 7) }
 {
     if let Some(fault) = first_early_fault(alloc, scope)? {
         return Ok(Some(fault));
     }
+    let written = written_types(alloc, scope)?;
     let table = shapes(alloc, scope)?;
-    match first_misshapen(scope, table.as_slice(), Sort::TooLarge) {
-        Some(place) => Ok(Some(ResolveFault::TypeTooLarge(place))),
+    let found = first_type_fault(alloc, scope, written.as_slice(), table.as_slice())?;
+    if let Some(fault) = found {
+        return Ok(Some(fault));
+    }
+    first_last_fault(alloc, scope, written.as_slice(), table.as_slice())
+}
+
+// The first type that is too large, or else the first that has a fault.
+fn first_type_fault<'a>(
+    alloc: Global,
+    scope: &Scope<'a>,
+    written: &[Written<'a>],
+    table: &[Shape],
+) -> Result<Option<ResolveFault>, Memory>
+    requires written { AreWritten (declarations_of scope.now.declared) written.now }
+    requires table { IsTable (declarations_of scope.now.declared) (length (declarations_of scope.now.declared)) table.now }
+    requires early { IsToldUpTo (declarations_of scope.now.declared) 3 None }
+    ensures { IfOk result (IsToldUpTo (declarations_of scope.now.declared) 5) }
+{
+    if let Some(place) = first_misshapen(scope, written, table, Sort::TooLarge) {
+        return Ok(Some(ResolveFault::TypeTooLarge(place)));
+    }
+    let chains = find_chains(alloc, scope)?;
+    match first_bad_type(alloc, scope, chains.as_slice(), written)? {
+        Some(bad) => Ok(Some(ResolveFault::BadType(bad.place, bad.fault))),
         None => Ok(None),
     }
 }

@@ -8,6 +8,7 @@ ghost use Rattle.til_resolve.specs.Scope.{FindsFirst, Key, is_same_key, placed};
 use crate::declared::Declared;
 use indexmap::IndexMap;
 use std::alloc::Global;
+use std::hash::Hash;
 use til_parser::AstName;
 use tydi_base::Memory;
 
@@ -25,14 +26,14 @@ pub fn first_of_each<'a>(alloc: Global, declared: &[Declared<'a>]) -> Result<Fir
     Ok(firsts)
 }
 
-// A number for a key that has none.
-fn keep_first<'a>(
-    firsts: &mut Firsts<'a>,
-    key: (usize, &'a AstName),
+/// A number for a key that has none.
+pub fn keep_first<K: Eq + Hash + Drop>(
+    firsts: &mut IndexMap<K, usize>,
+    key: K,
     number: usize,
 ) -> Result<(), Memory>
-    ensures { OnOk result ((other : Key) → get is_same_key firsts.new other
-        ≡ option_or (get is_same_key firsts.old other) (if is_same_key key.entry other then Some number else None)) }
+    ensures { OnOk result ((other : K) → get K.eq firsts.new other
+        ≡ option_or (get K.eq firsts.old other) (if K.eq key other then Some number else None)) }
 {
     if !firsts.contains_key(&key) {
         firsts.insert(key, number)?;

@@ -4,7 +4,11 @@
 //! are the types, these definitions and the three look-ups. The crate stands on `til_parser` and `logical_types`.
 #![tactic(auto)]
 
+mod bad_types;
+mod bodies;
+mod building;
 mod certificate;
+mod chains;
 mod containment;
 mod cyclic_types;
 mod declared;
@@ -12,23 +16,34 @@ mod earliest;
 mod fault;
 mod first;
 mod firsts;
+mod implementing;
 mod kinds;
+mod last;
 mod lookup;
+mod making;
 mod measuring;
 mod misshapen;
 mod names;
+mod numbering;
 mod placing;
+mod port_types;
 mod ports;
 mod project;
 mod ranks;
+mod resolving;
 mod scope;
 mod search;
 mod shape;
 mod shapes;
+mod statements;
+mod streamlets;
 #[cfg(test)]
 mod tests;
 mod twice;
 mod type_graph;
+mod written;
+mod written_tests;
 
 pub use fault::ResolveFault;
 pub use project::{Impl, Instance, Link, LinkEnd, Port, Project, Streamlet, Test};
+pub use resolving::resolve;

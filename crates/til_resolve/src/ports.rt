@@ -56,8 +56,8 @@ pub fn has_port<'a>(
     }
 }
 
-// The declaration that writes the ports of a streamlet: its own, or the interface that it names.
-fn owner_of(scope: &Scope<'_>, streamlet: usize) -> Option<usize>
+/// The declaration that writes the ports of a streamlet: its own, or the interface that it names.
+pub fn owner_of(scope: &Scope<'_>, streamlet: usize) -> Option<usize>
     requires { streamlet < length (declarations_of scope.now.declared) }
     ensures value { result ≡ owner_of (declarations_of scope.now.declared) streamlet }
     ensures within { IfSome result (λ owner. owner < length (declarations_of scope.now.declared)) }

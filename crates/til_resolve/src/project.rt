@@ -6,6 +6,7 @@ ghost use Rattle.std.specs.Str.{bytes_eq};
 ghost use Rattle.til_resolve.specs.Paths.{is_same_path};
 
 use logical_types::StreamType;
+use std::rc::Rc;
 use tydi_base::{List, Name, Path, Place, Text};
 
 /// A project, in text order.
@@ -23,12 +24,12 @@ pub struct Streamlet {
     pub body: Option<Impl>,
 }
 
-/// A port, and the Stream that it carries.
+/// A port, and the Stream that it carries. Ports that name one type share it.
 #[derive(Debug, Drop)]
 pub struct Port {
     pub name: Name,
     pub inward: bool,
-    pub ltype: StreamType,
+    pub ltype: Rc<StreamType>,
 }
 
 /// An implementation.

@@ -14,6 +14,15 @@ pub fn find_ranks(alloc: Global, graph: &[List<usize>]) -> Result<Vec<usize>, Me
     Ok(walk.ranks)
 }
 
+/// The numbers in the order of their ranks; of those of one rank, one.
+pub fn numbers_by_rank(alloc: Global, ranks: &[usize]) -> Result<Vec<usize>, Memory> {
+    let mut order = vec![in alloc; 0; ranks.len().saturating_add(1)]?;
+    for (number, rank) in ranks.iter().enumerate() {
+        put(&mut order, *rank, number);
+    }
+    Ok(order)
+}
+
 // As many steps as a walk can take.
 fn steps_of(graph: &[List<usize>]) -> usize {
     let mut steps = graph.len().saturating_mul(4);

@@ -8,7 +8,7 @@ ghost use Rattle.til_resolve.specs.Shapes.{IsOwnRound, IsTable, round};
 
 use crate::certificate::are_ranked;
 use crate::measuring::{declared_shape, shape_at};
-use crate::ranks::find_ranks;
+use crate::ranks::{find_ranks, numbers_by_rank};
 use crate::scope::Scope;
 use crate::shape::{Shape, is_same, leaf};
 use crate::type_graph::type_graph;
@@ -64,16 +64,6 @@ fn by_ranks(alloc: Global, scope: &Scope<'_>, ranks: &[usize]) -> Result<List<Sh
         }
     }
     Ok(List::from_vec(table))
-}
-
-fn numbers_by_rank(alloc: Global, ranks: &[usize]) -> Result<Vec<usize>, Memory> {
-    let mut order = vec![in alloc; 0; ranks.len().saturating_add(1)]?;
-    for (number, rank) in ranks.iter().enumerate() {
-        if *rank < order.len() {
-            order[*rank] = number;
-        }
-    }
-    Ok(order)
 }
 
 fn put(table: &mut [Shape], number: usize, shape: Shape) {

@@ -6,6 +6,7 @@ use crate::first::first_fault;
 use crate::misshapen::{Sort, first_misshapen};
 use crate::scope::Scope;
 use crate::shapes::shapes;
+use crate::written::written_types;
 use std::alloc::Global;
 use std::test::Fail;
 use til_lexer::lex;
@@ -13,7 +14,7 @@ use til_parser::parse;
 use tydi_base::Place;
 
 // Texts, and the first of their faults, with the offset of its place.
-const FAULTY: [(&str, Option<(u8, u32)>); 40] = [
+const FAULTY: [(&str, Option<(u8, u32)>); 44] = [
     // A second declaration of one name, whatever its kind, also where its namespace is opened again.
     (
         "namespace a { type b = Null; type b = Null; }",
@@ -154,6 +155,23 @@ const FAULTY: [(&str, Option<(u8, u32)>); 40] = [
     (TOWER_60, Some((5, 492))),
     (NESTED_64, None),
     (NESTED_65, Some((5, 1654))),
+    // Types that have a fault: of the first that has it in the text, by whatever names.
+    (
+        "namespace a { type b = c; type c = d; type d = Bits(0); }",
+        Some((6, 19)),
+    ),
+    (
+        "namespace a { type d = Bits(1); interface i = (p: in Null, q: in b); type b = c; type c = Group(x: d, X: d); }",
+        Some((6, 59)),
+    ),
+    (
+        "namespace a { streamlet s = (p: in Stream(data: b)); type b = Union(); type c = Bits(0); }",
+        Some((6, 29)),
+    ),
+    (
+        "namespace a { type b = c; type c = d; type d = Bits(1); }",
+        None,
+    ),
 ];
 
 // Each type holds the one before twice: 49,151 nodes.
@@ -303,7 +321,13 @@ fn later_of(alloc: Global, text: &str) -> Result<(Option<u32>, Option<u32>), Fai
     let ast = parse(alloc, text, tokens.as_slice())?;
     let scope = Scope::new(alloc, &ast)?;
     let table = shapes(alloc, &scope)?;
-    let port = first_misshapen(&scope, table.as_slice(), Sort::PortNotStream);
+    let written = written_types(alloc, &scope)?;
+    let port = first_misshapen(
+        &scope,
+        written.as_slice(),
+        table.as_slice(),
+        Sort::PortNotStream,
+    );
     let instance = first_cyclic_instance(alloc, &scope)?;
     Ok((port.map(offset_of), instance.map(offset_of)))
 }

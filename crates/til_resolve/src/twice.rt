@@ -2,17 +2,20 @@
 
 ghost use Rattle.std.specs.Prelude.{◌≡◌, ◌+◌, ◌<◌, List, [], ◌∷◌, length, map, IfOk, IfSome, OnOk, Contains, nat_eq};
 ghost use Rattle.std.specs.Char.{to_ascii_lowercase};
+ghost use Rattle.indexmap.specs.IndexMap.{get};
 ghost use Rattle.indexmap.specs.IndexSet.{contains};
 ghost use Rattle.std.specs.List.{filter_map};
 ghost use Rattle.til_resolve.specs.Declarations.{before, declaration, ports_of, ports_of_streamlet};
 ghost use Rattle.til_resolve.specs.Earliest.{IsEarliest};
+ghost use Rattle.til_resolve.specs.Making.{FindsFirstImpl};
 ghost use Rattle.til_resolve.specs.Names as spec;
 ghost use Rattle.til_resolve.specs.Ports.{FindsPorts};
 ghost use Rattle.til_resolve.specs.Scope.{declarations_of, is_same_key};
 ghost use Rattle.til_resolve.specs.Names.{WrittenInstance};
-ghost use Rattle.til_resolve.specs.Twice.{FindsImpls, FindsNames, AddsInstance, is_same_name};
+ghost use Rattle.til_resolve.specs.Twice.{FindsNames, AddsInstance, is_same_name};
 
 use crate::earliest::earlier;
+use crate::implementing::{FirstImpls, first_impls, implements};
 use crate::kinds::{Asked, own_ports};
 use crate::ports::{Ports, has_port};
 use crate::scope::Scope;
@@ -215,41 +218,23 @@ fn instance_named_as_port<'a>(
 fn first_implemented_again(alloc: Global, scope: &Scope<'_>) -> Result<Option<Place>, Memory>
     ensures { IfOk result (IsEarliest (Contains (before (spec.implemented_again (declarations_of scope.now.declared)) (length (declarations_of scope.now.declared))))) }
 {
-    let mut seen: IndexSet<usize> = IndexSet::new(alloc);
+    let impls = first_impls(alloc, scope)?;
     let mut found = None;
     'numbers: for number in 0..scope.len() {
-        found = earlier(found, implemented_again(scope, &mut seen, number)?);
+        found = earlier(found, implemented_again(scope, &impls, number));
     }
     Ok(found)
 }
 
-// An `impl` of a streamlet that is among these, which those before it implement.
-fn implemented_again(
-    scope: &Scope<'_>,
-    seen: &mut IndexSet<usize>,
-    number: usize,
-) -> Result<Option<Place>, Memory>
+// An `impl` of a streamlet that one before it implements.
+fn implemented_again(scope: &Scope<'_>, impls: &FirstImpls, number: usize) -> Option<Place>
+    requires impls { FindsFirstImpl (get nat_eq impls.now) (declarations_of scope.now.declared) (length (declarations_of scope.now.declared)) }
     requires within { number < length (declarations_of scope.now.declared) }
-    requires seen { FindsImpls (contains nat_eq seen.old) (declarations_of scope.now.declared) number }
-    ensures seen { OnOk result (FindsImpls (contains nat_eq seen.new) (declarations_of scope.now.declared) (number + 1)) }
-    ensures again { IfOk result (IsEarliest (Contains (spec.implemented_again (declarations_of scope.now.declared) number))) }
+    ensures { IsEarliest (Contains (spec.implemented_again (declarations_of scope.now.declared) number)) result }
 {
-    let one = scope.get(number);
-    let Some(streamlet) = implements(scope, number) else {
-        return Ok(None);
-    };
-    let (_, is_new) = seen.insert_full(streamlet)?;
-    Ok((!is_new).then_some(one.name.place))
-}
-
-/// The streamlet that a declaration implements, if it is an `impl` whose path names a streamlet.
-pub fn implements(scope: &Scope<'_>, number: usize) -> Option<usize>
-    requires { number < length (declarations_of scope.now.declared) }
-    ensures value { result ≡ spec.implements (declarations_of scope.now.declared) (declaration (declarations_of scope.now.declared) number) }
-    ensures within { IfSome result (λ streamlet. streamlet < length (declarations_of scope.now.declared)) }
-{
-    match scope.get(number).kind {
-        AstKind::Impl { target, .. } => scope.named_as(number, target, Asked::Streamlet),
+    let streamlet = implements(scope, number)?;
+    match impls.get(&streamlet).copied() {
+        Some(one) if one < number => Some(scope.get(number).name.place),
         _ => None,
     }
 }

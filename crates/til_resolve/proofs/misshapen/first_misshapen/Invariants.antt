@@ -1,10 +1,10 @@
-use Rattle.std.proofs.Common.{take}
-use Rattle.std.specs.List.{flat_map}
+use Rattle.std.proofs.Common.{map, take}
 use Rattle.til_resolve.specs.Earliest.{IsEarliest}
-use Rattle.til_resolve.specs.Faults.{HasTypeAt, types_in}
+use Rattle.til_resolve.specs.Faults.{HasTypeAt}
 use Rattle.til_resolve.specs.Scope.{declarations_of}
 use Rattle.til_resolve.specs.Shapes.{IsMisshapen}
+use Rattle.til_resolve.specs.Written.{written_type}
 use Rattle.til_resolve.proofs.misshapen.first_misshapen.Given as goal
 
-abbrev pub invariant-numbers : goal.invariant-numbers
-invariant-numbers l = IsEarliest (HasTypeAt (IsMisshapen l.sort) (flat_map (types_in (declarations_of l.scope.declared)) (take l.number (declarations_of l.scope.declared)))) l.found
+abbrev pub invariant-written : goal.invariant-written
+invariant-written l = IsEarliest (HasTypeAt (IsMisshapen l.sort) (map (written_type (declarations_of l.scope.declared)) (take l.one-index l.written))) l.found

@@ -1,13 +1,17 @@
-use Rattle.std.proofs.Common.{subst}
-use Rattle.til_resolve.specs.Declarations.{Declaration, declaration}
-use Rattle.til_resolve.specs.Earliest.{IsEarliest}
-use Rattle.til_resolve.specs.Faults.{HasTypeAt, types_of_kind}
+use Rattle.std.proofs.Common.{◌≡◌, ap, sym, ◌∙◌}
+use Rattle.std.specs.Bool.{then_some}
+use Rattle.til_resolve.specs.Faults.{WrittenType}
 use Rattle.til_resolve.specs.Scope.{declarations_of}
-use Rattle.til_resolve.specs.Shapes.{IsMisshapen}
+use Rattle.til_resolve.specs.Shapes.{IsMisshapen, is_misshapen, shape_of}
+use Rattle.til_resolve.specs.Written.{written_type}
+use Rattle.til_resolve.proofs.MisshapenLemmas.{types-one, misshapen-there, misshapen-back}
 use Rattle.til_resolve.proofs.misshapen.misshapen_at.Goals as goal
 
 pub returns : goal.returns
 returns c =
     let all = declarations_of c.args.scope.now.declared in
-    subst (λ (d : Declaration). IsEarliest (HasTypeAt (IsMisshapen c.args.sort) (types_of_kind all (declaration all c.args.number).space d.name d.kind)) c.in_kind.result)
-    c.get-one.ensures.value c.in_kind.ensures
+    let one : WrittenType = written_type all c.args.one.now in
+    let told : c.is_misshapen.result ≡ is_misshapen c.args.sort one.in_port (shape_of one.ltype)
+    = c.is_misshapen.ensures ∙ ap (λ b. is_misshapen c.args.sort b c.shape_of-shape.result) c.is_in_port.ensures ∙ ap (is_misshapen c.args.sort one.in_port) c.shape_of-shape.ensures in
+    rw (c.then_some.ensures ∙ ap (then_some c.is_misshapen.result) c.place_of.ensures) (types-one (IsMisshapen c.args.sort) one c.is_misshapen.result
+    (λ is. misshapen-there c.args.sort one (sym told ∙ is)) (λ is. told ∙ misshapen-back c.args.sort one is))

@@ -7,14 +7,11 @@ use Rattle.til_resolve.proofs.AgainLemmas.{IsEarliest-before}
 use Rattle.til_resolve.proofs.twice.first_implemented_again.Goals as goal
 
 pub numbers-preserved : goal.numbers-preserved
-numbers-preserved c = record {
-  found = IsEarliest-before (implemented_again (declarations_of c.args.scope.now.declared)) c.numbers.number c.numbers.found c.in_ok-implemented_again.field-0 c.earlier-found.result
-      c.earlier-found.ensures c.numbers.invariant.found c.in_ok-implemented_again.ensures.again;
-  seen = c.in_ok-implemented_again.ensures.seen;
-}
+numbers-preserved c = IsEarliest-before (implemented_again (declarations_of c.args.scope.now.declared)) c.numbers.number c.numbers.found c.implemented_again.result c.earlier-found.result
+    c.earlier-found.ensures c.numbers.invariant c.implemented_again.ensures
 
 pub returns : goal.returns
 returns c =
     let all = declarations_of c.args.scope.now.declared in
     let same : c.numbers.number ≡ length all = omega (arith, c.len-number-end.ensures) in
-    subst (λ n. IsEarliest (Contains (before (implemented_again all) n)) c.numbers.found) same c.numbers.invariant.found
+    subst (λ n. IsEarliest (Contains (before (implemented_again all) n)) c.numbers.found) same c.numbers.invariant

@@ -1,15 +1,10 @@
-use Rattle.std.proofs.Common.{Contains, nat_eq}
-use Rattle.indexmap.specs.IndexSet.{contains}
+use Rattle.std.proofs.Common.{Contains}
 use Rattle.til_resolve.specs.Declarations.{before}
 use Rattle.til_resolve.specs.Earliest.{IsEarliest}
 use Rattle.til_resolve.specs.Names.{implemented_again}
 use Rattle.til_resolve.specs.Scope.{declarations_of}
-use Rattle.til_resolve.specs.Twice.{FindsImpls}
 use Rattle.til_resolve.proofs.twice.first_implemented_again.Given as goal
 
--- the first among the declarations so far, whose streamlets are found
+-- the first among the declarations so far
 abbrev pub invariant-numbers : goal.invariant-numbers
-invariant-numbers l = record {
-  found : IsEarliest (Contains (before (implemented_again (declarations_of l.scope.declared)) l.number)) l.found;
-  seen : FindsImpls (contains nat_eq l.seen) (declarations_of l.scope.declared) l.number;
-}
+invariant-numbers l = IsEarliest (Contains (before (implemented_again (declarations_of l.scope.declared)) l.number)) l.found

@@ -1,0 +1,169 @@
+-- The first written type that has a fault, one type after another, and what is kept of the types of declarations.
+use Rattle.std.proofs.Common.{◌≡◌, ℕ, zero, suc, ◌+◌, ◌<◌, ◌≤◌, ◌⊎◌, inl, inr, Bool, true, false, cond, ltb, List, [], ◌∷◌, ◌++◌, length, map, replicate, get_or, set, take, Option, Some, None, is_some, IfSome, Contains, refl, sym, ap, subst, ◌∙◌, arith}
+use Rattle.std.specs.Bool.{then_some}
+use Rattle.std.proofs.lemmas.Bool.{cases_eq, cases_lt, leb-true, leb-false, lt-ltb, ltb-true}
+use Rattle.std.proofs.lemmas.List.{take_more, take_all, map-append, get_or-set_same, get_or-set_other, set_past}
+use Rattle.std.proofs.lemmas.List.Elements.{Contains-append_left, Contains-append_right, Contains-push}
+use Rattle.tydi_base.specs.declared.place.Place.{Place}
+use Rattle.logical_types.specs.declared.fault.TypeFault.{TypeFault}
+use Rattle.logical_types.specs.declared.ltype.LType.{LType}
+use Rattle.logical_types.specs.Tree.{Ltype, plain}
+use Rattle.til_resolve.specs.declared.bad_types.BadType.{BadType}
+use Rattle.til_resolve.specs.declared.bad_types.Verdict.{Verdict}
+use Rattle.til_resolve.specs.declared.bad_types.Verdict.TheVariants as verdicts
+use Rattle.til_resolve.specs.declared.building.Room.{Room}
+use Rattle.til_resolve.specs.declared.fault.ResolveFault.TheVariants as faults
+use Rattle.til_resolve.specs.declared.written.Written.{Written}
+use Rattle.til_resolve.specs.BadTypes.{first_fault, AreAcyclic, HasSomeFault, IsBadIn, place_found, IsFirstBad, bad_at, bad_type, earlier_bad, verdict_at, AreVerdicts}
+use Rattle.til_resolve.specs.Building.{Builds}
+use Rattle.til_resolve.specs.Declarations.{Declaration, declaration}
+use Rattle.til_resolve.specs.Earliest.{IsEarliest, earlier, stands_first}
+use Rattle.til_resolve.specs.Faults.{WrittenType, HasTypeAt, IsToldUpTo, written_types}
+use Rattle.til_resolve.specs.Shapes.{type_at}
+use Rattle.til_resolve.specs.Types.{depth_of}
+use Rattle.til_resolve.specs.Written.{written_type, place_of, ltype_of, AreWritten}
+use Rattle.til_resolve.proofs.MisshapenLemmas.{types-none, types-one, types-grown}
+use Rattle.til_resolve.proofs.WrittenLemmas.{Contains-map}
+
+-- ---- one type more
+
+pub IsFirstBad-none : IsFirstBad [] None
+IsFirstBad-none = record { first = types-none HasSomeFault; bad = tt }
+
+-- the place of the earlier of the two
+place-earlier : (found : Option BadType) (place : Place) (o : Option TypeFault) → place_found (earlier_bad found (bad_at place o)) ≡ earlier (place_found found) (then_some (is_some o) place)
+place-earlier None place None = refl
+place-earlier None place (Some fault) = refl
+place-earlier (Some bad) place None = refl
+place-earlier (Some bad) place (Some fault) = by (ltb place.offset bad.place.offset)
+  where
+    by : (b : Bool) → place_found (cond b (Some (record { place = place; fault = fault })) (Some bad)) ≡ cond b (Some place) (Some bad.place)
+    by true = refl
+    by false = refl
+
+some-there : (one : WrittenType) (o : Option TypeFault) → first_fault one.ltype ≡ o → is_some o ≡ true → HasSomeFault one
+some-there one None is some = cc
+some-there one (Some fault) is some = record { fault = fault; first = is }
+
+some-back : (one : WrittenType) → HasSomeFault one → is_some (first_fault one.ltype) ≡ true
+some-back one has = ap (λ (o : Option TypeFault). is_some o) has.first
+
+-- the types so far and one more
+module _ (front : List WrittenType) (one : WrittenType) where
+  kept : (bad : BadType) → IsBadIn front bad → IsBadIn (front ++ one ∷ []) bad
+  kept bad there = record { one = there.one; written = Contains-append_left front (one ∷ []) there.one there.written; at = there.at; is = there.is }
+
+  here : (fault : TypeFault) → first_fault one.ltype ≡ Some fault → IsBadIn (front ++ one ∷ []) (record { place = one.place; fault = fault })
+  here fault is = record { one = one; written = Contains-append_right front (one ∷ []) one (Contains-push [] one); at = refl; is = is }
+
+  bad-more : (found : Option BadType) (o : Option TypeFault) → first_fault one.ltype ≡ o → IfSome found (IsBadIn front)
+      → IfSome (earlier_bad found (bad_at one.place o)) (IsBadIn (front ++ one ∷ []))
+  bad-more None None is so = tt
+  bad-more None (Some fault) is so = here fault is
+  bad-more (Some bad) None is so = kept bad so
+  bad-more (Some bad) (Some fault) is so = by (ltb one.place.offset bad.place.offset)
+    where
+      by : (b : Bool) → IfSome (cond b (Some (record { place = one.place; fault = fault })) (Some bad)) (IsBadIn (front ++ one ∷ []))
+      by true = here fault is
+      by false = kept bad so
+
+pub IsFirstBad-more : (all : List Declaration) (written : List Written) (i : ℕ) (one : Written) (found result : Option BadType) → i < length written → one ≡ get_or written i one
+    → result ≡ earlier_bad found (bad_type all one) → IsFirstBad (map (written_type all) (take i written)) found → IsFirstBad (map (written_type all) (take (i + 1) written)) result
+IsFirstBad-more all written i one found result within is told so = record {
+  first = types-grown HasSomeFault (map (written_type all)) written i one (place_found found) (then_some (is_some (first_fault (ltype_of all one))) (place_of all one)) (place_found result)
+      (map-append (written_type all)) within is (ap place_found told ∙ place-earlier found (place_of all one) (first_fault (ltype_of all one))) so.first
+      (types-one HasSomeFault (written_type all one) (is_some (first_fault (ltype_of all one))) (some-there (written_type all one) (first_fault (ltype_of all one)) refl) (some-back (written_type all one)));
+  bad = subst (λ (l : List WrittenType). IfSome result (IsBadIn l)) (sym grown)
+      (subst (λ (o : Option BadType). IfSome o (IsBadIn (map (written_type all) (take i written) ++ written_type all one ∷ []))) (sym told)
+      (bad-more (map (written_type all) (take i written)) (written_type all one) found (first_fault (ltype_of all one)) refl so.bad));
+}
+  where
+    grown : map (written_type all) (take (i + 1) written) ≡ map (written_type all) (take i written) ++ written_type all one ∷ []
+    grown = ap (map (written_type all)) (take_more written i one within ∙ ap (λ (w : Written). take i written ++ w ∷ []) (sym is)) ∙ map-append (written_type all) (take i written) (one ∷ [])
+
+pub IsFirstBad-all : (all : List Declaration) (written : List Written) (i : ℕ) (found : Option BadType) → length written ≤ i → AreWritten all written
+    → IsFirstBad (map (written_type all) (take i written)) found → IsFirstBad (written_types all) found
+IsFirstBad-all all written i found done are so =
+    subst (λ (l : List WrittenType). IsFirstBad l found) (ap (map (written_type all)) (take_all i written done) ∙ are.types) so
+
+-- ---- what one turn finds
+
+-- what was found stands no later
+pub earlier_bad-stays : (found : Option BadType) (place : Place) (o : Option TypeFault) → stands_first (place_found found) place ≡ true → found ≡ earlier_bad found (bad_at place o)
+earlier_bad-stays None place o first = cc
+earlier_bad-stays (Some bad) place None first = refl
+earlier_bad-stays (Some bad) place (Some fault) first = by (ltb place.offset bad.place.offset) refl
+  where
+    by : (b : Bool) → ltb place.offset bad.place.offset ≡ b → Some bad ≡ cond b (Some (record { place = place; fault = fault })) (Some bad)
+    by true before = absurd (omega (arith, ltb-true place.offset bad.place.offset before, leb-true bad.place.offset place.offset first))
+    by false before = refl
+
+-- the type stands before what was found
+pub earlier_bad-taken : (found : Option BadType) (place : Place) (fault : TypeFault) → stands_first (place_found found) place ≡ false
+    → Some (record { place = place; fault = fault }) ≡ earlier_bad found (bad_at place (Some fault))
+earlier_bad-taken None place fault later = refl
+earlier_bad-taken (Some bad) place fault later =
+    ap (λ (b : Bool). cond b (Some (record { place = place; fault = fault })) (Some bad)) (sym (lt-ltb place.offset bad.place.offset (leb-false bad.place.offset place.offset later)))
+
+-- the type has no fault
+pub earlier_bad-none : (found : Option BadType) (place : Place) → found ≡ earlier_bad found (bad_at place None)
+earlier_bad-none None place = refl
+earlier_bad-none (Some bad) place = refl
+
+-- ---- what is told before
+
+pub acyclic-told : (all : List Declaration) → IsToldUpTo all 4 None → AreAcyclic all
+acyclic-told all none = record {
+  each = λ one within leads. none.told (faults.CyclicType (declaration all one).name.place) (omega arith)
+      (record { one = one; within = within; at = record { at = refl; leads = leads } });
+}
+
+pub small-told : (all : List Declaration) (written : List Written) (one : Written) → IsToldUpTo all 4 None → AreWritten all written → Contains written one → depth_of (ltype_of all one) ≤ 64
+small-told all written one none are there = by (cases_lt 64 (depth_of (ltype_of all one)))
+  where
+    inside : Contains (written_types all) (written_type all one)
+    inside = subst (λ (l : List WrittenType). Contains l (written_type all one)) are.types (Contains-map (written_type all) written one there)
+
+    by : (64 < depth_of (ltype_of all one)) ⊎ (depth_of (ltype_of all one) ≤ 64) → depth_of (ltype_of all one) ≤ 64
+    by (inl deep) = absurd (none.told (faults.TypeTooLarge (place_of all one)) (omega arith) (record { one = written_type all one; written = inside; at = refl; is = inr deep }))
+    by (inr low) = low
+
+-- ---- what is kept
+
+pub AreVerdicts-none : (all : List Declaration) (n : ℕ) (kept : List Verdict) → kept ≡ replicate n verdicts.Unknown → AreVerdicts all kept
+AreVerdicts-none all n kept is = record { each = λ one fault known. absurd (never fault (sym (unknown n one) ∙ ap (λ (l : List Verdict). verdict_at l one) (sym is) ∙ known)) }
+  where
+    unknown : (m k : ℕ) → verdict_at (replicate m verdicts.Unknown) k ≡ verdicts.Unknown
+    unknown zero k = refl
+    unknown (suc m) zero = refl
+    unknown (suc m) (suc k) = unknown m k
+
+    never : (fault : Option TypeFault) → ¬ (verdicts.Unknown ≡ verdicts.Known fault)
+    never fault same = cc
+
+pub AreVerdicts-kept : (all : List Declaration) (old new : List Verdict) (number : ℕ) (fault : Option TypeFault) → new ≡ set old number (verdicts.Known fault)
+    → fault ≡ first_fault (type_at all (suc (length all)) number) → AreVerdicts all old → AreVerdicts all new
+AreVerdicts-kept all old new number fault is right so = record { each = λ one other known. by one other (cases_eq one number) (sym (ap (λ (l : List Verdict). verdict_at l one) is) ∙ known) }
+  where
+    same_fault : (one other : Option TypeFault) → verdicts.Known one ≡ verdicts.Known other → one ≡ other
+    same_fault one other same = cc
+
+    at : (other : Option TypeFault) → (number < length old) ⊎ (length old ≤ number) → verdict_at (set old number (verdicts.Known fault)) number ≡ verdicts.Known other
+        → other ≡ first_fault (type_at all (suc (length all)) number)
+    at other (inl within) known = same_fault other fault (sym known ∙ get_or-set_same old number (verdicts.Known fault) verdicts.Unknown within) ∙ right
+    at other (inr past) known = so.each number other (sym (ap (λ (l : List Verdict). verdict_at l number) (set_past old number (verdicts.Known fault) past)) ∙ known)
+
+    by : (one : ℕ) (other : Option TypeFault) → (one ≡ number) ⊎ (one ≡ number → ⊥) → verdict_at (set old number (verdicts.Known fault)) one ≡ verdicts.Known other
+        → other ≡ first_fault (type_at all (suc (length all)) one)
+    by one other (inl same) known = subst (λ (k : ℕ). other ≡ first_fault (type_at all (suc (length all)) k)) (sym same)
+        (at other (cases_lt number (length old)) (subst (λ (k : ℕ). verdict_at (set old number (verdicts.Known fault)) k ≡ verdicts.Known other) same known))
+    by one other (inr apart) known = so.each one other (sym (get_or-set_other old number one (verdicts.Known fault) verdicts.Unknown apart) ∙ known)
+
+-- the first fault of a root's type that is made
+pub fault-declared : (all : List Declaration) (room : Room) (root : ℕ) (wanted : Ltype) (built : LType) (fault : Option TypeFault) → fault ≡ first_fault (plain built)
+    → room.names ≡ length all → room.levels ≡ 64 → wanted ≡ type_at all (suc (length all)) root → depth_of wanted ≤ 64 → Builds room.levels (type_at all (suc room.names) root) built
+    → fault ≡ first_fault (type_at all (suc (length all)) root)
+fault-declared all room root wanted built fault told names levels same small so =
+    told ∙ ap first_fault
+    (subst (λ (n : ℕ). Builds n (type_at all (suc (length all)) root) built) levels (subst (λ (n : ℕ). Builds room.levels (type_at all (suc n) root) built) names so)
+    (subst (λ (t : Ltype). depth_of t ≤ 64) same small))
