@@ -17,8 +17,8 @@ use Rattle.til_resolve.specs.declared.written.Written.{Written}
 use Rattle.til_resolve.specs.BadTypes.{first_fault, AreAcyclic, HasSomeFault, IsBadIn, place_found, IsFirstBad, bad_at, bad_type, earlier_bad, verdict_at, AreVerdicts}
 use Rattle.til_resolve.specs.Building.{Builds}
 use Rattle.til_resolve.specs.Declarations.{Declaration, declaration}
-use Rattle.til_resolve.specs.Earliest.{IsEarliest, earlier, stands_first}
-use Rattle.til_resolve.specs.Faults.{WrittenType, HasTypeAt, IsToldUpTo, written_types}
+use Rattle.til_resolve.specs.Earliest.{earlier, stands_first}
+use Rattle.til_resolve.specs.Faults.{WrittenType, IsToldUpTo, written_types}
 use Rattle.til_resolve.specs.Shapes.{type_at}
 use Rattle.til_resolve.specs.Types.{depth_of}
 use Rattle.til_resolve.specs.Written.{written_type, place_of, ltype_of, AreWritten}

@@ -1,6 +1,6 @@
 -- A type declaration that only names another has its type, with one name fewer replaced; so a table whose entries follow one another
 -- has a chain of each declaration.
-use Rattle.std.proofs.Common.{◌≡◌, ℕ, zero, suc, ◌+◌, ◌-◌, ◌<◌, ◌≤◌, List, [], length, Option, Some, None, refl, sym, ap, subst, ◌∙◌, arith}
+use Rattle.std.proofs.Common.{◌≡◌, ℕ, zero, suc, ◌+◌, ◌-◌, ◌<◌, List, [], length, Some, refl, sym, ap, subst, ◌∙◌, arith}
 use Rattle.til_parser.specs.declared.tree.AstKind.{AstKind}
 use Rattle.til_parser.specs.declared.tree.AstKind.TheVariants as decls
 use Rattle.til_parser.specs.declared.tree.AstName.{AstName}
@@ -8,8 +8,8 @@ use Rattle.til_parser.specs.Tree as tree
 use Rattle.til_parser.specs.Tree.{plain}
 use Rattle.til_resolve.specs.declared.chains.Chain.{Chain}
 use Rattle.til_resolve.specs.BadTypes.{AreAcyclic}
-use Rattle.til_resolve.specs.Chains.{own_chain, chain_at, IsChain, AreChains, named_alone, next_of_kind, next_of, GoesOn, FollowsNext, IsLink, AreLinks}
-use Rattle.til_resolve.specs.Declarations.{Declaration, declaration, named_as, is_type}
+use Rattle.til_resolve.specs.Chains.{own_chain, chain_at, IsChain, AreChains, named_alone, next_of_kind, next_of, GoesOn, AreLinks}
+use Rattle.til_resolve.specs.Declarations.{Declaration, declaration, is_type}
 use Rattle.til_resolve.specs.Shapes.{type_at}
 use Rattle.til_resolve.specs.Types.{replaced, type_by, meaning_of}
 use Rattle.til_resolve.proofs.MeaningLemmas.{type_of_named, meant-named}

@@ -1,5 +1,5 @@
 -- Which fault of a tree is told.
-use Rattle.std.proofs.Common.{◌≡◌, ℕ, zero, suc, ◌<◌, ◌≤◌, ◌⊎◌, inl, inr, Bool, true, false, cond, ltb, List, [], ◌∷◌, ◌++◌, length, Option, Some, None, Contains, refl, sym, ap, subst, ◌∙◌, arith}
+use Rattle.std.proofs.Common.{◌≡◌, ℕ, zero, suc, ◌≤◌, inl, inr, Bool, true, false, cond, ltb, List, ◌++◌, length, Option, Some, None, Contains, refl, sym, ap, subst, ◌∙◌, arith}
 use Rattle.std.proofs.lemmas.Bool.{ltb-true, ltb-false}
 use Rattle.tydi_base.specs.declared.place.Place.{Place}
 use Rattle.til_resolve.specs.declared.bad_types.BadType.{BadType}
@@ -8,7 +8,7 @@ use Rattle.til_resolve.specs.declared.fault.ResolveFault.TheVariants as faults
 use Rattle.til_resolve.specs.declared.names.Sought.TheVariants as sought
 use Rattle.til_resolve.specs.BadTypes.{IsFirstBad}
 use Rattle.til_resolve.specs.Declarations.{Declaration, declaration, before}
-use Rattle.til_resolve.specs.Earliest.{IsFirst, IsEarliest}
+use Rattle.til_resolve.specs.Earliest.{IsEarliest}
 use Rattle.til_resolve.specs.declared.misshapen.Sort.TheVariants as sorts
 use Rattle.til_resolve.specs.Faults.{HasFault, HasTypeAt, IsToldBefore, IsToldUpTo, order_of, written_types}
 use Rattle.til_resolve.specs.Names.{twice, unknown, wrong_kinds, refused, is_wrong_kind, uses_in}

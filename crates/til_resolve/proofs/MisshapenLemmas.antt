@@ -1,22 +1,16 @@
 -- The first of written types of which something holds, and what a shape shows of a type.
-use Rattle.std.proofs.Common.{◌≡◌, ℕ, zero, suc, ◌+◌, ◌<◌, ◌≤◌, ◌⊎◌, inl, inr, Bool, true, false, cond, not, ◌||◌, ◌&&◌, ltb, min, List, [], ◌∷◌, ◌++◌, length, map, take, get_or, Option, Some, None, Contains, refl, sym, ap, subst, ◌∙◌, arith}
+use Rattle.std.proofs.Common.{◌≡◌, ℕ, ◌+◌, ◌<◌, ◌⊎◌, inl, inr, Bool, true, false, not, ◌||◌, ◌&&◌, ltb, min, List, [], ◌∷◌, ◌++◌, length, take, get_or, Option, None, Contains, refl, sym, ap, subst, ◌∙◌, arith}
 use Rattle.std.specs.Bool.{then_some}
-use Rattle.std.specs.List.{flat_map}
-use Rattle.std.proofs.lemmas.Bool.{ltb-true, ltb-false, lt-ltb}
-use Rattle.std.proofs.lemmas.Grind.{flat_map-append}
-use Rattle.std.proofs.lemmas.List.{take_more, map-append}
+use Rattle.std.proofs.lemmas.Bool.{ltb-true, lt-ltb}
+use Rattle.std.proofs.lemmas.List.{take_more}
 use Rattle.std.proofs.lemmas.List.Elements.{Contains-append_left, Contains-append_right, Contains-append_cases, Contains-push}
 use Rattle.tydi_base.specs.declared.place.Place.{Place}
-use Rattle.til_parser.specs.declared.tree.AstPort.{AstPort}
-use Rattle.logical_types.specs.Tree.{Ltype}
 use Rattle.til_resolve.specs.declared.misshapen.Sort.{Sort}
 use Rattle.til_resolve.specs.declared.misshapen.Sort.TheVariants as sorts
-use Rattle.til_resolve.specs.Declarations.{Declaration, declaration}
 use Rattle.til_resolve.specs.Earliest.{IsEarliest, earlier}
-use Rattle.til_resolve.specs.Faults.{WrittenType, HasTypeAt, port_types, types_in}
+use Rattle.til_resolve.specs.Faults.{WrittenType, HasTypeAt}
 use Rattle.til_resolve.specs.Shapes.{shape_of, is_misshapen, IsMisshapen}
 use Rattle.til_resolve.specs.Types.{number_of_nodes, depth_of, is_stream}
-use Rattle.til_resolve.proofs.AgainLemmas.{append_nil}
 use Rattle.til_resolve.proofs.EarliestLemmas.{IsEarliest-none, IsEarliest-one, IsEarliest-same, IsEarliest-either, Contains-nil, Contains-one}
 
 -- ---- written types, one after another

@@ -1,5 +1,5 @@
 -- Shapes of written types, and tables of the shapes of declarations: of a round more, and of ranks that fall.
-use Rattle.std.proofs.Common.{◌≡◌, ℕ, zero, suc, ◌+◌, ◌<◌, ◌≤◌, ◌⊎◌, inl, inr, Bool, true, false, min, max, List, [], ◌∷◌, ◌++◌, length, get_or, take, Option, Some, None, Contains, refl, sym, ap, subst, ◌∙◌, arith}
+use Rattle.std.proofs.Common.{◌≡◌, ℕ, zero, suc, ◌+◌, ◌<◌, ◌≤◌, true, false, min, max, List, [], ◌∷◌, ◌++◌, length, get_or, take, Option, Some, None, Contains, refl, sym, ap, subst, ◌∙◌, arith}
 use Rattle.std.proofs.lemmas.List.{take_more}
 use Rattle.std.proofs.lemmas.List.Elements.{Contains-append_left, Contains-append_right, Contains-push}
 use Rattle.til_parser.specs.declared.ltype.AstPart.{AstPart}
@@ -10,11 +10,11 @@ use Rattle.til_parser.specs.declared.tree.AstPath.{AstPath}
 use Rattle.til_parser.specs.Tree as tree
 use Rattle.til_parser.specs.Tree.{plain}
 use Rattle.til_parser.proofs.PlainLemmas.{plain_parts}
-use Rattle.logical_types.specs.Tree.{Ltype, null, Parts}
+use Rattle.logical_types.specs.Tree.{Ltype, Parts}
 use Rattle.til_resolve.specs.declared.shape.Shape.{Shape}
 use Rattle.til_resolve.specs.Cycles.{NamesType, paths_of_alias}
 use Rattle.til_resolve.specs.Declarations.{Declaration, declaration, named_as, is_type}
-use Rattle.til_resolve.specs.Graph.{Leads, rank_of, type_graph}
+use Rattle.til_resolve.specs.Graph.{rank_of, type_graph}
 use Rattle.til_resolve.specs.Names.{paths_in, paths_in_parts}
 use Rattle.til_resolve.specs.Shapes.{shape_of, leaf, nothing, beside, around, shape_by, shape_by_parts, shape_by_list, shape_at, shape_of_number, shape_named, shape_of_kind, declared_shape, round, type_at, HasShape, IsTable, IsOwnRound, IsRanked}
 use Rattle.til_resolve.specs.Types.{number_of_nodes, nodes_in_parts, depth_of, depth_of_parts, replaced, replaced_parts, type_by, meaning_of, type_of}

@@ -1,6 +1,6 @@
 -- Where no type declaration leads to itself, one name more replaced changes no type, once as many are as there are declarations.
 use Rattle.std.proofs.Common.{◌≡◌, ℕ, zero, suc, ◌+◌, ◌<◌, ◌≤◌, ◌⊎◌, inl, inr, Bool, true, false, eqb, List, [], ◌∷◌, length, Some, Contains, refl, sym, ap, subst, ◌∙◌, arith}
-use Rattle.std.specs.List.{IsDistinct, AllByRecursion, list_any}
+use Rattle.std.specs.List.{IsDistinct, AllByRecursion}
 use Rattle.std.proofs.lemmas.Bool.{eqb-true}
 use Rattle.std.proofs.lemmas.List.Elements.{Contains-append_left, Contains-append_right, Contains-append_cases, Contains-push}
 use Rattle.std.proofs.lemmas.Map.Keys.{IsDistinct-cons}
@@ -12,7 +12,7 @@ use Rattle.til_parser.specs.declared.tree.AstName.{AstName}
 use Rattle.til_parser.specs.declared.tree.AstPath.{AstPath}
 use Rattle.til_parser.specs.Tree.{plain}
 use Rattle.til_resolve.specs.BadTypes.{AreAcyclic}
-use Rattle.til_resolve.specs.Cycles.{LeadsTo, NamesType, IsCyclicType, paths_of_alias}
+use Rattle.til_resolve.specs.Cycles.{LeadsTo, NamesType, paths_of_alias}
 use Rattle.til_resolve.specs.Declarations.{Declaration, declaration, named_as, is_type}
 use Rattle.til_resolve.specs.Shapes.{type_at}
 use Rattle.til_resolve.specs.Types.{type_by, meaning_of}

@@ -1,8 +1,8 @@
 -- The types that a tree writes, added one after another.
-use Rattle.std.proofs.Common.{◌≡◌, ℕ, zero, suc, ◌+◌, ◌<◌, ◌≤◌, ◌⊎◌, inl, inr, false, List, [], ◌∷◌, ◌++◌, length, map, get_or, take, Contains, refl, sym, ap, subst, ◌∙◌, arith, append_assoc}
+use Rattle.std.proofs.Common.{◌≡◌, ℕ, ◌+◌, ◌<◌, ◌≤◌, ◌⊎◌, inl, inr, false, List, [], ◌∷◌, ◌++◌, length, map, get_or, take, Contains, refl, sym, ap, subst, ◌∙◌, append_assoc}
 use Rattle.std.specs.List.{flat_map}
 use Rattle.std.proofs.lemmas.Grind.{flat_map-append}
-use Rattle.std.proofs.lemmas.List.{take_more, take_all, map-append, get_or_default}
+use Rattle.std.proofs.lemmas.List.{take_more, take_all, map-append}
 use Rattle.std.proofs.lemmas.List.Elements.{Contains-append_left, Contains-append_right, Contains-append_cases, Contains-get_or, Contains-push}
 use Rattle.til_parser.specs.declared.ltype.AstType.{AstType}
 use Rattle.til_parser.specs.declared.tree.AstKind.{AstKind}
@@ -14,7 +14,7 @@ use Rattle.logical_types.specs.Tree.{Ltype}
 use Rattle.til_resolve.specs.declared.written.Written.{Written}
 use Rattle.til_resolve.specs.declared.written.Written.TheVariants.{Declared}
 use Rattle.til_resolve.specs.Declarations.{Declaration, declaration, is_type_kind, own_ports}
-use Rattle.til_resolve.specs.Faults.{WrittenType, port_types, types_in, types_of_kind, written_types}
+use Rattle.til_resolve.specs.Faults.{WrittenType, port_types, types_in, types_of_kind}
 use Rattle.til_resolve.specs.Written.{IsWithin, written_type, AddsWritten, AreWritten}
 use Rattle.til_resolve.proofs.AgainLemmas.{append_nil}
 use Rattle.til_resolve.proofs.BuildingLemmas.{declared-is}

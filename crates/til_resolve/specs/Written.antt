@@ -2,7 +2,6 @@
 -- no public clause.
 use Rattle.std.specs.Prelude.{◌≡◌, ℕ, suc, ◌<◌, ◌++◌, Bool, false, true, List, length, map, Contains}
 use Rattle.tydi_base.specs.declared.place.Place.{Place}
-use Rattle.til_parser.specs.declared.tree.AstPort.{AstPort}
 use Rattle.til_parser.specs.Tree.{plain}
 use Rattle.logical_types.specs.Tree.{Ltype}
 use Rattle.til_resolve.specs.declared.written.Written.{Written}

@@ -1,4 +1,4 @@
-use Rattle.std.proofs.Common.{◌≡◌, List, length, suc, subst, sym, ap, ◌∙◌}
+use Rattle.std.proofs.Common.{List, length, subst, sym, ap, ◌∙◌}
 use Rattle.til_resolve.specs.declared.bad_types.Verdict.{Verdict}
 use Rattle.til_resolve.specs.declared.chains.Chain.{Chain}
 use Rattle.til_resolve.specs.BadTypes.{first_fault, verdict_at}

@@ -1,6 +1,5 @@
-use Rattle.std.proofs.Common.{◌≡◌, ◌≤◌, length, subst, sym, ap, ◌∙◌}
+use Rattle.std.proofs.Common.{◌≡◌, length, sym, ap, ◌∙◌}
 use Rattle.std.proofs.lemmas.Result.{IfOk-weaker}
-use Rattle.logical_types.specs.Tree.{Ltype}
 use Rattle.til_parser.specs.Tree.{plain}
 use Rattle.til_resolve.specs.BadTypes.{first_fault}
 use Rattle.til_resolve.specs.Declarations.{declaration}

@@ -1,4 +1,4 @@
-use Rattle.std.proofs.Common.{◌≡◌, ◌-◌, List, ap, subst, sym, ◌∙◌, arith}
+use Rattle.std.proofs.Common.{◌-◌, List, subst, arith}
 use Rattle.til_parser.specs.declared.ltype.AstPart.{AstPart}
 use Rattle.til_parser.specs.Tree.{plain}
 use Rattle.logical_types.specs.declared.ltype.LType.TheVariants as types

@@ -2,7 +2,7 @@ use Rattle.std.proofs.Common.{List, length, subst}
 use Rattle.til_resolve.specs.declared.chains.Chain.{Chain}
 use Rattle.til_resolve.specs.Chains.{AreLinks}
 use Rattle.til_resolve.specs.Scope.{declarations_of}
-use Rattle.til_resolve.proofs.ChainLemmas.{AreChains-links, AreChains-none}
+use Rattle.til_resolve.proofs.ChainLemmas.{AreChains-links}
 use Rattle.til_resolve.proofs.chains.find_chains.Goals as goal
 
 pub returns-then-are_links : goal.returns-then-are_links

@@ -1,4 +1,4 @@
-use Rattle.std.proofs.Common.{List, map, subst, ap, ◌∙◌, arith}
+use Rattle.std.proofs.Common.{List, map, subst, ap, ◌∙◌}
 use Rattle.std.proofs.lemmas.List.{map-append, take_all}
 use Rattle.til_resolve.specs.Earliest.{IsEarliest}
 use Rattle.til_resolve.specs.Faults.{HasTypeAt, WrittenType}
