@@ -1,5 +1,5 @@
 -- The faults that are looked for last, and what a tree without faults shows of its ports.
-use Rattle.std.proofs.Common.{◌≡◌, ◌≢◌, ℕ, ◌<◌, ◌≤◌, ◌⊎◌, inl, inr, Bool, true, false, not, List, length, Option, Some, None, Result, Ok, Err, IfOk, IfErr, Contains, IsTrue, refl, sym, ap, subst, ◌∙◌, arith}
+use Rattle.std.proofs.Common.{◌≡◌, ◌≢◌, ℕ, ◌<◌, ◌≤◌, ◌⊎◌, inl, inr, Bool, true, false, not, List, length, Some, None, Result, Ok, Err, IfOk, IfErr, Contains, IsTrue, refl, sym, ap, subst, arith}
 use Rattle.std.proofs.lemmas.Bool.{cases_lt}
 use Rattle.tydi_base.specs.declared.place.Place.{Place}
 use Rattle.til_parser.specs.declared.tree.Ast.{Ast}
@@ -10,7 +10,7 @@ use Rattle.til_resolve.specs.declared.fault.ResolveFault.TheVariants as faults
 use Rattle.til_resolve.specs.declared.misshapen.Sort.TheVariants as sorts
 use Rattle.til_resolve.specs.Declarations.{Declaration, declarations}
 use Rattle.til_resolve.specs.Earliest.{IsEarliest, IsBelow}
-use Rattle.til_resolve.specs.Faults.{WrittenType, HasFault, HasTypeAt, IsCyclicAtTarget, IsToldBefore, IsToldUpTo, IsToldOf, IsSound, order_of, written_types}
+use Rattle.til_resolve.specs.Faults.{HasFault, HasTypeAt, IsCyclicAtTarget, IsToldBefore, IsToldUpTo, IsToldOf, IsSound, order_of, written_types}
 use Rattle.til_resolve.specs.Making.{type_of_port}
 use Rattle.til_resolve.specs.declared.project.Project.{Project}
 use Rattle.til_resolve.specs.Project.{IsProjectOf, IsStreamletOf, Pairwise, streamlet_numbers, tests_in}

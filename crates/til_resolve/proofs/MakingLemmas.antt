@@ -5,7 +5,7 @@ use Rattle.std.proofs.lemmas.List.{take_more, map-append}
 use Rattle.std.proofs.lemmas.List.Elements.{filter-append, filter_map-append}
 use Rattle.til_parser.specs.declared.tree.AstStmt.{AstStmt}
 use Rattle.til_resolve.specs.declared.project.Streamlet.{Streamlet}
-use Rattle.til_resolve.specs.Declarations.{Declaration, declaration, is_streamlet, before}
+use Rattle.til_resolve.specs.Declarations.{Declaration, declaration, is_streamlet}
 use Rattle.til_resolve.specs.Making.{numbers_before}
 use Rattle.til_resolve.specs.Names.{instance_at}
 use Rattle.til_resolve.specs.Project.{Pairwise, IsStreamletOf, streamlets_before, streamlet_number, instance_of, instances_in, link_at, links_of, test_of, tests_in}

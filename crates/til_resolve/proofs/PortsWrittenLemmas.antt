@@ -1,5 +1,5 @@
 -- The ports of a streamlet stand among those that are written, and the type of a declaration that a path names is that of the path.
-use Rattle.std.proofs.Common.{◌≡◌, ℕ, zero, suc, ◌+◌, ◌<◌, ◌≤◌, ◌⊎◌, inl, inr, List, [], ◌∷◌, ◌++◌, length, map, take, get_or, Option, Some, None, IfSome, Contains, refl, sym, ap, subst, ◌∙◌, arith}
+use Rattle.std.proofs.Common.{◌≡◌, ℕ, suc, ◌+◌, ◌<◌, ◌≤◌, ◌⊎◌, inl, inr, List, [], ◌∷◌, ◌++◌, length, map, take, get_or, Option, Some, None, IfSome, Contains, refl, sym, ap, subst, ◌∙◌, arith}
 use Rattle.std.specs.List.{flat_map}
 use Rattle.std.proofs.lemmas.List.{get_or-map, length-map, map-append, take_more, take_all}
 use Rattle.std.proofs.lemmas.List.Elements.{Contains-append_left, Contains-append_right, Contains-append_cases, Contains-get_or}
@@ -11,11 +11,10 @@ use Rattle.til_parser.specs.declared.tree.AstName.{AstName}
 use Rattle.til_parser.specs.declared.tree.AstPath.{AstPath}
 use Rattle.til_parser.specs.declared.tree.AstPort.{AstPort}
 use Rattle.til_parser.specs.declared.tree.AstPorts.TheVariants as ports
-use Rattle.til_parser.specs.Tree as tree
 use Rattle.til_parser.specs.Tree.{plain}
 use Rattle.til_parser.proofs.PlainLemmas.{plain-Path}
 use Rattle.til_resolve.specs.Declarations.{Declaration, declaration, named, own_ports, PortOf, ports_in, ports_of, ports_of_number}
-use Rattle.til_resolve.specs.Faults.{WrittenType, types_of_kind, types_in, written_types}
+use Rattle.til_resolve.specs.Faults.{types_of_kind, types_in, written_types}
 use Rattle.til_resolve.specs.declared.project.Port.{Port}
 use Rattle.til_resolve.specs.Making.{type_of_port, written_in}
 use Rattle.til_resolve.specs.Project.{IsPortOf, Pairwise}

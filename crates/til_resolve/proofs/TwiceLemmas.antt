@@ -1,5 +1,5 @@
 -- What is declared twice, found by what was seen before.
-use Rattle.std.proofs.Common.{◌≡◌, ℕ, zero, suc, ◌+◌, ◌<◌, ◌≤◌, Bool, true, false, cond, ltb, not, ◌||◌, List, [], ◌∷◌, ◌++◌, length, map, filter, take, get_or, position, Option, Some, None, option_map, Contains, refl, sym, ap, subst, ◌∙◌, arith, append_assoc}
+use Rattle.std.proofs.Common.{◌≡◌, ℕ, zero, suc, ◌+◌, ◌<◌, ◌≤◌, Bool, true, false, cond, ltb, not, ◌||◌, List, [], ◌∷◌, ◌++◌, length, map, filter, take, get_or, position, Option, Some, None, option_map, Contains, refl, sym, ap, subst, ◌∙◌, arith}
 use Rattle.std.specs.Borrow.{Bor}
 use Rattle.std.specs.Bool.{then_some}
 use Rattle.std.specs.List.{list_any, filter_map}
@@ -18,9 +18,9 @@ use Rattle.til_parser.specs.declared.tree.AstStmt.{AstStmt}
 use Rattle.til_parser.specs.declared.tree.AstStmt.TheVariants as statements
 use Rattle.til_resolve.specs.Declarations.{Declaration, declaration, path_of, first_of_path, named_as, is_streamlet, PortOf, ports_of_streamlet}
 use Rattle.til_resolve.specs.Earliest.{IsEarliest, earlier}
-use Rattle.til_resolve.specs.Names.{declared_again, implements, is_impl_of, implements_again, implemented_again, seconds, WrittenInstance, instance_at, instances_of, instances_again, instances_named_as_ports, names_again_in_impl, has_port}
+use Rattle.til_resolve.specs.Names.{declared_again, implements, is_impl_of, implements_again, implemented_again, WrittenInstance, instance_at, instances_again, instances_named_as_ports, names_again_in_impl, has_port}
 use Rattle.til_resolve.specs.Twice.{is_same_name, FindsNames, AddsInstance, instance_again}
-use Rattle.til_resolve.proofs.EarliestLemmas.{IsEarliest-nil, IsEarliest-at, IsEarliest-append}
+use Rattle.til_resolve.proofs.EarliestLemmas.{IsEarliest-at, IsEarliest-append}
 use Rattle.til_resolve.proofs.AgainLemmas.{append_nil, IsEarliest-if, seconds-grown}
 use Rattle.til_resolve.proofs.PositionLemmas.{position-cons}
 

@@ -1,7 +1,7 @@
 //! A project with its names looked up: streamlets with their ports, bodies and instances, and tests. `specs/Project.antt` says
 //! which project a tree stands for, and `specs/Faults.antt` what is wrong with a tree that stands for none, each fault with its
-//! place, over the list of all declarations in text order and without a table. No call makes a project of a tree yet: what stands
-//! are the types, these definitions and the three look-ups. The crate stands on `til_parser` and `logical_types`.
+//! place, over the list of all declarations in text order and without a table. `resolve` gives the one or the other; three look-ups
+//! find ports, streamlets and tests by their paths. The crate stands on `til_parser` and `logical_types`.
 #![tactic(auto)]
 
 mod bad_types;
@@ -37,8 +37,6 @@ mod shape;
 mod shapes;
 mod statements;
 mod streamlets;
-#[cfg(test)]
-mod tests;
 mod twice;
 mod type_graph;
 mod written;

@@ -5,9 +5,13 @@
 #[cfg(test)]
 mod checkers;
 #[cfg(test)]
+mod faults;
+#[cfg(test)]
 mod fractions;
 #[cfg(test)]
 mod nests;
+#[cfg(test)]
+mod projects;
 #[cfg(test)]
 mod readings;
 #[cfg(test)]

@@ -1,4 +1,4 @@
-use Rattle.std.proofs.Common.{◌≡◌, ℕ, cond, length, Option, Some, None, sym, ap, ◌∙◌, arith}
+use Rattle.std.proofs.Common.{ℕ, cond, Option, Some, None, sym, ap, ◌∙◌, arith}
 use Rattle.std.specs.Option.{option_or}
 use Rattle.til_resolve.specs.Declarations.{declaration}
 use Rattle.til_resolve.specs.Names.{is_impl_of}

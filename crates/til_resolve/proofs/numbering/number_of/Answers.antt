@@ -1,4 +1,4 @@
-use Rattle.std.proofs.Common.{◌≡◌, ◌<◌, ℕ, List, get_or, length, sym, ap, subst, ◌∙◌, arith}
+use Rattle.std.proofs.Common.{◌≡◌, ◌<◌, ℕ, List, get_or, length, ap, ◌∙◌, arith}
 use Rattle.til_resolve.specs.Project.{numbered}
 use Rattle.til_resolve.specs.Scope.{declarations_of}
 use Rattle.til_resolve.proofs.MakingLemmas.{number-at, length-numbers}

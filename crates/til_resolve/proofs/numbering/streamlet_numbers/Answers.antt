@@ -1,4 +1,4 @@
-use Rattle.std.proofs.Common.{◌≡◌, ℕ, List, [], ◌∷◌, ◌++◌, ◌+◌, cond, length, sym, ap, subst, ◌∙◌, arith}
+use Rattle.std.proofs.Common.{◌≡◌, ℕ, List, [], ◌∷◌, ◌++◌, ◌+◌, cond, length, sym, ap, ◌∙◌, arith}
 use Rattle.til_resolve.specs.Declarations.{declaration, is_streamlet}
 use Rattle.til_resolve.specs.Making.{numbers_before}
 use Rattle.til_resolve.specs.Scope.{declarations_of}

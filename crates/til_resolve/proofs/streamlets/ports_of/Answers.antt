@@ -1,5 +1,5 @@
-use Rattle.std.proofs.Common.{◌≡◌, List, IfOk, sym, subst}
-use Rattle.til_resolve.specs.Declarations.{PortOf, declaration}
+use Rattle.std.proofs.Common.{List, IfOk, sym, subst}
+use Rattle.til_resolve.specs.Declarations.{PortOf}
 use Rattle.til_resolve.specs.Project.{IsPortOf, Pairwise}
 use Rattle.til_resolve.specs.Scope.{declarations_of}
 use Rattle.til_resolve.proofs.PortsWrittenLemmas.{ports_of-owner, ports_of-none}

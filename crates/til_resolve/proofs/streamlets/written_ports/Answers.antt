@@ -1,4 +1,4 @@
-use Rattle.std.proofs.Common.{◌≡◌, ap, sym, subst, ◌∙◌}
+use Rattle.std.proofs.Common.{ap, ◌∙◌}
 use Rattle.til_resolve.specs.Declarations.{declaration, own_ports}
 use Rattle.til_resolve.specs.Scope.{declarations_of}
 use Rattle.til_resolve.proofs.PortsWrittenLemmas.{port-written, written-more, written-all}
@@ -15,11 +15,12 @@ ports-preserved c =
     let all = declarations_of c.args.scope.now.declared in
     record {
       built = c.in_ok-port_of.ensures.built;
-      ports = rw (c.in_ok-push.ensures.ok) (written-more all (declaration all c.args.number).space c.own_ports-port-items.result.now c.ports.port-index c.port-item.result c.ports.ports c.in_ok-port_of.field-0
-          c.ports-test.true c.port-item.is c.ports.invariant.ports c.in_ok-port_of.ensures.port);
+      ports = rw (c.in_ok-push.ensures.ok) (written-more all (declaration all c.args.number).space c.own_ports-port-items.result.now c.ports.port-index c.port-item.result c.ports.ports
+          c.in_ok-port_of.field-0 c.ports-test.true c.port-item.is c.ports.invariant.ports c.in_ok-port_of.ensures.port);
     }
 
 pub returns-clause-ports : goal.returns-clause-ports
 returns-clause-ports c =
     let all = declarations_of c.args.scope.now.declared in
-    written-all all c.args.number c.ports.port-index c.own_ports-port-items.result.now c.ports.ports (c.own_ports-port-items.ensures ∙ ap (λ d. own_ports d.kind) c.get.ensures.value) c.ports-test.false c.ports.invariant.ports
+    let listed = c.own_ports-port-items.ensures ∙ ap (λ d. own_ports d.kind) c.get.ensures.value in
+    written-all all c.args.number c.ports.port-index c.own_ports-port-items.result.now c.ports.ports listed c.ports-test.false c.ports.invariant.ports

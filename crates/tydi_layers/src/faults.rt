@@ -1,20 +1,13 @@
 //! The faults of trees, by a table found by hand.
 
-use crate::containment::first_cyclic_instance;
-use crate::fault::ResolveFault;
-use crate::first::first_fault;
-use crate::misshapen::{Sort, first_misshapen};
-use crate::scope::Scope;
-use crate::shapes::shapes;
-use crate::written::written_types;
 use std::alloc::Global;
 use std::test::Fail;
 use til_lexer::lex;
 use til_parser::parse;
-use tydi_base::Place;
+use til_resolve::{ResolveFault, resolve};
 
-// Texts, and the first of their faults, with the offset of its place.
-const FAULTY: [(&str, Option<(u8, u32)>); 44] = [
+// Texts, and the fault of each, if it has one: its number, and the offset of its place.
+const FAULTY: [(&str, Option<(u8, u32)>); 51] = [
     // A second declaration of one name, whatever its kind, also where its namespace is opened again.
     (
         "namespace a { type b = Null; type b = Null; }",
@@ -53,7 +46,7 @@ const FAULTY: [(&str, Option<(u8, u32)>); 44] = [
     ),
     (
         "namespace a { streamlet t = (); streamlet s = (p: in Null); impl i of s = { P = t; X = t; x = t; }; }",
-        None,
+        Some((7, 47)),
     ),
     // A second implementation, at its own name.
     (
@@ -92,7 +85,7 @@ const FAULTY: [(&str, Option<(u8, u32)>); 44] = [
     ),
     (
         "namespace a { streamlet s = (p: in Null); test t of s drive p = \"\" plan \"\"; }",
-        None,
+        Some((7, 29)),
     ),
     (
         "namespace a { test t of s drive p = \"\" plan \"\"; streamlet s = n; }",
@@ -172,10 +165,40 @@ const FAULTY: [(&str, Option<(u8, u32)>); 44] = [
         "namespace a { type b = c; type c = d; type d = Bits(1); }",
         None,
     ),
+    // A port whose type is no Stream: the first, be it in an interface, and by a name.
+    (
+        "namespace a { streamlet s = (p: in Stream(data: Null), q: out Null, r: in Null); }",
+        Some((7, 55)),
+    ),
+    (
+        "namespace a { type b = Group(x: Stream(data: Null)); interface i = (p: in b); streamlet s = i; }",
+        Some((7, 68)),
+    ),
+    (
+        "namespace a { type c = Stream(data: Null); type b = c; interface i = (p: in b, q: in a::c); }",
+        None,
+    ),
+    // Streamlets that contain themselves: at once, through another, and not those that only lead to one.
+    (
+        "namespace a { streamlet s = (); impl i of s = { x = s; }; }",
+        Some((8, 42)),
+    ),
+    (
+        "namespace a { streamlet s = (); streamlet t = (); impl i of s = { x = t; }; impl j of t = { x = s; }; }",
+        Some((8, 60)),
+    ),
+    (
+        "namespace a { streamlet s = (); streamlet t = (); impl i of s = { x = t; }; impl j of a::t = { x = t; }; }",
+        Some((8, 86)),
+    ),
+    (
+        "namespace a { streamlet s = (); streamlet t = (); impl i of s = { x = t; y = t; }; impl j of t = \"\"; }",
+        None,
+    ),
 ];
 
 // Each type holds the one before twice: 49,151 nodes.
-const TOWER_14: &str =
+pub const TOWER_14: &str =
     "namespace t { type a0 = Group(x: Null); type a1 = Group(x: a0, y: a0); type a2 = Group(x: a1, y: a1); \
      type a3 = Group(x: a2, y: a2); type a4 = Group(x: a3, y: a3); type a5 = Group(x: a4, y: a4); \
      type a6 = Group(x: a5, y: a5); type a7 = Group(x: a6, y: a6); type a8 = Group(x: a7, y: a7); \
@@ -245,47 +268,6 @@ const NESTED_65: &str =
      type a60 = Group(x: a59); type a61 = Group(x: a60); type a62 = Group(x: a61); type a63 = Group(x: a62); \
      type a64 = Group(x: a63); }";
 
-// Texts, the offset of the first port whose type is no Stream, and of the first `impl` whose streamlet contains itself.
-const LATER: [(&str, Option<u32>, Option<u32>); 7] = [
-    // A port whose type is no Stream: the first, be it in an interface, and by a name.
-    (
-        "namespace a { streamlet s = (p: in Stream(data: Null), q: out Null, r: in Null); }",
-        Some(55),
-        None,
-    ),
-    (
-        "namespace a { type b = Group(x: Stream(data: Null)); interface i = (p: in b); streamlet s = i; }",
-        Some(68),
-        None,
-    ),
-    (
-        "namespace a { type c = Stream(data: Null); type b = c; interface i = (p: in b, q: in a::c); }",
-        None,
-        None,
-    ),
-    // Streamlets that contain themselves: at once, through another, and not those that only lead to one.
-    (
-        "namespace a { streamlet s = (); impl i of s = { x = s; }; }",
-        None,
-        Some(42),
-    ),
-    (
-        "namespace a { streamlet s = (); streamlet t = (); impl i of s = { x = t; }; impl j of t = { x = s; }; }",
-        None,
-        Some(60),
-    ),
-    (
-        "namespace a { streamlet s = (); streamlet t = (); impl i of s = { x = t; }; impl j of a::t = { x = t; }; }",
-        None,
-        Some(86),
-    ),
-    (
-        "namespace a { streamlet s = (); streamlet t = (); impl i of s = { x = t; y = t; }; impl j of t = \"\"; }",
-        None,
-        None,
-    ),
-];
-
 // The number of a fault, and the offset of its place.
 fn number_of(fault: ResolveFault) -> (u8, u32) {
     match fault {
@@ -301,53 +283,20 @@ fn number_of(fault: ResolveFault) -> (u8, u32) {
     }
 }
 
-fn first_of(alloc: Global, text: &str) -> Result<Option<(u8, u32)>, Fail> {
+// The fault of a text, if it has one.
+fn fault_of(alloc: Global, text: &str) -> Result<Option<(u8, u32)>, Fail> {
     if text.len() > 1_000_000 {
         return Ok(None);
     }
     let tokens = lex(alloc, text)?;
     let ast = parse(alloc, text, tokens.as_slice())?;
-    let scope = Scope::new(alloc, &ast)?;
-    let found = first_fault(alloc, &scope)?;
-    Ok(found.map(number_of))
-}
-
-// The offsets of the first port whose type is no Stream, and of the first `impl` whose streamlet contains itself.
-fn later_of(alloc: Global, text: &str) -> Result<(Option<u32>, Option<u32>), Fail> {
-    if text.len() > 1_000_000 {
-        return Ok((None, None));
-    }
-    let tokens = lex(alloc, text)?;
-    let ast = parse(alloc, text, tokens.as_slice())?;
-    let scope = Scope::new(alloc, &ast)?;
-    let table = shapes(alloc, &scope)?;
-    let written = written_types(alloc, &scope)?;
-    let port = first_misshapen(
-        &scope,
-        written.as_slice(),
-        table.as_slice(),
-        Sort::PortNotStream,
-    );
-    let instance = first_cyclic_instance(alloc, &scope)?;
-    Ok((port.map(offset_of), instance.map(offset_of)))
-}
-
-fn offset_of(place: Place) -> u32 {
-    place.offset
+    Ok(resolve(alloc, &ast).err().map(number_of))
 }
 
 #[test]
-fn later_faults(rt: HostRuntime) -> Result<(), Fail> {
-    for (text, port, instance) in LATER {
-        assert_eq!(rt; later_of(rt.alloc(), text)?, (port, instance), "{text}");
-    }
-    Ok(())
-}
-
-#[test]
-fn faults(rt: HostRuntime) -> Result<(), Fail> {
-    for (text, fault) in FAULTY {
-        assert_eq!(rt; first_of(rt.alloc(), text)?, fault, "{text}");
+fn faults_are_told(rt: HostRuntime) -> Result<(), Fail> {
+    for (text, want) in FAULTY {
+        assert_eq!(rt; fault_of(rt.alloc(), text)?, want, "{text}");
     }
     Ok(())
 }

@@ -1,0 +1,132 @@
+//! Projects that trees stand for, by hand, as short texts.
+
+use crate::faults::TOWER_14;
+use std::alloc::Global;
+use std::test::Fail;
+use til_lexer::lex;
+use til_parser::parse;
+use til_resolve::{Impl, Instance, Link, LinkEnd, Project, Streamlet, resolve};
+use tydi_base::{Colons, List, Memory, emit};
+
+const VIDEO: &str = "namespace video {
+  type rgb = Group(r: Bits(8), g: Bits(8), b: Bits(8));
+  type frames = Stream(data: rgb, throughput: 2.0,
+    dimensionality: 2, complexity: 4);
+  streamlet invert = (a: in frames, b: out frames);
+  streamlet top = (a: in frames, b: out frames);
+  impl wiring of top = { i = invert; a -- i.a; i.b -- b; };
+  test two of top drive a =
+    \"root - = [[{r: 1, g: 2, b: 3}, {r: 4, g: 5, b: 6},
+     {r: 7, g: 8, b: 9}]] [];\" plan \"tydi-plan 1
+cycles 3
+\";
+}";
+
+// Texts, and the projects that they stand for: each port with the dimensions of its Stream.
+const PROJECTS: [(&str, &str); 5] = [
+    (
+        VIDEO,
+        "video::invert(a in 2, b out 2, ); video::top(a in 2, b out 2, ) at 282 {i = 0; a -- i.a at 302; i.b -- b at 312; }; test video::two 1 a; ",
+    ),
+    // The ports of an interface are written in its own namespace; a namespace that is opened again is one.
+    (
+        "namespace a { streamlet s = b::i; } namespace b { type t = Stream(data: Null); interface i = (p: out t); } \
+         namespace a { impl j of s = \"here\"; streamlet r = (); impl k of r = { x = s; }; }",
+        "a::s(p out 0, ) here; a::r() at 171 {x = 0; }; ",
+    ),
+    // A type by a name, and by a name of that name.
+    (
+        "namespace a { type t = u; type u = Stream(data: Null, dimensionality: 3); streamlet s = (p: in t, q: in u, r: in Stream(data: u)); }",
+        "a::s(p in 3, q in 3, r in 0, ); ",
+    ),
+    ("namespace a { }", ""),
+    (TOWER_14, ""),
+];
+
+fn write_project(project: &Project, text: &mut List<u8>) -> Result<(), Memory> {
+    'streamlets: for streamlet in project.streamlets.as_slice() {
+        write_streamlet(streamlet, text)?;
+    }
+    'tests: for test in project.tests.as_slice() {
+        emit!(text; "test ", Colons(&test.path), " ", test.streamlet, " ", &test.port, "; ")?;
+    }
+    Ok(())
+}
+
+fn write_streamlet(streamlet: &Streamlet, text: &mut List<u8>) -> Result<(), Memory> {
+    emit!(text; Colons(&streamlet.path), "(")?;
+    'ports: for port in streamlet.ports.as_slice() {
+        emit!(text; &port.name, way(port.inward), port.ltype.dims, ", ")?;
+    }
+    emit!(text; ")")?;
+    write_body(&streamlet.body, text)?;
+    emit!(text; "; ")
+}
+
+fn way(inward: bool) -> &'static str {
+    if inward { " in " } else { " out " }
+}
+
+fn write_body(body: &Option<Impl>, text: &mut List<u8>) -> Result<(), Memory> {
+    match body {
+        None => Ok(()),
+        Some(Impl::Linked(elsewhere)) => emit!(text; " ", elsewhere),
+        Some(
+            Impl::Structural {
+                place,
+                instances,
+                links,
+            },
+        ) => {
+            emit!(text; " at ", place.offset, " {")?;
+            write_instances(instances.as_slice(), text)?;
+            write_links(links.as_slice(), text)?;
+            emit!(text; "}")
+        }
+    }
+}
+
+fn write_instances(instances: &[Instance], text: &mut List<u8>) -> Result<(), Memory> {
+    'instances: for instance in instances {
+        emit!(text; &instance.name, " = ", instance.streamlet, "; ")?;
+    }
+    Ok(())
+}
+
+fn write_links(links: &[Link], text: &mut List<u8>) -> Result<(), Memory> {
+    'links: for link in links {
+        write_end(&link.first, text)?;
+        emit!(text; " -- ")?;
+        write_end(&link.second, text)?;
+        emit!(text; " at ", link.place.offset, "; ")?;
+    }
+    Ok(())
+}
+
+fn write_end(end: &LinkEnd, text: &mut List<u8>) -> Result<(), Memory> {
+    if let Some(instance) = &end.instance {
+        emit!(text; instance, ".")?;
+    }
+    emit!(text; &end.port)
+}
+
+// Whether a text stands for a project with this short text.
+fn is_shown(alloc: Global, text: &str, want: &str) -> Result<bool, Fail> {
+    if text.len() > 1_000_000 {
+        return Ok(false);
+    }
+    let tokens = lex(alloc, text)?;
+    let ast = parse(alloc, text, tokens.as_slice())?;
+    let project = resolve(alloc, &ast)?;
+    let mut shown = List::new(alloc);
+    write_project(&project, &mut shown)?;
+    Ok(shown.as_slice() == want.as_bytes())
+}
+
+#[test]
+fn projects_are_made(rt: HostRuntime) -> Result<(), Fail> {
+    for (text, want) in PROJECTS {
+        assert!(rt; is_shown(rt.alloc(), text, want)?, "{text}");
+    }
+    Ok(())
+}
