@@ -119,6 +119,8 @@ impl RowForm {
 }
 
 /// Why this line, of this number, is no row of its stream.
+#[cold]
+#[inline(never)]
 pub(crate) fn row_fault(number: u64, line: &[u8]) -> TraceFault
     ensures { result ≡ spec.row_fault number line.now }
 {

@@ -28,6 +28,7 @@ impl<'a> WordsLeft<'a> {
     }
 
     /// The first word, and the words after it. None exactly where no word is left.
+    #[cold]
     #[inline(never)]
     pub(crate) fn next_word(self) -> Option<(&'a [u8], WordsLeft<'a>)>
         ensures { MatchOption result (words_left self.entry ≡ []) (λ x. words_left self.entry ≡ x.0.now ∷ words_left x.1) }
