@@ -1,5 +1,5 @@
 -- The graph of streamlets says which streamlet contains which.
-use Rattle.std.proofs.Common.{◌≡◌, ℕ, zero, suc, ◌+◌, ◌<◌, ◌≤◌, ◌⊎◌, inl, inr, Bool, true, false, cond, eqb, List, [], ◌∷◌, ◌++◌, length, get_or, map, take, Option, Some, None, Contains, refl, sym, ap, subst, ◌∙◌, arith}
+use Rattle.std.proofs.Common.{◌≡◌, ℕ, zero, suc, ◌+◌, ◌<◌, ◌≤◌, ◌⊎◌, inl, inr, Bool, true, false, cond, List, [], ◌∷◌, ◌++◌, length, get_or, map, take, Option, Some, None, Contains, refl, sym, ap, subst, ◌∙◌, arith}
 use Rattle.std.specs.List.{filter_map}
 use Rattle.std.proofs.lemmas.Bool.{cases_lt, eqb-true, eq-eqb}
 use Rattle.std.proofs.lemmas.List.{take_more, map-append}
@@ -11,7 +11,7 @@ use Rattle.til_parser.specs.declared.tree.AstPath.{AstPath}
 use Rattle.til_parser.specs.declared.tree.AstStmt.{AstStmt}
 use Rattle.til_resolve.specs.Cycles.{LeadsTo, ContainsStreamlet, paths_of_instances}
 use Rattle.til_resolve.specs.Declarations.{Declaration, declaration, named_as, before, is_streamlet}
-use Rattle.til_resolve.specs.Graph.{targets_of, Leads, AreNumbers, kinds_named, streamlets_inside, put_inside, HasInside}
+use Rattle.til_resolve.specs.Graph.{Leads, AreNumbers, kinds_named, streamlets_inside, put_inside, HasInside}
 use Rattle.til_resolve.specs.Names.{WrittenInstance, instance_at, implements, is_number, is_impl_of}
 use Rattle.til_resolve.proofs.EarliestLemmas.{Contains-nil}
 use Rattle.til_resolve.proofs.TypeGraphLemmas.{named-by, names-in, named-within, past, ByWay-map}

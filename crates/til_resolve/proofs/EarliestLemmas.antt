@@ -6,7 +6,7 @@ use Rattle.std.proofs.lemmas.List.{take_more, take_all}
 use Rattle.std.proofs.lemmas.List.Elements.{Contains-append_left, Contains-append_right, Contains-append_cases, Contains-push, Contains-push_cases}
 use Rattle.std.proofs.lemmas.Grind.{flat_map-append}
 use Rattle.tydi_base.specs.declared.place.Place.{Place}
-use Rattle.til_resolve.specs.Earliest.{IsFirst, IsEarliest, earlier}
+use Rattle.til_resolve.specs.Earliest.{IsEarliest, earlier}
 
 -- no place stands in the empty list
 pub Contains-nil : {A : Type 0} (x : A) → ¬ Contains [] x

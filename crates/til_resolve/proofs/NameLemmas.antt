@@ -1,5 +1,5 @@
 -- Refused paths: of lists one after another, of parts, of ports, of types.
-use Rattle.std.proofs.Common.{◌≡◌, ℕ, ◌+◌, ◌<◌, Bool, List, [], ◌∷◌, ◌++◌, length, map, filter, take, get_or, Option, Contains, refl, sym, ap, subst, ◌∙◌}
+use Rattle.std.proofs.Common.{◌≡◌, ℕ, ◌+◌, ◌<◌, List, [], ◌∷◌, ◌++◌, length, map, filter, take, get_or, Option, Contains, refl, sym, ap, subst, ◌∙◌}
 use Rattle.std.specs.List.{flat_map, filter_map}
 use Rattle.std.proofs.lemmas.Grind.{flat_map-append}
 use Rattle.std.proofs.lemmas.List.{take_more, map-append}
@@ -15,7 +15,7 @@ use Rattle.til_resolve.specs.declared.names.Sought.{Sought}
 use Rattle.til_resolve.specs.Declarations.{Declaration, place_of}
 use Rattle.til_resolve.specs.Earliest.{IsEarliest, earlier}
 use Rattle.til_resolve.specs.Kinds.{asks}
-use Rattle.til_resolve.specs.Names.{Use, WrittenInstance, asking, paths_in, paths_in_parts, instance_at}
+use Rattle.til_resolve.specs.Names.{Use, WrittenInstance, paths_in, paths_in_parts, instance_at}
 use Rattle.til_resolve.specs.Sought.{is_refused, refused_of, paths_in_list}
 use Rattle.til_resolve.proofs.EarliestLemmas.{IsEarliest-append, IsEarliest-at}
 use Rattle.til_resolve.proofs.AgainLemmas.{append_nil}

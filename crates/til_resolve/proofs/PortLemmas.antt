@@ -1,6 +1,5 @@
 -- The ports of a streamlet are those of the declaration that writes them.
-use Rattle.std.proofs.Common.{◌≡◌, ℕ, ◌<◌, nat_lt, Bool, true, ◌&&◌, ◌||◌, List, [], ◌∷◌, length, map, Option, Some, None, refl, sym, ap, ◌∙◌}
-use Rattle.std.specs.List.{list_any}
+use Rattle.std.proofs.Common.{◌≡◌, ℕ, ◌<◌, nat_lt, ◌&&◌, ◌||◌, List, [], ◌∷◌, length, map, Option, Some, refl, ap, ◌∙◌}
 use Rattle.std.specs.Str.{bytes_eq}
 use Rattle.std.proofs.lemmas.Bool.{lt-ltb}
 use Rattle.til_parser.specs.declared.tree.AstKind.{AstKind}
@@ -8,7 +7,7 @@ use Rattle.til_parser.specs.declared.tree.AstKind.TheVariants as decls
 use Rattle.til_parser.specs.declared.tree.AstName.{AstName}
 use Rattle.til_parser.specs.declared.tree.AstPort.{AstPort}
 use Rattle.til_parser.specs.declared.tree.AstPorts.TheVariants as ports
-use Rattle.til_resolve.specs.Declarations.{Declaration, declaration, own_ports, PortOf, ports_in, ports_of, ports_of_number}
+use Rattle.til_resolve.specs.Declarations.{Declaration, declaration, own_ports, ports_of, ports_of_number}
 use Rattle.til_resolve.specs.Names.{has_port}
 use Rattle.til_resolve.specs.Ports.{is_port_name, owner_by, owner_of}
 

@@ -1,5 +1,5 @@
 -- What ranks show of a graph.
-use Rattle.std.proofs.Common.{◌≡◌, ℕ, ◌<◌, ◌≤◌, List, [], ◌∷◌, length, get_or, Contains, refl, sym, ap, subst, ◌∙◌, arith}
+use Rattle.std.proofs.Common.{◌≡◌, ℕ, ◌<◌, ◌≤◌, List, [], ◌∷◌, length, get_or, Contains, sym, subst, arith}
 use Rattle.std.proofs.lemmas.List.{get_or_read}
 use Rattle.til_resolve.specs.Cycles.{ByWay, LeadsTo}
 use Rattle.til_resolve.specs.Graph.{targets_of, Leads, Falls, NeverRises, rank_of}

@@ -1,5 +1,5 @@
 -- The types that were built: none yet, and one more.
-use Rattle.std.proofs.Common.{◌≡◌, ◌≢◌, ℕ, suc, ◌<◌, ◌≤◌, ◌⊎◌, inl, inr, List, length, get_or, Option, Some, None, IfSome, refl, sym, ap, subst, ◌∙◌, arith}
+use Rattle.std.proofs.Common.{◌≡◌, ℕ, suc, ◌≤◌, List, length, get_or, None, IfSome, sym, subst, arith}
 use Rattle.logical_types.specs.Tree.{plain_of_stream}
 use Rattle.til_resolve.specs.declared.port_types.PortTypes.{PortTypes}
 use Rattle.til_resolve.specs.SharedTypes.{AreBuilt}

@@ -3,14 +3,14 @@ use Rattle.std.proofs.Common.{◌≡◌, ℕ, zero, suc, ◌+◌, ◌<◌, ◌�
 use Rattle.std.specs.List.{flat_map, filter_map}
 use Rattle.std.proofs.lemmas.Bool.{cases_lt}
 use Rattle.std.proofs.lemmas.Grind.{flat_map-append}
-use Rattle.std.proofs.lemmas.List.{take_more, get_or_read}
+use Rattle.std.proofs.lemmas.List.{take_more}
 use Rattle.std.proofs.lemmas.List.Elements.{Contains-append_left, Contains-append_right, Contains-append_cases, Contains-push, filter_map-append}
 use Rattle.til_parser.specs.declared.ltype.AstPart.{AstPart}
 use Rattle.til_parser.specs.declared.tree.AstPath.{AstPath}
 use Rattle.til_parser.specs.Tree.{plain}
 use Rattle.til_resolve.specs.Cycles.{ByWay, LeadsTo, NamesType, IsCyclicType, paths_of_alias}
-use Rattle.til_resolve.specs.Declarations.{Declaration, declaration, named, named_as, first_of_path, meant, before, is_type, path_of, kept_as}
-use Rattle.til_resolve.specs.Graph.{targets_of, Leads, AreNumbers, Falls, NeverRises, rank_of, types_named, types_at, type_graph}
+use Rattle.til_resolve.specs.Declarations.{Declaration, declaration, named, named_as, meant, before, is_type, path_of, kept_as}
+use Rattle.til_resolve.specs.Graph.{Leads, AreNumbers, types_named, types_at, type_graph}
 use Rattle.til_resolve.specs.Names.{paths_in}
 use Rattle.til_resolve.specs.Sought.{paths_in_list}
 use Rattle.til_resolve.proofs.EarliestLemmas.{Contains-nil, Contains-one}

@@ -1,5 +1,5 @@
 -- Ports by the numbers of the declarations that write them. It serves the look-ups, and no public clause.
-use Rattle.std.specs.Prelude.{◌≡◌, ℕ, nat_eq, nat_lt, Bool, ◌&&◌, List, Option, Some, None}
+use Rattle.std.specs.Prelude.{◌≡◌, ℕ, nat_lt, Bool, ◌&&◌, List, Option, Some, None}
 use Rattle.std.specs.List.{list_any}
 use Rattle.std.specs.Str.{bytes_eq}
 use Rattle.til_parser.specs.declared.tree.AstKind.{AstKind}

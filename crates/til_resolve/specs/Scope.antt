@@ -1,5 +1,5 @@
 -- Declarations with the numbers by which they are looked up. It serves the look-ups, and no public clause.
-use Rattle.std.specs.Prelude.{◌≡◌, ℕ, ◌<◌, nat_eq, Bool, ◌&&◌, List, [], ◌∷◌, map, length, position, Option, Some, All}
+use Rattle.std.specs.Prelude.{◌≡◌, ℕ, nat_eq, Bool, ◌&&◌, List, [], ◌∷◌, map, position, Option, Some, All}
 use Rattle.std.specs.Borrow.{Bor}
 use Rattle.std.specs.Str.{bytes_eq}
 use Rattle.til_parser.specs.declared.tree.AstName.{AstName}

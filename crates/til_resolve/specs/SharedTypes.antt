@@ -1,5 +1,5 @@
 -- The types of ports, those by a name built once for each. It serves the making, and no public clause.
-use Rattle.std.specs.Prelude.{◌≡◌, ℕ, suc, ◌<◌, List, length, slice_index_or, Option, None, IfSome}
+use Rattle.std.specs.Prelude.{◌≡◌, ℕ, suc, ◌<◌, List, length, slice_index_or, None, IfSome}
 use Rattle.logical_types.specs.Tree.{plain_of_stream}
 use Rattle.til_resolve.specs.Chains.{AreChains}
 use Rattle.til_resolve.specs.Declarations.{Declaration}

@@ -4,7 +4,6 @@ use Rattle.std.specs.List.{flat_map}
 use Rattle.tydi_base.specs.declared.place.Place.{Place}
 use Rattle.til_parser.specs.declared.ltype.AstPart.{AstPart}
 use Rattle.til_parser.specs.declared.tree.AstPath.{AstPath}
-use Rattle.til_parser.specs.declared.tree.AstPort.{AstPort}
 use Rattle.til_parser.specs.Tree.{plain}
 use Rattle.til_resolve.specs.declared.names.Sought.{Sought}
 use Rattle.til_resolve.specs.declared.names.Sought.TheVariants as sought
@@ -13,7 +12,7 @@ use Rattle.til_resolve.specs.declared.fault.ResolveFault.{ResolveFault}
 use Rattle.til_resolve.specs.declared.fault.ResolveFault.TheVariants as faults
 use Rattle.til_resolve.specs.Declarations.{Declaration, declaration, before}
 use Rattle.til_resolve.specs.Kinds.{asks}
-use Rattle.til_resolve.specs.Names.{Use, asking, paths_in, paths_in_ports, uses_in, is_unknown, is_wrong_kind, port_unknown, refused}
+use Rattle.til_resolve.specs.Names.{Use, asking, paths_in, uses_in, is_unknown, is_wrong_kind, port_unknown, refused}
 
 -- a path is refused for what is sought
 abbrev pub is_refused : Sought → List Declaration → Use → Bool

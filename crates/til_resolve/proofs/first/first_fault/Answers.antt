@@ -1,4 +1,4 @@
-use Rattle.std.proofs.Common.{None, subst, sym}
+use Rattle.std.proofs.Common.{subst}
 use Rattle.til_resolve.specs.Faults.{IsToldUpTo}
 use Rattle.til_resolve.specs.Scope.{declarations_of}
 use Rattle.til_resolve.proofs.FirstLemmas.{told-further}

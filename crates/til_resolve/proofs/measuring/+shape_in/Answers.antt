@@ -2,7 +2,6 @@ use Rattle.std.proofs.Common.{ap, sym, ◌∙◌, false, true}
 use Rattle.til_parser.specs.declared.ltype.AstType.{AstType}
 use Rattle.til_parser.specs.declared.ltype.AstType.TheVariants as types
 use Rattle.til_parser.specs.declared.ltype.AstStream.{AstStream}
-use Rattle.til_parser.specs.Tree as tree
 use Rattle.til_parser.specs.Tree.{plain}
 use Rattle.til_parser.proofs.PlainLemmas.{plain-Group, plain-Union, plain-Stream, plain-Path}
 use Rattle.til_resolve.specs.Declarations.{declaration}
