@@ -3,6 +3,9 @@ use Rattle.std.proofs.Common.{◌≡◌, ℕ, max, List, [], ◌∷◌, All, len
 use Rattle.std.proofs.lemmas.List.Elements.{All-nil, All-cons, All-head, All-tail}
 use Rattle.std.specs.Str.{IsUtf8}
 use Rattle.til_lexer.proofs.FormLemmas.{tokens-have_form}
+use Rattle.til_lexer.proofs.SliceLemmas.{token-stands, tokens_of-are}
+use Rattle.til_lexer.specs.Places.{IsPlaceIn}
+use Rattle.til_lexer.specs.Slices.{IsTokenOf}
 use Rattle.til_lexer.specs.Tokens.{tokens_of}
 use Rattle.til_lexer.specs.declared.token.Token.{Token}
 use Rattle.til_parser.specs.declared.fault.ParseFault.{ParseFault}
@@ -16,17 +19,21 @@ use Rattle.til_parser.proofs.LevelLemmas.{IsWithin-more, IsWithin-some}
 use Rattle.til_parser.proofs.rules.ParseLemmas.{project_complete, tree_or_fault, named}
 use Rattle.tydi_reading.specs.Reading.{Outcome, took}
 
--- tokens of a text with their form are lexemes with their form
-AreFormed-lexemes : (text : List ℕ) (tokens : List Token) → All (HasFormIn text) tokens → All IsFormed (lexemes_of text tokens)
-AreFormed-lexemes text [] formed = All-nil IsFormed
-AreFormed-lexemes text (token ∷ tokens) formed =
-    All-cons IsFormed (lexeme_of text token) (lexemes_of text tokens)
-    (All-head (HasFormIn text) token tokens formed)
-    (AreFormed-lexemes text tokens (All-tail (HasFormIn text) token tokens formed))
+-- what holds of each token of a text holds of it as a lexeme
+All-lexemes : (text : List ℕ) (P : Token → Type 0) (Q : Lexeme → Type 0) → ((token : Token) → P token → Q (lexeme_of text token)) → (tokens : List Token)
+    → All P tokens → All Q (lexemes_of text tokens)
+All-lexemes text P Q to [] each = All-nil Q
+All-lexemes text P Q to (token ∷ tokens) each =
+    All-cons Q (lexeme_of text token) (lexemes_of text tokens) (to token (All-head P token tokens each)) (All-lexemes text P Q to tokens (All-tail P token tokens each))
 
 -- the tokens of a text have their form
 pub formed_of : (text : List ℕ) (tokens : List Token) → IsUtf8 text → tokens_of text ≡ Ok tokens → All IsFormed (lexemes_of text tokens)
-formed_of text tokens utf8 lexed = AreFormed-lexemes text tokens (tokens-have_form text tokens utf8 lexed)
+formed_of text tokens utf8 lexed = All-lexemes text (HasFormIn text) IsFormed (λ token is. is) tokens (tokens-have_form text tokens utf8 lexed)
+
+-- each stands at its place in the text
+pub placed_of : (text : List ℕ) (tokens : List Token) → IsUtf8 text → tokens_of text ≡ Ok tokens → All (λ (lexeme : Lexeme). IsPlaceIn text lexeme.place) (lexemes_of text tokens)
+placed_of text tokens utf8 lexed =
+    All-lexemes text (IsTokenOf text) (λ lexeme. IsPlaceIn text lexeme.place) (λ token is. token-stands text token is) tokens (tokens_of-are text tokens utf8 lexed)
 
 -- tokens with their form spell one tree at most
 spelled_apart : (ts : List Lexeme) (one other : Ast) → All IsFormed ts → Spells one ts → Spells other ts → one ≡ other

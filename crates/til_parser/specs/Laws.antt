@@ -1,14 +1,16 @@
 -- What holds of trees and their texts.
 use Rattle.std.specs.Prelude.{◌≡◌, ◌<◌, ◌^◌, ℕ, List, length, Ok}
 use Rattle.std.specs.Str.{IsUtf8}
+use Rattle.tydi_reading.specs.Lists.{EachIs}
 use Rattle.til_lexer.specs.declared.token.Token.{Token}
+use Rattle.til_lexer.specs.Places.{IsPlaceIn}
 use Rattle.til_lexer.specs.Tokens.{tokens_of}
 use Rattle.til_parser.specs.declared.tree.Ast.{Ast}
 use Rattle.til_parser.specs.Canonical.{canonical}
 use Rattle.til_parser.specs.Grammar.{Spells, IsWithin, most_levels}
 use Rattle.til_parser.specs.Lexemes.{lexemes_of}
 use Rattle.til_parser.specs.Same.{SameTree}
-use Rattle.til_parser.specs.Trees.{IsSpellable, IsTree}
+use Rattle.til_parser.specs.Trees.{IsSpellable, IsTree, NamespaceWith}
 
 -- a text spells a tree
 pub record IsTreeOf (text : List ℕ) (ast : Ast) : Type 0 where
@@ -30,6 +32,14 @@ pub record HasItsForm (text : List ℕ) (ast : Ast) : Type 0 where
 -- each tree of a text has
 abbrev pub TreesHaveTheirForm : Type 0
 TreesHaveTheirForm = (text : List ℕ) (ast : Ast) → IsTreeOf text ast → HasItsForm text ast
+
+-- each name of a tree stands at its place in a text
+abbrev pub NamesStand : List ℕ → Ast → Type 0
+NamesStand text ast = EachIs (NamespaceWith (λ name. IsPlaceIn text name.place)) ast.namespaces
+
+-- so do the names of each tree of a text
+abbrev pub TreesHaveTheirPlaces : Type 0
+TreesHaveTheirPlaces = (text : List ℕ) (ast : Ast) → IsTreeOf text ast → NamesStand text ast
 
 -- trees that are the same, places aside, have one canonical text; if the one is spellable, so is the other, and its types nest as deep
 pub record AreAlike (one other : Ast) : Type 0 where

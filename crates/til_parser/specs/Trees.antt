@@ -1,4 +1,5 @@
--- Which trees texts spell, their places aside: a condition on the tree alone. This project's own.
+-- Which trees texts spell, their places aside: a condition on the tree alone. What is asked of names is left open, so that it serves
+-- for their places too. This project's own.
 use Rattle.std.specs.Prelude.{◌<◌, ◌+◌, ◌^◌, ℕ, List, [], ◌∷◌, length, Option, Some, None, IsTrue}
 use Rattle.std.specs.Str.{IsUtf8}
 use Rattle.tydi_base.specs.Frac.{Fraction, IsReduced}
@@ -32,10 +33,13 @@ use Rattle.til_parser.specs.Tree.{Ltype, null, bits, group, union, stream, path,
 abbrev pub HasName : AstName → Type 0
 HasName name = IsTrue (is_name name.name)
 
--- names, one at least
-pub record IsPath (names : List AstName) : Type 0 where
+-- such names, one at least
+pub record PathWith (Named : AstName → Type 0) (names : List AstName) : Type 0 where
   pub some : 0 < length names
-  pub each : EachIs HasName names
+  pub each : EachIs Named names
+
+abbrev pub IsPath : List AstName → Type 0
+IsPath = PathWith HasName
 
 -- a text that may stand between two such marks: UTF-8, without such a mark
 pub record FitsBetween (mark : ℕ) (text : List ℕ) : Type 0 where
@@ -74,62 +78,95 @@ pub record AreSettings (settings : Settings) : Type 0 where
   pub level : IsLevel settings.level
 
 abbrev mutual
-  pub IsType : Ltype → Type 0
-  IsType null = Unit {0}
-  IsType (bits width) = IsShort width
-  IsType (group parts) = AreParts parts
-  IsType (union parts) = AreParts parts
-  IsType (stream element user settings) = IsType element × IsType user × AreSettings settings
-  IsType (path names) = IsPath names
+  pub TypeWith : (AstName → Type 0) → Ltype → Type 0
+  TypeWith Named null = Unit {0}
+  TypeWith Named (bits width) = IsShort width
+  TypeWith Named (group parts) = PartsWith Named parts
+  TypeWith Named (union parts) = PartsWith Named parts
+  TypeWith Named (stream element user settings) = TypeWith Named element × TypeWith Named user × AreSettings settings
+  TypeWith Named (path names) = PathWith Named names
 
-  pub AreParts : Parts → Type 0
-  AreParts no_parts = Unit {0}
-  AreParts (part name ltype more) = HasName name × IsType ltype × AreParts more
+  pub PartsWith : (AstName → Type 0) → Parts → Type 0
+  PartsWith Named no_parts = Unit {0}
+  PartsWith Named (part name ltype more) = Named name × TypeWith Named ltype × PartsWith Named more
+
+abbrev pub IsType : Ltype → Type 0
+IsType = TypeWith HasName
+
+abbrev pub AreParts : Parts → Type 0
+AreParts = PartsWith HasName
 
 -- ---- ports and bodies
 
-pub record IsPort (port : AstPort) : Type 0 where
+pub record PortWith (Named : AstName → Type 0) (port : AstPort) : Type 0 where
   pub doc : IsDoc port.doc
-  pub name : HasName port.name
-  pub ltype : IsType (plain port.ltype)
+  pub name : Named port.name
+  pub ltype : TypeWith Named (plain port.ltype)
+
+abbrev pub IsPort : AstPort → Type 0
+IsPort = PortWith HasName
+
+abbrev pub SecondWith : (AstName → Type 0) → Option AstName → Type 0
+SecondWith Named None = Unit {0}
+SecondWith Named (Some name) = Named name
 
 abbrev pub IsSecond : Option AstName → Type 0
-IsSecond None = Unit {0}
-IsSecond (Some name) = HasName name
+IsSecond = SecondWith HasName
+
+abbrev pub EndWith : (AstName → Type 0) → AstEnd → Type 0
+EndWith Named end = Named end.first × SecondWith Named end.second
 
 abbrev pub IsEnd : AstEnd → Type 0
-IsEnd end = HasName end.first × IsSecond end.second
+IsEnd = EndWith HasName
+
+abbrev pub StmtWith : (AstName → Type 0) → AstStmt → Type 0
+StmtWith Named (stmts.Instance name streamlet) = Named name × PathWith Named streamlet.names
+StmtWith Named (stmts.Link first second) = EndWith Named first × EndWith Named second
 
 abbrev pub IsStmt : AstStmt → Type 0
-IsStmt (stmts.Instance name streamlet) = HasName name × IsPath streamlet.names
-IsStmt (stmts.Link first second) = IsEnd first × IsEnd second
+IsStmt = StmtWith HasName
+
+abbrev pub BodyWith : (AstName → Type 0) → AstBody → Type 0
+BodyWith Named (bodies.Linked text) = IsQuote text
+BodyWith Named (bodies.Structural all) = EachIs (StmtWith Named) all
 
 abbrev pub IsBody : AstBody → Type 0
-IsBody (bodies.Linked text) = IsQuote text
-IsBody (bodies.Structural all) = EachIs IsStmt all
+IsBody = BodyWith HasName
 
 -- ---- declarations
 
+abbrev pub StreamletWith : (AstName → Type 0) → AstPorts → Type 0
+StreamletWith Named (ports.Own all) = EachIs (PortWith Named) all
+StreamletWith Named (ports.Named target) = PathWith Named target.names
+
 abbrev pub ArePorts : AstPorts → Type 0
-ArePorts (ports.Own all) = EachIs IsPort all
-ArePorts (ports.Named target) = IsPath target.names
+ArePorts = StreamletWith HasName
+
+abbrev pub KindWith : (AstName → Type 0) → AstKind → Type 0
+KindWith Named (decls.Alias ltype) = TypeWith Named (plain ltype)
+KindWith Named (decls.Interface all) = EachIs (PortWith Named) all
+KindWith Named (decls.Streamlet all) = StreamletWith Named all
+KindWith Named (decls.Impl target body) = PathWith Named target.names × BodyWith Named body
+KindWith Named (decls.Test target port value plan) = PathWith Named target.names × Named port × IsQuote value × IsQuote plan
 
 abbrev pub IsKind : AstKind → Type 0
-IsKind (decls.Alias ltype) = IsType (plain ltype)
-IsKind (decls.Interface all) = EachIs IsPort all
-IsKind (decls.Streamlet all) = ArePorts all
-IsKind (decls.Impl target body) = IsPath target.names × IsBody body
-IsKind (decls.Test target port value plan) = IsPath target.names × HasName port × IsQuote value × IsQuote plan
+IsKind = KindWith HasName
 
-pub record IsDecl (decl : AstDecl) : Type 0 where
+pub record DeclWith (Named : AstName → Type 0) (decl : AstDecl) : Type 0 where
   pub doc : IsDoc decl.doc
-  pub name : HasName decl.name
-  pub kind : IsKind decl.kind
+  pub name : Named decl.name
+  pub kind : KindWith Named decl.kind
 
-pub record IsNamespace (namespace : AstNamespace) : Type 0 where
+abbrev pub IsDecl : AstDecl → Type 0
+IsDecl = DeclWith HasName
+
+pub record NamespaceWith (Named : AstName → Type 0) (namespace : AstNamespace) : Type 0 where
   pub doc : IsDoc namespace.doc
-  pub path : IsPath namespace.path.names
-  pub decls : EachIs IsDecl namespace.decls
+  pub path : PathWith Named namespace.path.names
+  pub decls : EachIs (DeclWith Named) namespace.decls
+
+abbrev pub IsNamespace : AstNamespace → Type 0
+IsNamespace = NamespaceWith HasName
 
 -- ---- projects
 

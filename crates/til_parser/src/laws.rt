@@ -1,7 +1,7 @@
 //! The laws of trees and their texts.
 
 ghost use Rattle.til_parser.specs.Faults.{TreesOrFaults};
-ghost use Rattle.til_parser.specs.Laws.{PlacesAreLeftOut, TreesAreApart, TreesAreReadAsPrinted, TreesHaveTheirForm};
+ghost use Rattle.til_parser.specs.Laws.{PlacesAreLeftOut, TreesAreApart, TreesAreReadAsPrinted, TreesHaveTheirForm, TreesHaveTheirPlaces};
 
 /// The law of trees: no text spells two trees.
 pub fn trees_are_apart()
@@ -16,6 +16,11 @@ pub fn trees_or_faults()
 /// The law of the form of trees: the tree of a text has the form that `IsTree` says of the tree alone.
 pub fn trees_have_their_form()
     ensures { TreesHaveTheirForm }
+{}
+
+/// The law of where names stand: each name of the tree of a text stands at its place in the text, with its line and its column.
+pub fn trees_have_their_places()
+    ensures { TreesHaveTheirPlaces }
 {}
 
 /// The law of places: trees that are the same, places aside, have one canonical text, and are spellable together.

@@ -23,7 +23,7 @@ mod written;
 pub use fault::ParseFault;
 pub use laws::{
     places_are_left_out, trees_are_apart, trees_are_read_as_printed, trees_have_their_form,
-    trees_or_faults,
+    trees_have_their_places, trees_or_faults,
 };
 pub use ltype::{AstPart, AstStream, AstSync, AstType};
 pub use parsing::parse;

@@ -1,20 +1,23 @@
--- The tree of a text: its form, and how many declarations it has at most.
-use Rattle.std.proofs.Common.{◌≡◌, ℕ, ◌≤◌, ◌+◌, List, [], ◌∷◌, length, ap, ◌∙◌, arith}
+-- The tree of a text: its form, its places, and how many declarations it has at most.
+use Rattle.std.proofs.Common.{◌≡◌, ℕ, ◌≤◌, ◌+◌, List, [], ◌∷◌, All, length, ap, ◌∙◌, arith}
 use Rattle.std.proofs.lemmas.List.{length-append}
 use Rattle.tydi_reading.specs.Forms.{◌⋯◌}
-use Rattle.tydi_reading.specs.Lists.{Each}
+use Rattle.tydi_reading.specs.Lists.{Each, EachIs}
+use Rattle.tydi_base.specs.declared.place.Place.{Place}
+use Rattle.til_lexer.specs.Places.{IsPlaceIn}
 use Rattle.til_lexer.proofs.CountLemmas.{tokens_of-few}
 use Rattle.til_parser.specs.declared.tree.Ast.{Ast}
 use Rattle.til_parser.specs.declared.tree.AstDecl.{AstDecl}
+use Rattle.til_parser.specs.declared.tree.AstName.{AstName}
 use Rattle.til_parser.specs.declared.tree.AstNamespace.{AstNamespace}
 use Rattle.til_parser.specs.Grammar.{Form, SpellsDecl, SpellsNamespace}
-use Rattle.til_parser.specs.Laws.{IsTreeOf, TreesHaveTheirForm}
+use Rattle.til_parser.specs.Laws.{IsTreeOf, TreesHaveTheirForm, TreesHaveTheirPlaces}
 use Rattle.til_parser.specs.Lexemes.{Lexeme, lexemes_of}
-use Rattle.til_parser.specs.Trees.{IsNamespace, IsSpellable, number_of_decls}
-use Rattle.til_parser.proofs.LawLemmas.{formed_of}
+use Rattle.til_parser.specs.Trees.{NamespaceWith, IsSpellable, number_of_decls}
+use Rattle.til_parser.proofs.LawLemmas.{formed_of, placed_of}
 use Rattle.til_parser.proofs.LexemeLemmas.{length-lexemes}
 use Rattle.til_parser.proofs.rules.ProjectRules.{decl-filled}
-use Rattle.til_parser.proofs.spelled.SpelledLeaves.{each_of}
+use Rattle.til_parser.proofs.spelled.SpelledLeaves.{IsAt, Shows, each_of, shows_name, shows_place}
 use Rattle.til_parser.proofs.spelled.SpelledTrees.{namespace_of}
 
 -- ---- how many declarations
@@ -44,14 +47,19 @@ namespaces-few (one ∷ all) ts s =
     let more = namespaces-few all s.back s.ends in
     omega arith
 
--- ---- the form of the tree
+-- ---- the form of the tree, and its places
+
+-- what the tokens of a text show of the tree that they spell
+shown-of : {At : Place → Type 0} {Named : AstName → Type 0} → Shows At Named → (text : List ℕ) (ast : Ast) (is : IsTreeOf text ast)
+    → All (IsAt At) (lexemes_of text is.tokens) → EachIs (NamespaceWith Named) ast.namespaces
+shown-of {At} {Named} shows text ast is placed = each_of (NamespaceWith Named) SpellsNamespace (namespace_of shows) ast.namespaces
+    (record { tokens = lexemes_of text is.tokens; formed = formed_of text is.tokens is.utf8 is.lexed; placed = placed; spelled = is.spelled.each })
 
 pub spellable-of : (text : List ℕ) (ast : Ast) → IsTreeOf text ast → IsSpellable ast
-spellable-of text ast is = record {
-  some = is.spelled.some;
-  each = each_of IsNamespace SpellsNamespace namespace_of ast.namespaces
-      (record { tokens = lexemes_of text is.tokens; formed = formed_of text is.tokens is.utf8 is.lexed; spelled = is.spelled.each });
-}
+spellable-of text ast is = record { some = is.spelled.some; each = shown-of shows_name text ast is (λ k d within. tt) }
+
+pub trees-have_places : TreesHaveTheirPlaces
+trees-have_places text ast is = shown-of (shows_place (IsPlaceIn text)) text ast is (placed_of text is.tokens is.utf8 is.lexed)
 
 pub trees-have_form : TreesHaveTheirForm
 trees-have_form text ast is = record {

@@ -8,6 +8,7 @@ use Rattle.std.proofs.lemmas.List.Elements.{All-head}
 use Rattle.tydi_base.specs.Decimal.{read_on}
 use Rattle.tydi_base.specs.Frac.{Fraction}
 use Rattle.tydi_base.specs.Pieces.{Lacks}
+use Rattle.tydi_base.specs.declared.place.Place.{Place}
 use Rattle.til_lexer.specs.Spelling.{HasForm, IsBetween}
 use Rattle.til_lexer.specs.declared.token.TokenKind.{TokenKind}
 use Rattle.til_lexer.specs.declared.token.TokenKind.TheVariants as kinds
@@ -15,70 +16,90 @@ use Rattle.tydi_reading.specs.Forms.{◌⋯◌}
 use Rattle.tydi_reading.specs.Lists.{Each, EachIs}
 use Rattle.tydi_reading.proofs.StepLemmas.{All-front, All-back}
 use Rattle.til_parser.specs.declared.tree.AstName.{AstName}
-use Rattle.til_parser.specs.Grammar.{Form, Bracketed, Commas, Doc, Name, Number, One, Path, Quoted, Whole}
+use Rattle.til_parser.specs.Grammar.{Form, Bracketed, Commas, Doc, IsNamed, Name, Number, One, Path, Quoted, Whole}
 use Rattle.til_parser.specs.Lexemes.{Lexeme, IsFormed, between_marks}
-use Rattle.til_parser.specs.Trees.{HasName, IsPath, IsDoc, IsQuote, FitsBetween, IsShort, IsSpelledNumber}
+use Rattle.til_parser.specs.Trees.{HasName, PathWith, IsDoc, IsQuote, FitsBetween, IsShort, IsSpelledNumber}
 use Rattle.til_parser.proofs.texts.NumberTextLemmas.{read_on-below}
 use Rattle.til_parser.proofs.printed.PrintedLeaves.{between_marks-of}
 
 -- ---- what spells
 
--- some tokens are of a form, each in the form of its kind
-pub record Spelt (F : Form) : Type 0 where
+-- a token stands at such a place
+abbrev pub IsAt : (Place → Type 0) → Lexeme → Type 0
+IsAt At lexeme = At lexeme.place
+
+-- some tokens are of a form, each in the form of its kind and at such a place
+pub record Spelt (At : Place → Type 0) (F : Form) : Type 0 where
   pub tokens : List Lexeme
   pub formed : All IsFormed tokens
+  pub placed : All (IsAt At) tokens
   pub spelled : F tokens
 
-pub first_of : {F G : Form} → Spelt (F ⋯ G) → Spelt F
-first_of spelt = record {
+pub first_of : {At : Place → Type 0} {F G : Form} → Spelt At (F ⋯ G) → Spelt At F
+first_of {At} spelt = record {
   tokens = spelt.spelled.front;
   formed = All-front IsFormed spelt.tokens spelt.spelled.front spelt.spelled.back spelt.spelled.all spelt.formed;
+  placed = All-front (IsAt At) spelt.tokens spelt.spelled.front spelt.spelled.back spelt.spelled.all spelt.placed;
   spelled = spelt.spelled.begins;
 }
 
-pub second_of : {F G : Form} → Spelt (F ⋯ G) → Spelt G
-second_of spelt = record {
+pub second_of : {At : Place → Type 0} {F G : Form} → Spelt At (F ⋯ G) → Spelt At G
+second_of {At} spelt = record {
   tokens = spelt.spelled.back;
   formed = All-back IsFormed spelt.tokens spelt.spelled.front spelt.spelled.back spelt.spelled.all spelt.formed;
+  placed = All-back (IsAt At) spelt.tokens spelt.spelled.front spelt.spelled.back spelt.spelled.all spelt.placed;
   spelled = spelt.spelled.ends;
 }
 
-pub inside_of : {F : Form} → Spelt (Bracketed F) → Spelt F
+pub inside_of : {At : Place → Type 0} {F : Form} → Spelt At (Bracketed F) → Spelt At F
 inside_of spelt = first_of (second_of spelt)
 
-one_form : {Is : Lexeme → Type 0} (kind : TokenKind) (spelt : Spelt (One Is)) → spelt.spelled.lexeme.kind ≡ kind
+one_form : {At : Place → Type 0} {Is : Lexeme → Type 0} (kind : TokenKind) (spelt : Spelt At (One Is)) → spelt.spelled.lexeme.kind ≡ kind
     → HasForm kind spelt.spelled.lexeme.spelling
 one_form kind spelt is = subst (λ k. HasForm k spelt.spelled.lexeme.spelling) is
     (All-head IsFormed spelt.spelled.lexeme [] (subst (All IsFormed) spelt.spelled.all spelt.formed))
 
 -- ---- lists
 
-module _ {X : Type 0} (Is : X → Type 0) (Spell : X → Form) (of_one : (x : X) → Spelt (Spell x) → Is x) where
-  pub each_of : (all : List X) → Spelt (Each Spell all) → EachIs Is all
+module _ {At : Place → Type 0} {X : Type 0} (Is : X → Type 0) (Spell : X → Form) (of_one : (x : X) → Spelt At (Spell x) → Is x) where
+  pub each_of : (all : List X) → Spelt At (Each Spell all) → EachIs Is all
   each_of [] spelt = tt
   each_of (x ∷ all) spelt = (of_one x (first_of spelt), each_of all (second_of spelt))
 
-  pub commas_of : (all : List X) → Spelt (Commas Spell all) → EachIs Is all
+  pub commas_of : (all : List X) → Spelt At (Commas Spell all) → EachIs Is all
   commas_of [] spelt = tt
   commas_of (x ∷ []) spelt = (of_one x (first_of spelt), tt)
   commas_of (x ∷ next ∷ all) spelt = (of_one x (first_of spelt), commas_of (next ∷ all) (second_of (second_of spelt)))
 
 -- ---- names and paths
 
-pub name_of : (name : AstName) → Spelt (Name name) → HasName name
-name_of name spelt = spelt.spelled.is.named
+-- what a name's token shows of the name
+pub record Shows (At : Place → Type 0) (Named : AstName → Type 0) : Type 0 where
+  pub named : (name : AstName) (lexeme : Lexeme) → IsNamed name lexeme → At lexeme.place → Named name
 
-names_of : (names : List AstName) → Spelt (Path names) → EachIs HasName names
-names_of [] spelt = tt
-names_of (name ∷ []) spelt = (name_of name spelt, tt)
-names_of (name ∷ next ∷ names) spelt = (name_of name (first_of spelt), names_of (next ∷ names) (second_of (second_of spelt)))
+-- that it is one
+pub shows_name : Shows (λ _. Unit {0}) HasName
+shows_name = record { named = λ name lexeme is at. is.named }
+
+-- its place
+pub shows_place : (At : Place → Type 0) → Shows At (λ name. At name.place)
+shows_place At = record { named = λ name lexeme is at. subst At is.place at }
+
+pub name_of : {At : Place → Type 0} {Named : AstName → Type 0} → Shows At Named → (name : AstName) → Spelt At (Name name) → Named name
+name_of {At} shows name spelt =
+    shows.named name spelt.spelled.lexeme spelt.spelled.is (All-head (IsAt At) spelt.spelled.lexeme [] (subst (All (IsAt At)) spelt.spelled.all spelt.placed))
+
+names_of : {At : Place → Type 0} {Named : AstName → Type 0} → Shows At Named → (names : List AstName) → Spelt At (Path names) → EachIs Named names
+names_of shows [] spelt = tt
+names_of shows (name ∷ []) spelt = (name_of shows name spelt, tt)
+names_of shows (name ∷ next ∷ names) spelt = (name_of shows name (first_of spelt), names_of shows (next ∷ names) (second_of (second_of spelt)))
 
 some_names : (names : List AstName) (ts : List Lexeme) → Path names ts → 0 < length names
 some_names [] ts s = absurd s
 some_names (name ∷ names) ts s = omega arith
 
-pub path_of : (names : List AstName) → Spelt (Path names) → IsPath names
-path_of names spelt = record { some = some_names names spelt.tokens spelt.spelled; each = names_of names spelt }
+pub path_of : {At : Place → Type 0} {Named : AstName → Type 0} → Shows At Named → (names : List AstName) → Spelt At (Path names) → PathWith Named names
+path_of shows names spelt = record { some = some_names names spelt.tokens spelt.spelled; each = names_of shows names spelt }
 
 -- ---- numbers
 
@@ -95,7 +116,7 @@ few_digits : (text : List ℕ) → HasForm kinds.Number text → list_all is_asc
 few_digits text (inl whole) all = whole.few
 few_digits text (inr point) all = absurd (point_is_no_digit point.before point.behind (subst (λ l. list_all is_ascii_digit l ≡ true) point.parts all))
 
-pub whole_of : (whole : ℕ) → Spelt (Whole whole) → IsShort whole
+pub whole_of : {At : Place → Type 0} → (whole : ℕ) → Spelt At (Whole whole) → IsShort whole
 whole_of whole spelt =
     let is = spelt.spelled.is in
     let text : List ℕ = spelt.spelled.lexeme.spelling in
@@ -104,7 +125,7 @@ whole_of whole spelt =
     let wide : 10 ^ length text ≤ 10 ^ 18 = pow-le-pow_right (omega arith) few in
     omega (arith, is.value)
 
-pub number_of : (number : Fraction) → Spelt (Number number) → IsSpelledNumber number
+pub number_of : {At : Place → Type 0} → (number : Fraction) → Spelt At (Number number) → IsSpelledNumber number
 number_of number spelt = record {
   text = spelt.spelled.lexeme.spelling;
   spelled = record { form = one_form kinds.Number spelt spelt.spelled.is.kind; value = spelt.spelled.is.value };
@@ -117,9 +138,9 @@ fits_between mark text spelling is same =
     let inside : is.inside ≡ text = sym (same ∙ ap between_marks is.marked ∙ between_marks-of mark is.inside) in
     record { lacks = subst (Lacks mark) inside is.lacks; utf8 = subst IsUtf8 inside is.utf8 }
 
-pub quote_of : (text : List ℕ) → Spelt (Quoted text) → IsQuote text
+pub quote_of : {At : Place → Type 0} → (text : List ℕ) → Spelt At (Quoted text) → IsQuote text
 quote_of text spelt = fits_between 34 text spelt.spelled.lexeme.spelling (one_form kinds.Quoted spelt spelt.spelled.is.kind_is) spelt.spelled.is.text_is
 
-pub doc_of : (doc : Option (List ℕ)) → Spelt (Doc doc) → IsDoc doc
+pub doc_of : {At : Place → Type 0} → (doc : Option (List ℕ)) → Spelt At (Doc doc) → IsDoc doc
 doc_of None spelt = tt
 doc_of (Some text) spelt = fits_between 35 text spelt.spelled.lexeme.spelling (one_form kinds.Doc spelt spelt.spelled.is.kind_is) spelt.spelled.is.text_is
