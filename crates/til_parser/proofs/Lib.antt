@@ -2,7 +2,7 @@ mod numbers
 mod texts
 mod printed
 mod rules
-mod spelled
+pub mod spelled
 mod LevelLemmas
 mod LexemeLemmas
 pub mod PlainLemmas

@@ -1,7 +1,8 @@
 -- The first written type that has a fault, one type after another, and what is kept of the types of declarations.
-use Rattle.std.proofs.Common.{◌≡◌, ℕ, zero, suc, ◌+◌, ◌<◌, ◌≤◌, ◌⊎◌, inl, inr, Bool, true, false, cond, ltb, List, [], ◌∷◌, ◌++◌, length, map, replicate, get_or, set, take, Option, Some, None, is_some, IfSome, Contains, refl, sym, ap, subst, ◌∙◌, arith}
+use Rattle.std.proofs.Common.{◌≡◌, ℕ, zero, suc, ◌+◌, ◌<◌, ◌≤◌, ◌⊎◌, inl, inr, Bool, true, false, ◌&&◌, cond, eqb, ltb, find, List, [], ◌∷◌, ◌++◌, length, map, replicate, get_or, set, take, Option, Some, None, is_some, IfSome, Contains, refl, sym, ap, subst, ◌∙◌, arith}
 use Rattle.std.specs.Bool.{then_some}
 use Rattle.std.proofs.lemmas.Bool.{cases_eq, cases_lt, leb-true, leb-false, lt-ltb, ltb-true}
+use Rattle.std.proofs.lemmas.Bool.Decides.{nat_tests}
 use Rattle.std.proofs.lemmas.List.{take_more, take_all, map-append, get_or-set_same, get_or-set_other, set_past}
 use Rattle.std.proofs.lemmas.List.Elements.{Contains-append_left, Contains-append_right, Contains-push}
 use Rattle.tydi_base.specs.declared.place.Place.{Place}
@@ -18,7 +19,7 @@ use Rattle.til_resolve.specs.BadTypes.{first_fault, AreAcyclic, HasSomeFault, Is
 use Rattle.til_resolve.specs.Building.{Builds}
 use Rattle.til_resolve.specs.Declarations.{Declaration, declaration}
 use Rattle.til_resolve.specs.Earliest.{earlier, stands_first}
-use Rattle.til_resolve.specs.Faults.{WrittenType, IsToldUpTo, written_types}
+use Rattle.til_resolve.specs.Faults.{WrittenType, HasTypeAt, IsChosenBad, IsToldUpTo, is_bad_at, written_types}
 use Rattle.til_resolve.specs.Shapes.{type_at}
 use Rattle.til_resolve.specs.Types.{depth_of}
 use Rattle.til_resolve.specs.Written.{written_type, place_of, ltype_of, AreWritten}
@@ -28,7 +29,7 @@ use Rattle.til_resolve.proofs.WrittenLemmas.{Contains-map}
 -- ---- one type more
 
 pub IsFirstBad-none : IsFirstBad [] None
-IsFirstBad-none = record { first = types-none HasSomeFault; bad = tt }
+IsFirstBad-none = record { first = types-none HasSomeFault; bad = tt; chosen = tt }
 
 -- the place of the earlier of the two
 place-earlier : (found : Option BadType) (place : Place) (o : Option TypeFault) → place_found (earlier_bad found (bad_at place o)) ≡ earlier (place_found found) (then_some (is_some o) place)
@@ -67,6 +68,70 @@ module _ (front : List WrittenType) (one : WrittenType) where
       by true = here fault is
       by false = kept bad so
 
+-- ---- the first that is told of at a place
+
+-- what is found in a list is found in a longer one
+find-kept : (test : WrittenType → Bool) (front back : List WrittenType) (one : WrittenType) → find test front ≡ Some one → find test (front ++ back) ≡ Some one
+find-kept test [] back one is = absurd cc
+find-kept test (x ∷ front) back one is = by (test x) is (find-kept test front back one)
+  where
+    by : (b : Bool) → cond b (Some x) (find test front) ≡ Some one → (find test front ≡ Some one → find test (front ++ back) ≡ Some one)
+        → cond b (Some x) (find test (front ++ back)) ≡ Some one
+    by true is rest = is
+    by false is rest = rest is
+
+-- the last of a list of which nothing before passes
+find-last : (test : WrittenType → Bool) (front : List WrittenType) (one : WrittenType) → ((x : WrittenType) → Contains front x → test x ≡ false) → test one ≡ true
+    → find test (front ++ one ∷ []) ≡ Some one
+find-last test [] one none is = ap (λ b. cond b (Some one) None) is
+find-last test (x ∷ front) one none is =
+    ap (λ b. cond b (Some x) (find test (front ++ one ∷ []))) (none x (0, omega arith, refl))
+    ∙ find-last test front one (λ y there. none y (suc there.0, omega (arith, there.1), there.2)) is
+
+-- a type without a fault, or told of elsewhere, does not pass
+fails : (types : List WrittenType) (offset : ℕ) → ((place : Place) → HasTypeAt HasSomeFault types place → place.offset ≡ offset → ⊥)
+    → (x : WrittenType) → Contains types x → is_bad_at offset x ≡ false
+fails types offset none x there = by (eqb x.place.offset offset) refl (first_fault x.ltype) refl
+  where
+    by : (b : Bool) → eqb x.place.offset offset ≡ b → (o : Option TypeFault) → first_fault x.ltype ≡ o → (b && is_some o) ≡ false
+    by false at o is = refl
+    by true at None is = refl
+    by true at (Some fault) is =
+        let same : x.place.offset ≡ offset = grind (arith, nat_tests) in
+        absurd (none x.place (record { one = x; written = there; at = refl; is = record { fault = fault; first = is } }) same)
+
+passes : (one : WrittenType) (fault : TypeFault) → first_fault one.ltype ≡ Some fault → is_bad_at one.place.offset one ≡ true
+passes one fault is = by (eqb one.place.offset one.place.offset) (grind (arith, nat_tests))
+  where
+    by : (b : Bool) → b ≡ true → (b && is_some (first_fault one.ltype)) ≡ true
+    by true e = ap (λ (o : Option TypeFault). is_some o) is
+    by false e = absurd cc
+
+module _ (front : List WrittenType) (one : WrittenType) where
+  still : (bad : BadType) → IsChosenBad front bad.place bad.fault → IsChosenBad (front ++ one ∷ []) bad.place bad.fault
+  still bad is = record { one = is.one; found = find-kept (is_bad_at bad.place.offset) front (one ∷ []) is.one is.found; at = is.at; is = is.is }
+
+  new : (fault : TypeFault) → first_fault one.ltype ≡ Some fault → ((place : Place) → HasTypeAt HasSomeFault front place → place.offset ≡ one.place.offset → ⊥)
+      → IsChosenBad (front ++ one ∷ []) one.place fault
+  new fault is none = record {
+    one = one;
+    found = find-last (is_bad_at one.place.offset) front one (fails front one.place.offset none) (passes one fault is);
+    at = refl;
+    is = is;
+  }
+
+  chosen-more : (found : Option BadType) (o : Option TypeFault) → first_fault one.ltype ≡ o → IsFirstBad front found
+      → IfSome (earlier_bad found (bad_at one.place o)) (λ bad. IsChosenBad (front ++ one ∷ []) bad.place bad.fault)
+  chosen-more None None is so = tt
+  chosen-more None (Some fault) is so = new fault is (λ place there same. so.first.told place there)
+  chosen-more (Some bad) None is so = still bad so.chosen
+  chosen-more (Some bad) (Some fault) is so = by (ltb one.place.offset bad.place.offset) refl
+    where
+      by : (b : Bool) → ltb one.place.offset bad.place.offset ≡ b
+          → IfSome (cond b (Some (record { place = one.place; fault = fault })) (Some bad)) (λ bad. IsChosenBad (front ++ one ∷ []) bad.place bad.fault)
+      by true before = new fault is (λ place there same. omega (arith, so.first.told.first place there, ltb-true one.place.offset bad.place.offset before, same))
+      by false before = still bad so.chosen
+
 pub IsFirstBad-more : (all : List Declaration) (written : List Written) (i : ℕ) (one : Written) (found result : Option BadType) → i < length written → one ≡ get_or written i one
     → result ≡ earlier_bad found (bad_type all one) → IsFirstBad (map (written_type all) (take i written)) found → IsFirstBad (map (written_type all) (take (i + 1) written)) result
 IsFirstBad-more all written i one found result within is told so = record {
@@ -76,6 +141,9 @@ IsFirstBad-more all written i one found result within is told so = record {
   bad = subst (λ (l : List WrittenType). IfSome result (IsBadIn l)) (sym grown)
       (subst (λ (o : Option BadType). IfSome o (IsBadIn (map (written_type all) (take i written) ++ written_type all one ∷ []))) (sym told)
       (bad-more (map (written_type all) (take i written)) (written_type all one) found (first_fault (ltype_of all one)) refl so.bad));
+  chosen = subst (λ (l : List WrittenType). IfSome result (λ bad. IsChosenBad l bad.place bad.fault)) (sym grown)
+      (subst (λ (o : Option BadType). IfSome o (λ bad. IsChosenBad (map (written_type all) (take i written) ++ written_type all one ∷ []) bad.place bad.fault)) (sym told)
+      (chosen-more (map (written_type all) (take i written)) (written_type all one) found (first_fault (ltype_of all one)) refl so));
 }
   where
     grown : map (written_type all) (take (i + 1) written) ≡ map (written_type all) (take i written) ++ written_type all one ∷ []

@@ -1,5 +1,5 @@
 -- Which fault of a tree is told.
-use Rattle.std.proofs.Common.{◌≡◌, ℕ, zero, suc, ◌≤◌, inl, inr, Bool, true, false, cond, ltb, List, ◌++◌, length, Option, Some, None, Contains, refl, sym, ap, subst, ◌∙◌, arith}
+use Rattle.std.proofs.Common.{◌≡◌, ℕ, zero, suc, ◌<◌, ◌≤◌, inl, inr, Bool, true, false, cond, ltb, List, ◌++◌, length, Option, Some, None, Contains, refl, sym, ap, subst, ◌∙◌, arith}
 use Rattle.std.proofs.lemmas.Bool.{ltb-true, ltb-false}
 use Rattle.tydi_base.specs.declared.place.Place.{Place}
 use Rattle.til_resolve.specs.declared.bad_types.BadType.{BadType}
@@ -18,12 +18,12 @@ use Rattle.til_resolve.proofs.AgainLemmas.{append_nil}
 
 -- a fault that is told of those up to a place in the order is told of those up to any later place
 pub told-further : (all : List Declaration) (order further : ℕ) (fault : ResolveFault) → IsToldUpTo all order (Some fault) → IsToldUpTo all further (Some fault)
-told-further all order further fault is = record { told = is.told }
+told-further all order further fault is = record { told = is.told; chosen = is.chosen }
 
 -- ---- what is declared twice
 
 pub told-twice : (all : List Declaration) (place : Place) → IsEarliest (Contains (twice all)) (Some place) → IsToldUpTo all 2 (Some (faults.DeclaredTwice place))
-told-twice all place is = record { told = (is.told.there, first) }
+told-twice all place is = record { told = (is.told.there, first); chosen = tt }
   where
     first : (other : ResolveFault) → HasFault all other → IsToldBefore (faults.DeclaredTwice place) other
     first (faults.DeclaredTwice q) there = inr (refl, is.told.first q there)
@@ -47,7 +47,7 @@ wrong_kinds-is all (suc number) = ap (λ (l : List Place). l ++ refused_at sough
 -- a path that names nothing, and stands before those that name another kind
 told-unknown : (all : List Declaration) (place : Place) → IsEarliest (Contains (twice all)) None → IsEarliest (Contains (unknown all)) (Some place)
     → ((q : Place) → Contains (wrong_kinds all) q → place.offset ≤ q.offset) → IsToldUpTo all 2 (Some (faults.UnknownName place))
-told-unknown all place none is wrong = record { told = (is.told.there, first) }
+told-unknown all place none is wrong = record { told = (is.told.there, first); chosen = tt }
   where
     first : (other : ResolveFault) → HasFault all other → IsToldBefore (faults.UnknownName place) other
     first (faults.DeclaredTwice q) there = absurd (none.told q there)
@@ -61,12 +61,12 @@ told-unknown all place none is wrong = record { told = (is.told.there, first) }
     first faults.Memory there = absurd there
 
 told-wrong : (all : List Declaration) (place : Place) → IsEarliest (Contains (twice all)) None → IsEarliest (Contains (wrong_kinds all)) (Some place)
-    → ((q : Place) → Contains (unknown all) q → place.offset ≤ q.offset) → IsToldUpTo all 2 (Some (faults.WrongKind place))
-told-wrong all place none is before_unknown = record { told = (is.told.there, first) }
+    → ((q : Place) → Contains (unknown all) q → place.offset < q.offset) → IsToldUpTo all 2 (Some (faults.WrongKind place))
+told-wrong all place none is before_unknown = record { told = (is.told.there, first); chosen = before_unknown }
   where
     first : (other : ResolveFault) → HasFault all other → IsToldBefore (faults.WrongKind place) other
     first (faults.DeclaredTwice q) there = absurd (none.told q there)
-    first (faults.UnknownName q) there = inr (refl, before_unknown q there)
+    first (faults.UnknownName q) there = inr (refl, omega (arith, before_unknown q there))
     first (faults.WrongKind q) there = inr (refl, is.told.first q there)
     first (faults.CyclicType q) there = inl (omega arith)
     first (faults.TypeTooLarge q) there = inl (omega arith)
@@ -76,7 +76,7 @@ told-wrong all place none is before_unknown = record { told = (is.told.there, fi
     first faults.Memory there = absurd there
 
 told-nothing : (all : List Declaration) → IsEarliest (Contains (twice all)) None → IsEarliest (Contains (unknown all)) None → IsEarliest (Contains (wrong_kinds all)) None → IsToldUpTo all 2 None
-told-nothing all none no_unknown no_wrong = record { told = never }
+told-nothing all none no_unknown no_wrong = record { told = never; chosen = tt }
   where
     never : (fault : ResolveFault) → order_of fault ≤ 2 → ¬ HasFault all fault
     never (faults.DeclaredTwice q) low there = none.told q there
@@ -110,7 +110,7 @@ told-names all one other result is none first second =
 
 pub told-too_large : (all : List Declaration) (place : Place) → IsToldUpTo all 3 None → IsEarliest (HasTypeAt (IsMisshapen sorts.TooLarge) (written_types all)) (Some place)
     → IsToldUpTo all 4 (Some (faults.TypeTooLarge place))
-told-too_large all place none is = record { told = (large place is.told.there, first) }
+told-too_large all place none is = record { told = (large place is.told.there, first); chosen = tt }
   where
     large : (q : Place) → HasTypeAt (IsMisshapen sorts.TooLarge) (written_types all) q → HasFault all (faults.TypeTooLarge q)
     large q there = record { one = there.one; written = there.written; at = there.at; is = there.is }
@@ -127,7 +127,7 @@ told-too_large all place none is = record { told = (large place is.told.there, f
     first faults.Memory there = absurd there
 
 pub told-none_too_large : (all : List Declaration) → IsToldUpTo all 3 None → IsEarliest (HasTypeAt (IsMisshapen sorts.TooLarge) (written_types all)) None → IsToldUpTo all 4 None
-told-none_too_large all none is = record { told = never }
+told-none_too_large all none is = record { told = never; chosen = tt }
   where
     never : (fault : ResolveFault) → order_of fault ≤ 4 → ¬ HasFault all fault
     never (faults.DeclaredTwice q) low there = none.told (faults.DeclaredTwice q) (omega arith) there
@@ -143,7 +143,7 @@ told-none_too_large all none is = record { told = never }
 -- ---- types that have a fault
 
 pub told-bad : (all : List Declaration) (bad : BadType) → IsToldUpTo all 4 None → IsFirstBad (written_types all) (Some bad) → IsToldUpTo all 5 (Some (faults.BadType bad.place bad.fault))
-told-bad all bad none is = record { told = (is.bad, first) }
+told-bad all bad none is = record { told = (is.bad, first); chosen = is.chosen }
   where
     first : (other : ResolveFault) → HasFault all other → IsToldBefore (faults.BadType bad.place bad.fault) other
     first (faults.DeclaredTwice q) there = absurd (none.told (faults.DeclaredTwice q) (omega arith) there)
@@ -158,7 +158,7 @@ told-bad all bad none is = record { told = (is.bad, first) }
     first faults.Memory there = absurd there
 
 pub told-no_bad : (all : List Declaration) → IsToldUpTo all 4 None → IsFirstBad (written_types all) None → IsToldUpTo all 5 None
-told-no_bad all none is = record { told = never }
+told-no_bad all none is = record { told = never; chosen = tt }
   where
     never : (fault : ResolveFault) → order_of fault ≤ 5 → ¬ HasFault all fault
     never (faults.DeclaredTwice q) low there = none.told (faults.DeclaredTwice q) (omega arith) there

@@ -10,7 +10,7 @@ use Rattle.til_resolve.specs.declared.fault.ResolveFault.TheVariants as faults
 use Rattle.til_resolve.specs.declared.misshapen.Sort.TheVariants as sorts
 use Rattle.til_resolve.specs.Declarations.{Declaration, declarations}
 use Rattle.til_resolve.specs.Earliest.{IsEarliest, IsBelow}
-use Rattle.til_resolve.specs.Faults.{HasFault, HasTypeAt, IsCyclicAtTarget, IsToldBefore, IsToldUpTo, IsToldOf, IsSound, order_of, written_types}
+use Rattle.til_resolve.specs.Faults.{IsChosen, HasFault, HasTypeAt, IsCyclicAtTarget, IsToldBefore, IsToldUpTo, IsToldOf, IsSound, order_of, written_types}
 use Rattle.til_resolve.specs.Making.{type_of_port}
 use Rattle.til_resolve.specs.declared.project.Project.{Project}
 use Rattle.til_resolve.specs.Project.{IsProjectOf, IsStreamletOf, Pairwise, streamlet_numbers, tests_in}
@@ -21,7 +21,7 @@ use Rattle.til_resolve.specs.Types.{type_of, depth_of, is_stream}
 
 pub told-no_stream : (all : List Declaration) (place : Place) → IsToldUpTo all 5 None → IsEarliest (HasTypeAt (IsMisshapen sorts.PortNotStream) (written_types all)) (Some place)
     → IsToldUpTo all 7 (Some (faults.PortNotStream place))
-told-no_stream all place none is = record { told = (record { one = is.told.there.one; written = is.told.there.written; at = is.told.there.at; is = is.told.there.is }, first) }
+told-no_stream all place none is = record { told = (record { one = is.told.there.one; written = is.told.there.written; at = is.told.there.at; is = is.told.there.is }, first); chosen = tt }
   where
     first : (other : ResolveFault) → HasFault all other → IsToldBefore (faults.PortNotStream place) other
     first (faults.DeclaredTwice q) there = absurd (none.told (faults.DeclaredTwice q) (omega arith) there)
@@ -42,7 +42,7 @@ no_stream-never all is q there = is.told q (record { one = there.one; written = 
 
 pub told-contained : (all : List Declaration) (place : Place) → IsToldUpTo all 5 None → IsEarliest (HasTypeAt (IsMisshapen sorts.PortNotStream) (written_types all)) None
     → IsEarliest (IsBelow (IsCyclicAtTarget all) (length all)) (Some place) → IsToldUpTo all 7 (Some (faults.CyclicInstance place))
-told-contained all place none streams is = record { told = (is.told.there, first) }
+told-contained all place none streams is = record { told = (is.told.there, first); chosen = tt }
   where
     first : (other : ResolveFault) → HasFault all other → IsToldBefore (faults.CyclicInstance place) other
     first (faults.DeclaredTwice q) there = absurd (none.told (faults.DeclaredTwice q) (omega arith) there)
@@ -57,7 +57,7 @@ told-contained all place none streams is = record { told = (is.told.there, first
 
 pub told-none_last : (all : List Declaration) → IsToldUpTo all 5 None → IsEarliest (HasTypeAt (IsMisshapen sorts.PortNotStream) (written_types all)) None
     → IsEarliest (IsBelow (IsCyclicAtTarget all) (length all)) None → IsToldUpTo all 7 None
-told-none_last all none streams is = record { told = never }
+told-none_last all none streams is = record { told = never; chosen = tt }
   where
     never : (fault : ResolveFault) → order_of fault ≤ 7 → ¬ HasFault all fault
     never (faults.DeclaredTwice q) low there = none.told (faults.DeclaredTwice q) (omega arith) there
@@ -90,6 +90,7 @@ told_of : (ast : Ast) (all : List Declaration) (fault : ResolveFault) → all �
 told_of ast all fault same is = record {
   there = subst (λ (l : List Declaration). HasFault l fault) same is.told.0;
   first = λ other there. is.told.1 other (subst (λ (l : List Declaration). HasFault l other) (sym same) there);
+  chosen = subst (λ (l : List Declaration). IsChosen l fault) same is.chosen;
 }
 
 -- ---- the types of ports

@@ -10,6 +10,9 @@ mod PortLemmas
 mod TwiceLemmas
 mod NameLemmas
 mod FirstLemmas
+pub mod StandLemmas
+pub mod ToldLemmas
+pub mod PortTypeLemmas
 mod TypeGraphLemmas
 mod RankLemmas
 mod ContainmentLemmas

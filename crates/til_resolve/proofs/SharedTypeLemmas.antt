@@ -17,4 +17,4 @@ none-built all types chains long empty = record {
 
 -- what is told of none up to a place in the order is told of none up to an earlier one
 pub none-before : (all : List Declaration) (order : ℕ) → IsToldUpTo all 7 None → order ≤ 7 → IsToldUpTo all order None
-none-before all order none within = record { told = λ fault low. none.told fault (omega (arith, low, within)) }
+none-before all order none within = record { told = λ fault low. none.told fault (omega (arith, low, within)); chosen = tt }

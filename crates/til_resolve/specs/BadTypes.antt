@@ -11,7 +11,7 @@ use Rattle.til_resolve.specs.declared.written.Written.{Written}
 use Rattle.til_resolve.specs.Cycles.{IsCyclicType}
 use Rattle.til_resolve.specs.Declarations.{Declaration}
 use Rattle.til_resolve.specs.Earliest.{IsEarliest}
-use Rattle.til_resolve.specs.Faults.{WrittenType, HasTypeAt}
+use Rattle.til_resolve.specs.Faults.{WrittenType, HasTypeAt, IsChosenBad}
 use Rattle.til_resolve.specs.Shapes.{type_at}
 use Rattle.til_resolve.specs.Written.{place_of, ltype_of}
 
@@ -38,10 +38,11 @@ abbrev pub place_found : Option BadType → Option Place
 place_found None = None
 place_found (Some bad) = Some bad.place
 
--- what is found stands at the first place of a type with a fault, and is such a type; nothing is found where there is none
+-- what is found stands at the first place of a type with a fault, and is such a type, the first that is told of there; nothing is found where there is none
 pub record IsFirstBad (types : List WrittenType) (found : Option BadType) : Type 0 where
   pub first : IsEarliest (HasTypeAt HasSomeFault types) (place_found found)
   pub bad : IfSome found (IsBadIn types)
+  pub chosen : IfSome found (λ bad. IsChosenBad types bad.place bad.fault)
 
 -- a type at a place with its first fault, if it has any
 abbrev pub bad_at : Place → Option TypeFault → Option BadType

@@ -1,5 +1,5 @@
 -- What is wrong with a tree, each fault at its place, and which is told. This project's own.
-use Rattle.std.specs.Prelude.{◌≡◌, ◌≤◌, ◌<◌, ◌⊎◌, ℕ, Bool, true, false, not, List, [], ◌∷◌, map, length, slice_get, Option, Some, MatchOption, Contains, IsTrue}
+use Rattle.std.specs.Prelude.{◌≡◌, ◌≤◌, ◌<◌, ◌⊎◌, ℕ, Bool, true, false, not, ◌&&◌, ◌==◌, List, [], ◌∷◌, map, length, slice_get, find, is_some, Option, Some, IfSome, MatchOption, Contains, IsTrue}
 use Rattle.std.specs.List.{flat_map}
 use Rattle.tydi_base.specs.declared.place.Place.{Place}
 use Rattle.til_parser.specs.declared.tree.Ast.{Ast}
@@ -11,9 +11,10 @@ use Rattle.til_parser.specs.declared.tree.AstPorts.TheVariants as ports
 use Rattle.til_parser.specs.Tree.{plain}
 use Rattle.logical_types.specs.Tree.{Ltype}
 use Rattle.logical_types.specs.Faults.{faults_of}
+use Rattle.logical_types.specs.declared.fault.TypeFault.{TypeFault}
 use Rattle.til_resolve.specs.declared.fault.ResolveFault.{ResolveFault}
 use Rattle.til_resolve.specs.declared.fault.ResolveFault.TheVariants as faults
-use Rattle.til_resolve.specs.Declarations.{Declaration, declaration, declarations}
+use Rattle.til_resolve.specs.Declarations.{Declaration, declaration, declarations, nowhere}
 use Rattle.til_resolve.specs.Types.{type_of, number_of_nodes, depth_of, is_stream}
 use Rattle.til_resolve.specs.Names.{implements, target_place, twice, unknown, wrong_kinds}
 use Rattle.til_resolve.specs.Cycles.{LeadsTo, IsCyclicType, ContainsStreamlet}
@@ -97,26 +98,58 @@ order_of (faults.PortNotStream place) = 6
 order_of (faults.CyclicInstance place) = 7
 order_of faults.Memory = 8
 
--- where a fault stands in the text
+-- where a fault stands
+abbrev pub place_of_fault : ResolveFault → Place
+place_of_fault (faults.DeclaredTwice place) = place
+place_of_fault (faults.UnknownName place) = place
+place_of_fault (faults.WrongKind place) = place
+place_of_fault (faults.CyclicType place) = place
+place_of_fault (faults.TypeTooLarge place) = place
+place_of_fault (faults.BadType place fault) = place
+place_of_fault (faults.PortNotStream place) = place
+place_of_fault (faults.CyclicInstance place) = place
+place_of_fault faults.Memory = nowhere
+
 abbrev pub offset_of : ResolveFault → ℕ
-offset_of (faults.DeclaredTwice place) = place.offset
-offset_of (faults.UnknownName place) = place.offset
-offset_of (faults.WrongKind place) = place.offset
-offset_of (faults.CyclicType place) = place.offset
-offset_of (faults.TypeTooLarge place) = place.offset
-offset_of (faults.BadType place fault) = place.offset
-offset_of (faults.PortNotStream place) = place.offset
-offset_of (faults.CyclicInstance place) = place.offset
-offset_of faults.Memory = 0
+offset_of fault = (place_of_fault fault).offset
 
 -- one fault is told before another: it is looked for before, or stands no later in the text
 abbrev pub IsToldBefore : ResolveFault → ResolveFault → Type 0
 IsToldBefore one other = (order_of one < order_of other) ⊎ ((order_of one ≡ order_of other) × (offset_of one ≤ offset_of other))
 
+-- a type with a fault, told of at this offset
+abbrev pub is_bad_at : ℕ → WrittenType → Bool
+is_bad_at offset one = one.place.offset == offset && is_some (slice_get (faults_of one.ltype) 0)
+
+-- the first of these types that has a fault at a place, with its first fault
+pub record IsChosenBad (types : List WrittenType) (place : Place) (fault : TypeFault) : Type 0 where
+  pub one : WrittenType
+  pub found : find (is_bad_at place.offset) types ≡ Some one
+  pub at : one.place ≡ place
+  pub is : slice_get (faults_of one.ltype) 0 ≡ Some fault
+
+-- of two faults of one order and place that is told: a name that is unknown before one of a wrong kind, and of types with faults the
+-- first. In the tree of a text no two stand at one place.
+abbrev pub IsChosen : List Declaration → ResolveFault → Type 0
+IsChosen all (faults.DeclaredTwice place) = Unit {0}
+IsChosen all (faults.UnknownName place) = Unit {0}
+IsChosen all (faults.WrongKind place) = (other : Place) → Contains (unknown all) other → place.offset < other.offset
+IsChosen all (faults.CyclicType place) = Unit {0}
+IsChosen all (faults.TypeTooLarge place) = Unit {0}
+IsChosen all (faults.BadType place fault) = IsChosenBad (written_types all) place fault
+IsChosen all (faults.PortNotStream place) = Unit {0}
+IsChosen all (faults.CyclicInstance place) = Unit {0}
+IsChosen all faults.Memory = Unit {0}
+
+-- the fault that is told of declarations
+pub record IsTold (all : List Declaration) (fault : ResolveFault) : Type 0 where
+  pub there : HasFault all fault
+  pub first : (other : ResolveFault) → HasFault all other → IsToldBefore fault other
+  pub chosen : IsChosen all fault
+
 -- the fault that is told of a tree
-pub record IsToldOf (ast : Ast) (fault : ResolveFault) : Type 0 where
-  pub there : HasFault (declarations ast) fault
-  pub first : (other : ResolveFault) → HasFault (declarations ast) other → IsToldBefore fault other
+abbrev pub IsToldOf : Ast → ResolveFault → Type 0
+IsToldOf ast fault = IsTold (declarations ast) fault
 
 -- a tree has no fault
 abbrev pub IsSound : Ast → Type 0
@@ -126,3 +159,4 @@ IsSound ast = (fault : ResolveFault) → ¬ HasFault (declarations ast) fault
 pub record IsToldUpTo (all : List Declaration) (order : ℕ) (found : Option ResolveFault) : Type 0 where
   pub told : MatchOption found ((fault : ResolveFault) → order_of fault ≤ order → ¬ HasFault all fault)
       (λ fault. HasFault all fault × ((other : ResolveFault) → HasFault all other → IsToldBefore fault other))
+  pub chosen : IfSome found (IsChosen all)

@@ -21,3 +21,5 @@ pub mod BadTypes
 pub mod Project
 pub mod Making
 pub mod SharedTypes
+pub mod Laws
+pub mod PortTypes

@@ -19,6 +19,7 @@ mod firsts;
 mod implementing;
 mod kinds;
 mod last;
+mod laws;
 mod lookup;
 mod making;
 mod measuring;
@@ -43,5 +44,6 @@ mod written;
 mod written_tests;
 
 pub use fault::ResolveFault;
+pub use laws::{faults_are_told, ports_have_their_types};
 pub use project::{Impl, Instance, Link, LinkEnd, Port, Project, Streamlet, Test};
 pub use resolving::resolve;

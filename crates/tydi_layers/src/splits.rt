@@ -2,6 +2,7 @@
 
 use logical_types::{LType, Part, StreamType, Sync, check};
 use physical_stream::Params;
+use split_text::split_text;
 use std::alloc::Global;
 use std::test::Fail;
 use tydi_base::{Boxed, Frac, Level, List, Name};
@@ -49,16 +50,74 @@ fn split_of(alloc: Global, stream: StreamType) -> Result<List<Params>, Fail> {
     Ok(found)
 }
 
-#[test]
-fn nested_streams_are_split(rt: HostRuntime) -> Result<(), Fail> {
-    let alloc = rt.alloc();
+/// The text of a type, or of a front of its physical streams with more bytes than the limit; nothing where it is not split.
+fn text_of(alloc: Global, stream: StreamType, limit: u64) -> Result<List<u8>, Fail> {
+    let ltype = LType::Stream(Boxed::new(alloc, stream)?);
+    let LType::Stream(stream) = &ltype else {
+        return Ok(List::new(alloc));
+    };
+    if check(&ltype).is_err() || number_of_streams(&ltype) > 65536 {
+        return Ok(List::new(alloc));
+    }
+    match split_text(alloc, stream.get(), limit) {
+        Ok(text) => Ok(text),
+        Err(_) => Ok(List::new(alloc)),
+    }
+}
+
+/// A Stream with another inside.
+fn nested(alloc: Global) -> Result<StreamType, Fail> {
     let inner = stream(alloc, LType::Bits(4), (3, 2), 1)?;
     let mut parts = List::new(alloc);
     parts.push(part(alloc, "a", LType::Bits(8))?)?;
     parts.push(part(alloc, "b", LType::Stream(Boxed::new(alloc, inner)?))?)?;
-    let found = split_of(alloc, stream(alloc, LType::Group(parts), (3, 1), 2)?)?;
+    stream(alloc, LType::Group(parts), (3, 1), 2)
+}
+
+const OUTER: &str = "\
+stream - lanes 3 dims 2 level 7 element 8 user 0 forward
+  root -
+  valid 1
+  ready 1
+  data 24
+  last 6
+  stai 2
+  endi 2
+  strb 3
+  field a 0 8
+";
+
+const INNER: &str = "\
+stream b lanes 5 dims 3 level 7 element 4 user 0 forward
+  root -
+  valid 1
+  ready 1
+  data 20
+  last 15
+  stai 3
+  endi 3
+  strb 5
+  field - 0 4
+";
+
+#[test]
+fn nested_streams_are_split(rt: HostRuntime) -> Result<(), Fail> {
+    let alloc = rt.alloc();
+    let found = split_of(alloc, nested(alloc)?)?;
     assert_eq!(rt; found.len(), 2);
     assert_eq!(rt; found.get(0).copied(), params(3, 2, 7, 8, 0));
     assert_eq!(rt; found.get(1).copied(), params(5, 3, 7, 4, 0));
+    Ok(())
+}
+
+#[test]
+fn nested_streams_are_written(rt: HostRuntime) -> Result<(), Fail> {
+    let alloc = rt.alloc();
+    let whole = text_of(alloc, nested(alloc)?, 10_000)?;
+    assert!(rt; whole.as_slice().starts_with(OUTER.as_bytes()));
+    assert!(rt; whole.as_slice().ends_with(INNER.as_bytes()));
+    assert_eq!(rt; whole.len(), OUTER.len().saturating_add(INNER.len()));
+    let front = text_of(alloc, nested(alloc)?, 10)?;
+    assert_eq!(rt; front.as_slice(), OUTER.as_bytes());
     Ok(())
 }

@@ -1,0 +1,2 @@
+mod PlainNodes
+mod TextLemmas

@@ -1,0 +1,107 @@
+//! The text of a port's type.
+
+ghost use Rattle.std.specs.Prelude.{◌≡◌, ◌≤◌, ◌++◌, All, map, slice_get, IfOk, IfErr, OnOk, None};
+ghost use Rattle.std.specs.List.{flat_map};
+ghost use Rattle.logical_types.specs.Faults.{IsPlain, IsValid};
+ghost use Rattle.logical_types.specs.Tree.{plain_of_stream};
+ghost use Rattle.type_split.specs.Nodes.{number_of_streams};
+ghost use Rattle.type_split.specs.Streams.{Blames, clash_of, node_view};
+ghost use Rattle.split_text.specs.Text as spec;
+ghost use Rattle.split_text.specs.Text.{IsUpTo, field_lines, root_line, stream_text};
+
+use crate::lines::{FieldLines, SignalLines};
+use cycle_trace::StreamLine;
+use logical_types::StreamType;
+use signal_layout::{Signals, fields_of};
+use std::alloc::Global;
+use tydi_base::{List, Memory, emit};
+use type_split::{Node, Phys, SplitFault, split_type};
+
+/// The text of the physical streams of a port's type that passed `logical_types::check`: the whole of it, or a front of more than
+/// `limit` bytes. NameClash comes exactly where two physical streams have one path.
+pub fn split_text(alloc: Global, ltype: &StreamType, limit: u64) -> Result<List<u8>, SplitFault>
+    requires valid { IsValid (plain_of_stream ltype.now) }
+    requires few { number_of_streams (plain_of_stream ltype.now) ≤ 65536 }
+    ensures text { IfOk result (λ front. IsUpTo limit (spec.split_text (plain_of_stream ltype.now)) front) }
+    ensures apart { IfOk result (λ _. clash_of (plain_of_stream ltype.now) ≡ None) }
+    ensures clash { IfErr result (Blames (clash_of (plain_of_stream ltype.now))) }
+{
+    let split = split_type(alloc, ltype)?;
+    let text = write_streams(
+        alloc,
+        split.nodes.as_slice(),
+        split.streams.as_slice(),
+        limit,
+    )?;
+    Ok(text)
+}
+
+/// The text of physical streams, up to where it has more than so many bytes.
+fn write_streams(
+    alloc: Global,
+    nodes: &[Node<'_>],
+    streams: &[Phys],
+    limit: u64,
+) -> Result<List<u8>, Memory>
+    requires { All (λ node. IsPlain node.element) (map node_view nodes.now) }
+    ensures { IfOk result (λ front. IsUpTo limit (flat_map (stream_text (map node_view nodes.now)) streams.now) front) }
+{
+    let mut text = List::new(alloc);
+    'streams: for one in streams {
+        write_stream(alloc, nodes, one, &mut text)?;
+        if text.len() as u64 > limit {
+            return Ok(text);
+        }
+    }
+    Ok(text)
+}
+
+/// Adds the text of a physical stream at the end.
+fn write_stream(
+    alloc: Global,
+    nodes: &[Node<'_>],
+    one: &Phys,
+    text: &mut List<u8>,
+) -> Result<(), Memory>
+    requires { All (λ node. IsPlain node.element) (map node_view nodes.now) }
+    ensures { OnOk result (text.new ≡ text.old ++ stream_text (map node_view nodes.now) one.now) }
+{
+    let line = StreamLine {
+        path: &one.path,
+        params: &one.params,
+        reversed: one.reversed,
+    };
+    text.emit(&line)?;
+    write_root(nodes, one.root, text)?;
+    text.emit(&SignalLines(&Signals::of(&one.params)))?;
+    write_fields(alloc, nodes, one.node, text)
+}
+
+/// Adds the line of a root at the end.
+fn write_root(nodes: &[Node<'_>], root: u32, text: &mut List<u8>) -> Result<(), Memory>
+    ensures { OnOk result (text.new ≡ text.old ++ root_line (slice_get (map node_view nodes.now) root)) }
+{
+    match nodes.get(root as usize) {
+        Some(node) => emit!(text; "  root ", &node.path, "\n"),
+        None => Ok(()),
+    }
+}
+
+/// Adds the lines of the fields of a node's elements at the end.
+fn write_fields(
+    alloc: Global,
+    nodes: &[Node<'_>],
+    number: u32,
+    text: &mut List<u8>,
+) -> Result<(), Memory>
+    requires { All (λ node. IsPlain node.element) (map node_view nodes.now) }
+    ensures { OnOk result (text.new ≡ text.old ++ field_lines (slice_get (map node_view nodes.now) number)) }
+{
+    match nodes.get(number as usize) {
+        Some(node) => {
+            let fields = fields_of(alloc, node.element)?;
+            text.emit(&FieldLines(fields.as_slice()))
+        }
+        None => Ok(()),
+    }
+}
