@@ -10,6 +10,8 @@ mod refusal_tables;
 mod row;
 mod running;
 #[cfg(test)]
+mod split_tables;
+#[cfg(test)]
 mod tests;
 #[cfg(test)]
 mod trace_tables;

@@ -2,6 +2,7 @@ use crate::project_tables::{CANONICAL, FAULTS};
 use crate::refusal_tables::{HEADERS, ROWS, WORDS};
 use crate::row::{NO_FAULTS, check_rows, expect, words_of};
 use crate::running::{Faults, run_on};
+use crate::split_tables::SPLITS;
 use crate::trace_tables::{KINDS, ONE_STREAM, SEVERAL_STREAMS};
 use std::test::Fail;
 use tydi_base::List;
@@ -28,6 +29,7 @@ fn tables(rt: HostRuntime) -> Result<(), Fail> {
         (SEVERAL_STREAMS, 9),
         (CANONICAL, 3),
         (FAULTS, 12),
+        (SPLITS, 20),
     ];
     for (table, count) in tables {
         assert_eq!(rt; check_rows(&rt, table)?, count);

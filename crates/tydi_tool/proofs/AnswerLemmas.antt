@@ -1,4 +1,4 @@
--- To given words and files there is one answer.
+-- Whatever a command asks for, its files are read in one way, and there is one answer.
 use Rattle.std.proofs.Common.{◌≡◌, ℕ, List, Option, None, Some, sym, ap, ◌∙◌, subst, refl, inl, inr, Bool, true, false, Result, Ok, Err}
 use Rattle.std.specs.Str.{IsUtf8, is_utf8}
 use Rattle.std.proofs.lemmas.Str.{IsUtf8-from_is_utf8}
@@ -29,7 +29,6 @@ use Rattle.til_parser.proofs.LawLemmas.{trees_apart, trees_or_faults}
 use Rattle.tydi_tool.specs.declared.answer.Answer.{Answer}
 use Rattle.tydi_tool.specs.declared.answer.Answer.TheVariants as answers
 use Rattle.tydi_tool.specs.declared.traces.Survey.{Survey}
-use Rattle.tydi_tool.specs.Words.{Request, Check, Read}
 use Rattle.tydi_tool.specs.Refusals.{Refusal, refusal_line, refusal_of_trace, refusal_of_lexing}
 use Rattle.tydi_tool.specs.Reading.{RefusesBy}
 use Rattle.tydi_tool.specs.Reports.{Reports, ReportsEnd, path_of_stream}
@@ -37,7 +36,6 @@ use Rattle.tydi_tool.specs.Traces.{ReadsReading, ReadsTrace}
 use Rattle.tydi_tool.specs.Projects.{ReadsTokens, ReadsCoded, ReadsProject, refusal_of_parsing}
 use Rattle.tydi_tool.specs.Files.{Lack, file_of}
 use Rattle.tydi_tool.specs.Ask.{Ask, Ends, Asks, SaysOfBytes, SaysOfFile, SaysBy}
-use Rattle.tydi_tool.specs.Commands.{ask_of}
 use Rattle.tydi_tool.specs.Laws.{ReadsOnce, AsksOnce}
 
 -- ---- whatever a command asks for
@@ -69,14 +67,14 @@ SaysBy-one told (Asks file X Reads next) a b once p q =
 
 -- ---- a text is refused in one way
 
-not_read : {X : Type 0} (refusal : Option Refusal) (x : X) → RefusesBy refusal (Ok x) → ⊥
+pub not_read : {X : Type 0} (refusal : Option Refusal) (x : X) → RefusesBy refusal (Ok x) → ⊥
 not_read {X} (Some refusal) x r = let e : ◌≡◌ {A = Result X (List ℕ)} (Ok x) (Err (refusal_line refusal)) = r in cc
 not_read {X} None x r = r
 
 same_line : {X : Type 0} (l m : List ℕ) → ◌≡◌ {A = Result X (List ℕ)} (Err l) (Err m) → l ≡ m
 same_line {X} l m e = cc
 
-RefusesBy-line : (X : Type 0) (refusal : Option Refusal) (one other : List ℕ) → RefusesBy {X = X} refusal (Err one) → RefusesBy {X = X} refusal (Err other) → one ≡ other
+pub RefusesBy-line : (X : Type 0) (refusal : Option Refusal) (one other : List ℕ) → RefusesBy {X = X} refusal (Err one) → RefusesBy {X = X} refusal (Err other) → one ≡ other
 RefusesBy-line X (Some refusal) one other r s = same_line {X = X} one other (r ∙ sym s)
 RefusesBy-line X None one other r s = absurd r
 
@@ -105,7 +103,7 @@ ReadsReading-line : (word : List ℕ) (reading : Result TraceText TraceFault) (o
 ReadsReading-line word (Ok trace) one other p q = absurd p
 ReadsReading-line word (Err fault) one other p q = RefusesBy-line Survey (refusal_of_trace word fault) one other p q
 
-ReadsTrace-once : (word : List ℕ) → ReadsOnce (ReadsTrace word)
+pub ReadsTrace-once : (word : List ℕ) → ReadsOnce (ReadsTrace word)
 ReadsTrace-once word = record {
   same = λ bytes x y p q. ReadsReading-same word (trace_of bytes) x y p q;
   apart = λ bytes x line p q. ReadsReading-apart word (trace_of bytes) x line p q;
@@ -117,7 +115,7 @@ ReportsEnd-one path ends.Whole a b x y = absurd x
 ReportsEnd-one path ends.Pending a b x y = x ∙ sym y
 ReportsEnd-one path (ends.Unclosed k) a b x y = x ∙ sym y
 
-Reports-one : (heads : List Head) (found : Result Counts SurveyFault) (a b : Answer) → Reports heads found a → Reports heads found b → a ≡ b
+pub Reports-one : (heads : List Head) (found : Result Counts SurveyFault) (a b : Answer) → Reports heads found a → Reports heads found b → a ≡ b
 Reports-one heads (Ok counts) a b x y = x ∙ sym y
 Reports-one heads (Err (faults.Offence cycle stream rule)) a b x y = x ∙ sym y
 Reports-one heads (Err (faults.Unfinished stream end)) a b x y = ReportsEnd-one (path_of_stream heads stream) end a b x y
@@ -131,7 +129,7 @@ same_tree text tokens a b utf8 lexed x y =
     record { utf8 = utf8; tokens = tokens; lexed = lexed; spelled = spelled } in
     trees_apart text a b (tree a x) (tree b y)
 
-same_ok : (a b : Ast) → ◌≡◌ {A = Result Ast (List ℕ)} (Ok a) (Ok b) → a ≡ b
+pub same_ok : (a b : Ast) → ◌≡◌ {A = Result Ast (List ℕ)} (Ok a) (Ok b) → a ≡ b
 same_ok a b e = cc
 
 not_both : (a : Ast) (line : List ℕ) → ◌≡◌ {A = Result Ast (List ℕ)} (Ok a) (Err line) → ⊥
@@ -175,19 +173,9 @@ ReadsCoded-lines : (word bytes : List ℕ) (coded : Bool) (one other : List ℕ)
 ReadsCoded-lines word bytes true one other is p q = ReadsTokens-lines word bytes (tokens_of bytes) one other is refl p q
 ReadsCoded-lines word bytes false one other is p q = same_line {X = Ast} one other (p ∙ sym q)
 
-ReadsProject-once : (word : List ℕ) → ReadsOnce (ReadsProject word)
+pub ReadsProject-once : (word : List ℕ) → ReadsOnce (ReadsProject word)
 ReadsProject-once word = record {
   same = λ bytes a b p q. ReadsCoded-same word bytes (is_utf8 bytes) a b refl p q;
   apart = λ bytes a line p q. ReadsCoded-apart word bytes (is_utf8 bytes) a line p q;
   lines = λ bytes one other p q. ReadsCoded-lines word bytes (is_utf8 bytes) one other refl p q;
 }
-
--- ---- the commands
-
-asks_once : (request : Request) → AsksOnce (ask_of request)
-asks_once (Check trace) = (ReadsTrace-once trace, λ bytes survey reads a b p q. Reports-one survey.heads survey.found a b p q)
-asks_once (Read project) = (ReadsProject-once project, λ bytes ast reads a b p q. p ∙ sym q)
-
--- one answer
-pub SaysBy-request : (told : Files) (request : Request) (a b : Answer) → SaysBy (Some told) (ask_of request) a → SaysBy (Some told) (ask_of request) b → a ≡ b
-SaysBy-request told request a b p q = SaysBy-one told (ask_of request) a b (asks_once request) p q

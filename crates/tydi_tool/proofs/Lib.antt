@@ -1,10 +1,12 @@
 pub mod AnswerLemmas
 pub mod AskLemmas
+pub mod CommandLemmas
 pub mod DeliveryLemmas
 pub mod FaultLemmas
 pub mod FileLemmas
 pub mod FirstOfAll
 pub mod LoadingLemmas
+pub mod PortLemmas
 pub mod ReadingLemmas
 pub mod RefusalLemmas
 pub mod ReportLemmas

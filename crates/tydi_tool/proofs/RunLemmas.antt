@@ -7,14 +7,14 @@ use Rattle.tydi_tool.specs.declared.answer.Reply.{Reply}
 use Rattle.tydi_tool.specs.declared.answer.Reply.TheVariants as replies
 use Rattle.tydi_tool.specs.declared.status.Status.{Status}
 use Rattle.tydi_tool.specs.declared.status.Status.TheVariants as statuses
-use Rattle.tydi_tool.specs.Words.{Request, Check, Read, FileWord, file_words}
+use Rattle.tydi_tool.specs.Words.{Request, Check, Read, Split, FileWord, file_words}
 use Rattle.tydi_tool.specs.Outcome.{out_of_answer, out_of, err_of, status_of, usage_line, memory_line, write_fault_line}
 use Rattle.tydi_tool.specs.Delivery.{Adds, AddsFront, TakesLine, IsLined, IsCut, IsWritten, OutFails, OutWants, Delivers}
 use Rattle.tydi_tool.specs.Ask.{AsksFor, AsksSome, Decides}
 use Rattle.tydi_tool.specs.Commands.{ask_of, Says}
 use Rattle.tydi_tool.specs.Started.{IsPulledOut, IsGivenOne, NamesStarted, StartsWithin, Leaves}
-use Rattle.tydi_tool.specs.Run.{Runs, EndsAsked, EndsUnasked, EndsInAnswer, IsAnswered, IsComplete, ReportsRead, OutFront, IsRefusal, IsLine, ErrFront, StartedAtEnd}
-use Rattle.tydi_tool.proofs.AnswerLemmas.{SaysBy-request}
+use Rattle.tydi_tool.specs.Run.{Runs, EndsAsked, EndsUnasked, EndsInAnswer, IsAnswered, IsComplete, ReportsRead, OutFront, IsRefusal, IsLine, ErrFront, LeavesOut, LeavesErr, StartedAtEnd}
+use Rattle.tydi_tool.proofs.CommandLemmas.{SaysBy-request}
 use Rattle.tydi_tool.proofs.AskLemmas.{SaysBy-decided}
 use Rattle.tydi_tool.proofs.DeliveryLemmas.{AddsFront-all}
 use Rattle.tydi_tool.proofs.FileLemmas.{IsGiven-pulled_out}
@@ -24,10 +24,12 @@ use Rattle.tydi_tool.proofs.StartedLemmas.{Leaves-decided}
 asks_for : (request : Request) → AsksFor (file_words request) (ask_of request)
 asks_for (Check trace) = (refl, λ x. tt)
 asks_for (Read project) = (refl, λ x. tt)
+asks_for (Split project port) = (refl, λ x. tt)
 
 asks_some : (request : Request) → AsksSome (ask_of request)
 asks_some (Check trace) = tt
 asks_some (Read project) = tt
+asks_some (Split project port) = tt
 
 -- ---- a run of a command
 
@@ -274,3 +276,49 @@ StartedAtEnd-run (Some known) (Some request) old new rose out_rose err_rose stat
       λ ends. let w = written_of request (Some known) old new rose out_rose err_rose status out_old out_new err_old err_new r.reply r.delivered ends in
           pulled_out_by known request old new rose r.reply left (subst EndsInAnswer w.0 ends),
     )
+
+-- ---- the statuses with which a sink is as before
+
+out_none : (reply : Reply) → LeavesOut (status_of reply) → out_of reply ≡ []
+out_none (replies.Says (answers.Refused line)) leaves = refl
+out_none (replies.Says (answers.Verdict line)) leaves = absurd leaves
+out_none (replies.Says (answers.Done text)) leaves = absurd leaves
+out_none (replies.ReadFault line) leaves = refl
+out_none replies.Memory leaves = absurd leaves
+
+err_none : (reply : Reply) → LeavesErr (status_of reply) → err_of reply ≡ []
+err_none (replies.Says (answers.Refused line)) leaves = absurd leaves
+err_none (replies.Says (answers.Verdict line)) leaves = refl
+err_none (replies.Says (answers.Done text)) leaves = refl
+err_none (replies.ReadFault line) leaves = absurd leaves
+err_none replies.Memory leaves = absurd leaves
+
+module _ (told : Option Files) (old new : Option (List ℕ × ℕ)) (rose out_rose err_rose : Type 0) (status : Status) (out_old out_new err_old err_new : Option (List ℕ)) where
+  -- a status with which a property does not go that a line's own status and WriteFault lack
+  lined : (Leaves : Status → Type 0) (wanted : Status) (line : List ℕ) → (Leaves wanted → ⊥) → (Leaves statuses.WriteFault → ⊥) →
+      TakesLine err_rose status wanted err_old err_new line → Leaves status → ⊥
+  lined Leaves wanted line own fault takes leaves =
+      ⊎_elim (λ (l : IsLined status wanted err_old err_new line). own (subst Leaves l.ends leaves))
+      (λ (c : IsCut err_rose status err_old err_new line). fault (subst Leaves c.ends leaves)) takes
+
+  out_reply : (reply : Reply) → Delivers out_rose err_rose reply status out_old out_new err_old err_new → LeavesOut status → Adds out_old out_new []
+  out_reply reply (inl w) leaves =
+      ⊎_elim (λ (l : IsLined status (status_of reply) err_old err_new (err_of reply)). subst (λ (bytes : List ℕ). Adds out_old out_new bytes) (out_none reply (subst LeavesOut l.ends leaves)) w.out)
+      (λ (c : IsCut err_rose status err_old err_new (err_of reply)). absurd (subst LeavesOut c.ends leaves)) w.err
+  out_reply reply (inr (inl f)) leaves = absurd (subst LeavesOut f.ends leaves)
+  out_reply reply (inr (inr m)) leaves = absurd (lined LeavesOut statuses.Memory memory_line (λ h. h) (λ h. h) m.err leaves)
+
+  err_reply : (reply : Reply) → Delivers out_rose err_rose reply status out_old out_new err_old err_new → LeavesErr status → Adds err_old err_new []
+  err_reply reply (inl w) leaves =
+      ⊎_elim (λ (l : IsLined status (status_of reply) err_old err_new (err_of reply)). subst (λ (bytes : List ℕ). Adds err_old err_new bytes) (err_none reply (subst LeavesErr l.ends leaves)) l.err)
+      (λ (c : IsCut err_rose status err_old err_new (err_of reply)). absurd (subst LeavesErr c.ends leaves)) w.err
+  err_reply reply (inr (inl f)) leaves = absurd (subst LeavesErr f.ends leaves)
+  err_reply reply (inr (inr m)) leaves = absurd (lined LeavesErr statuses.Memory memory_line (λ h. h) (λ h. h) m.err leaves)
+
+  pub LeavesOut-run : (request : Option Request) → Runs rose out_rose err_rose request told old new status out_old out_new err_old err_new → LeavesOut status → Adds out_old out_new []
+  LeavesOut-run None r leaves = r.out
+  LeavesOut-run (Some request) r leaves = out_reply r.reply r.delivered leaves
+
+  pub LeavesErr-run : (request : Option Request) → Runs rose out_rose err_rose request told old new status out_old out_new err_old err_new → LeavesErr status → Adds err_old err_new []
+  LeavesErr-run None r leaves = absurd (lined LeavesErr statuses.Usage usage_line (λ h. h) (λ h. h) r.err leaves)
+  LeavesErr-run (Some request) r leaves = err_reply r.reply r.delivered leaves

@@ -1,4 +1,4 @@
--- To given words and files there is an answer.
+-- Whatever a command asks for, its files are read, and there is an answer.
 use Rattle.std.proofs.Common.{◌≡◌, ℕ, ◌<◌, List, [], ◌∷◌, length, get_or, Option, Some, option_map, codes, sym, ap, ◌∙◌, subst, refl, inl, inr, ⊎_elim, Bool, true, false, Result, Ok, Err, arith}
 use Rattle.std.proofs.lemmas.Option.{slice_get-get_or}
 use Rattle.std.proofs.lemmas.Str.{IsUtf8-from_is_utf8}
@@ -20,7 +20,6 @@ use Rattle.til_lexer.specs.Tokens.{tokens_of}
 use Rattle.til_lexer.specs.declared.fault.LexFault.{LexFault}
 use Rattle.til_lexer.specs.declared.fault.LexFault.TheVariants as lexing
 use Rattle.til_lexer.specs.declared.token.Token.{Token}
-use Rattle.til_parser.specs.Canonical.{canonical}
 use Rattle.til_parser.specs.Faults.{NamesToken, IsFaultOf}
 use Rattle.til_parser.specs.Lexemes.{lexemes_of}
 use Rattle.til_parser.specs.declared.fault.ParseFault.{ParseFault}
@@ -29,7 +28,7 @@ use Rattle.til_parser.specs.declared.tree.Ast.{Ast}
 use Rattle.tydi_tool.specs.declared.answer.Answer.{Answer}
 use Rattle.tydi_tool.specs.declared.answer.Answer.TheVariants as answers
 use Rattle.tydi_tool.specs.declared.traces.Survey.{Survey}
-use Rattle.tydi_tool.specs.Words.{Request, Check, Read, FileWord}
+use Rattle.tydi_tool.specs.Words.{FileWord}
 use Rattle.til_parser.proofs.LawLemmas.{trees_or_faults, names_token}
 use Rattle.tydi_tool.specs.Refusals.{At, of_file_with, refusal_line, refusal_of_trace, refusal_of_lexing}
 use Rattle.tydi_tool.specs.Reading.{RefusesBy}
@@ -38,16 +37,13 @@ use Rattle.tydi_tool.specs.Traces.{ReadsReading}
 use Rattle.tydi_tool.specs.Projects.{ReadsTokens, ReadsCoded, place_of, refusal_of_parsing}
 use Rattle.tydi_tool.specs.Files.{Lack, lack_line, file_of}
 use Rattle.tydi_tool.specs.Ask.{Ask, Ends, Asks, SaysBy}
-use Rattle.tydi_tool.specs.Commands.{ask_of}
-use Rattle.tydi_tool.specs.Outcome.{output_answer}
 use Rattle.tydi_tool.specs.Laws.{HasSome, AsksAlways}
 use Rattle.tydi_tool.proofs.FaultLemmas.{trace_free, tokens_free}
 use Rattle.tydi_tool.proofs.FirstOfAll.{first_of_all}
-use Rattle.tydi_tool.proofs.ReadingLemmas.{IsFoundAmong-read}
 
 -- ---- whatever a command asks for
 
-SaysBy-some : (told : Files) (ask : Ask) → AsksAlways ask → HasSome Answer (SaysBy (Some told) ask)
+pub SaysBy-some : (told : Files) (ask : Ask) → AsksAlways ask → HasSome Answer (SaysBy (Some told) ask)
 SaysBy-some told (Ends Tells) always = always
 SaysBy-some told (Asks file X Reads next) always =
     let rest : (bytes : List ℕ) (x : X) → Reads bytes (Ok x) → HasSome Answer (SaysBy (Some told) (next x)) = λ bytes x reads. SaysBy-some told (next x) (always.1 bytes x reads) in
@@ -76,7 +72,7 @@ RefusesBy-trace word (reading.RowsMissing want got) some = (_, refl)
 RefusesBy-trace word (reading.RowsLeft line) some = (_, refl)
 RefusesBy-trace word reading.Memory some = absurd (some refl)
 
-ReadsReading-some : (word text : List ℕ) (read : Result TraceText TraceFault) → trace_of text ≡ read → HasSome (Result Survey (List ℕ)) (ReadsReading word read)
+pub ReadsReading-some : (word text : List ℕ) (read : Result TraceText TraceFault) → trace_of text ≡ read → HasSome (Result Survey (List ℕ)) (ReadsReading word read)
 ReadsReading-some word text (Ok trace) is = λ none. first_of_all (Offends (streams_of trace)) (λ first is_first.
     none (Ok (record { heads = trace.heads; found = survey_of first (first_unfinished 0 (streams_of trace)) (counts_of (streams_of trace)) })) (record { heads = refl; found = record { first = first; is_first = is_first; says = refl } }))
 ReadsReading-some word text (Err fault) is = λ none.
@@ -87,7 +83,7 @@ ReportsEnd-some path ends.Whole is = absurd is
 ReportsEnd-some path ends.Pending is = (_, refl)
 ReportsEnd-some path (ends.Unclosed k) is = (_, refl)
 
-Reports-some : (heads : List Head) (found : Result Counts SurveyFault) → IsFoundAmong (length heads) found → (a : Answer) × Reports heads found a
+pub Reports-some : (heads : List Head) (found : Result Counts SurveyFault) → IsFoundAmong (length heads) found → (a : Answer) × Reports heads found a
 Reports-some heads (Ok counts) among = (_, refl)
 Reports-some heads (Err (faults.Offence cycle stream rule)) among = (_, refl)
 Reports-some heads (Err (faults.Unfinished stream end)) among = ReportsEnd-some (path_of_stream heads stream) end among.1
@@ -137,19 +133,6 @@ ReadsTokens-some word text (Ok tokens) utf8 is = λ none.
 ReadsTokens-some word text (Err fault) utf8 is = λ none.
     let refused = RefusesBy-lexing word fault (λ same. tokens_free text (is ∙ ap Err same)) in none (Err refused.0) refused.1
 
-ReadsCoded-some : (word bytes : List ℕ) (coded : Bool) → is_utf8 bytes ≡ coded → HasSome (Result Ast (List ℕ)) (ReadsCoded word bytes coded)
+pub ReadsCoded-some : (word bytes : List ℕ) (coded : Bool) → is_utf8 bytes ≡ coded → HasSome (Result Ast (List ℕ)) (ReadsCoded word bytes coded)
 ReadsCoded-some word bytes true is = ReadsTokens-some word bytes (tokens_of bytes) is refl
 ReadsCoded-some word bytes false is = λ none. none (Err _) refl
-
--- ---- the commands
-
-asks_always : (request : Request) → AsksAlways (ask_of request)
-asks_always (Check trace) = (
-  λ bytes. ReadsReading-some trace bytes (trace_of bytes) refl,
-  λ bytes survey reads none. let a = Reports-some survey.heads survey.found (IsFoundAmong-read trace bytes survey reads) in none a.0 a.1,
-)
-asks_always (Read project) = (λ bytes. ReadsCoded-some project bytes (is_utf8 bytes) refl, λ bytes ast reads none. none (output_answer (canonical ast)) refl)
-
--- some answer
-pub SaysBy-request-some : (told : Files) (request : Request) → HasSome Answer (SaysBy (Some told) (ask_of request))
-SaysBy-request-some told request = SaysBy-some told (ask_of request) (asks_always request)

@@ -6,8 +6,9 @@ use Rattle.til_parser.specs.Canonical.{canonical}
 use Rattle.til_parser.specs.declared.tree.Ast.{Ast}
 use Rattle.tydi_tool.specs.declared.answer.Answer.{Answer}
 use Rattle.tydi_tool.specs.declared.traces.Survey.{Survey}
-use Rattle.tydi_tool.specs.Words.{Request, Check, Read, trace_file, project_file}
+use Rattle.tydi_tool.specs.Words.{Request, Check, Read, Split, trace_file, project_file}
 use Rattle.tydi_tool.specs.Outcome.{output_answer}
+use Rattle.tydi_tool.specs.Ports.{ReadsSplit}
 use Rattle.tydi_tool.specs.Projects.{ReadsProject}
 use Rattle.tydi_tool.specs.Reports.{Reports}
 use Rattle.tydi_tool.specs.Traces.{ReadsTrace}
@@ -21,9 +22,14 @@ check_ask trace = Asks (trace_file trace) Survey (ReadsTrace trace) (λ survey. 
 abbrev pub read_ask : List ℕ → Ask
 read_ask project = Asks (project_file project) Ast (ReadsProject project) (λ ast. Ends (λ a. a ≡ output_answer (canonical ast)))
 
+-- `split PROJECT PORT`: the physical streams of the port
+abbrev pub split_ask : (project port : List ℕ) → Ask
+split_ask project port = Asks (project_file project) Answer (ReadsSplit project port) (λ answer. Ends (λ a. a ≡ answer))
+
 abbrev pub ask_of : Request → Ask
 ask_of (Check trace) = check_ask trace
 ask_of (Read project) = read_ask project
+ask_of (Split project port) = split_ask project port
 
 -- what is said: nothing where the words spell no command
 abbrev pub Says : Option Files → Option Request → Answer → Type 0

@@ -16,3 +16,4 @@ pub mod Started
 pub mod TraceFiles
 pub mod Traces
 pub mod Words
+pub mod Ports

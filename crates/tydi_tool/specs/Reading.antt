@@ -10,6 +10,11 @@ abbrev pub RefusesBy : {X : Type 0} → Option Refusal → Result X (List ℕ) �
 RefusesBy (Some refusal) read = read ≡ Err (refusal_line refusal)
 RefusesBy None read = ⊥
 
+-- bytes are read as a y by way of an x: they are read as an x, of which a step makes a y, or the one or the other refuses them
+abbrev pub ReadsBy : {X Y : Type 0} → (List ℕ → Result X (List ℕ) → Type 0) → (X → Result Y (List ℕ) → Type 0) → List ℕ → Result Y (List ℕ) → Type 0
+ReadsBy {X} Reads Step bytes (Ok y) = (x : X) × (Reads bytes (Ok x) × Step x (Ok y))
+ReadsBy {X} Reads Step bytes (Err line) = Reads bytes (Err line) ⊎ ((x : X) × (Reads bytes (Ok x) × Step x (Err line)))
+
 -- what a reader gives of bytes: what they are read as, or the reply, which has the line that refuses them or is want of memory
 abbrev pub ReadsAs : {X : Type 0} → (Result X (List ℕ) → Type 0) → Result X Reply → Type 0
 ReadsAs Reads (Ok x) = Reads (Ok x)

@@ -7,6 +7,10 @@ use Rattle.cycle_trace.specs.declared.fault.TraceFault.{TraceFault}
 use Rattle.cycle_trace.specs.declared.fault.TraceFault.TheVariants as faults
 use Rattle.til_lexer.specs.declared.fault.LexFault.{LexFault}
 use Rattle.til_lexer.specs.declared.fault.LexFault.TheVariants as lexing
+use Rattle.logical_types.specs.declared.fault.TypeFault.{TypeFault}
+use Rattle.logical_types.specs.declared.fault.TypeFault.TheVariants as typing
+use Rattle.til_resolve.specs.declared.fault.ResolveFault.{ResolveFault}
+use Rattle.til_resolve.specs.declared.fault.ResolveFault.TheVariants as resolving
 use Rattle.tydi_tool.specs.declared.refusal.Detail.{Detail}
 use Rattle.tydi_tool.specs.declared.refusal.Detail.TheVariants as details
 
@@ -78,3 +82,35 @@ refusal_of_lexing word (lexing.NameNotAscii place) = Some (of_file_with (codes "
 refusal_of_lexing word (lexing.BadName place) = Some (of_file_with (codes "BadName") word (At place))
 refusal_of_lexing word (lexing.NumberTooLong place) = Some (of_file_with (codes "NumberTooLong") word (At place))
 refusal_of_lexing word lexing.Memory = None
+
+-- the name of a fault of a type
+abbrev pub type_fault_name : TypeFault → List ℕ
+type_fault_name typing.ZeroBits = codes "ZeroBits"
+type_fault_name typing.ElementTooWide = codes "ElementTooWide"
+type_fault_name typing.BadThroughput = codes "BadThroughput"
+type_fault_name typing.TooManyLanes = codes "TooManyLanes"
+type_fault_name typing.TooManyDims = codes "TooManyDims"
+type_fault_name typing.UserHasStream = codes "UserHasStream"
+type_fault_name typing.NameTwice = codes "NameTwice"
+type_fault_name typing.EmptyUnion = codes "EmptyUnion"
+
+-- the refusal of a project of this word whose tree has this fault; want of memory is none
+abbrev pub refusal_of_resolving : List ℕ → ResolveFault → Option Refusal
+refusal_of_resolving word (resolving.DeclaredTwice place) = Some (of_file_with (codes "DeclaredTwice") word (At place))
+refusal_of_resolving word (resolving.UnknownName place) = Some (of_file_with (codes "UnknownName") word (At place))
+refusal_of_resolving word (resolving.WrongKind place) = Some (of_file_with (codes "WrongKind") word (At place))
+refusal_of_resolving word (resolving.CyclicType place) = Some (of_file_with (codes "CyclicType") word (At place))
+refusal_of_resolving word (resolving.TypeTooLarge place) = Some (of_file_with (codes "TypeTooLarge") word (At place))
+refusal_of_resolving word (resolving.BadType place fault) =
+    Some (record { name = codes "BadType"; details = Word word ∷ At place ∷ Name (type_fault_name fault) ∷ [] })
+refusal_of_resolving word (resolving.PortNotStream place) = Some (of_file_with (codes "PortNotStream") word (At place))
+refusal_of_resolving word (resolving.CyclicInstance place) = Some (of_file_with (codes "CyclicInstance") word (At place))
+refusal_of_resolving word resolving.Memory = None
+
+-- the refusal of a word that names no port
+abbrev pub no_port : List ℕ → Refusal
+no_port port = of_file (codes "NoPort") port
+
+-- the refusal of a port of which two physical streams have this path
+abbrev pub name_clash : List (List ℕ) → Refusal
+name_clash path = record { name = codes "NameClash"; details = Stream path ∷ [] }

@@ -1,5 +1,5 @@
 -- The commands that words spell (this project's own).
-use Rattle.std.specs.Prelude.{ℕ, ◌*◌, ◌^◌, Bool, false, not, ◌==◌, if◌then◌else◌, List, [], ◌∷◌, Option, Some, None, codes, IsTrue}
+use Rattle.std.specs.Prelude.{ℕ, ◌*◌, ◌^◌, Bool, false, not, ◌==◌, ◌&&◌, if◌then◌else◌, List, [], ◌∷◌, Option, Some, None, codes, IsTrue}
 use Rattle.std.specs.List.{AllByRecursion}
 use Rattle.std.specs.Str.{bytes_eq}
 use Rattle.tydi_tool.specs.declared.words.Command.{Command}
@@ -9,10 +9,12 @@ use Rattle.tydi_tool.specs.declared.words.Command.TheVariants as commands
 pub data Request : Type 0 where
   Check : List ℕ → Request
   Read : List ℕ → Request
+  Split : List ℕ → List ℕ → Request
 
 abbrev pub request_from : Command → Request
 request_from (commands.Check trace) = Check trace.now
 request_from (commands.Read project) = Read project.now
+request_from (commands.Split project port) = Split project.now port.now
 
 -- a word that is not empty and does not begin with `-`
 abbrev pub is_word : List ℕ → Bool
@@ -29,13 +31,19 @@ abbrev pub read_request : List (List ℕ) → Option Request
 read_request (project ∷ []) = if is_word project then Some (Read project) else None
 read_request words = None
 
+-- `split PROJECT PORT`
+abbrev pub split_request : List (List ℕ) → Option Request
+split_request (project ∷ port ∷ []) = if is_word project && is_word port then Some (Split project port) else None
+split_request words = None
+
 -- the command that the words spell: the command's own word, and then exactly its words
 abbrev pub request_of : List (List ℕ) → Option Request
 request_of [] = None
 request_of (command ∷ words) =
     if bytes_eq command (codes "check") then check_request words
     else (if bytes_eq command (codes "read") then read_request words
-    else None)
+    else (if bytes_eq command (codes "split") then split_request words
+    else None))
 
 -- a file that a command names, and the most bytes that it may have
 pub record FileWord : Type 0 where
@@ -60,6 +68,7 @@ project_file word = record { word = word; limit = project_limit }
 abbrev pub file_words : Request → List FileWord
 file_words (Check trace) = trace_file trace ∷ []
 file_words (Read project) = project_file project ∷ []
+file_words (Split project port) = project_file project ∷ []
 
 -- the store may start each file of the command
 abbrev pub Allows : (List ℕ → Bool) → Option Request → Type 0

@@ -5,7 +5,7 @@ ghost use Rattle.std.specs.List.{AllByRecursion};
 ghost use Rattle.til_parser.specs.Canonical.{canonical};
 ghost use Rattle.tydi_io.specs.Faults.{Rose};
 ghost use Rattle.tydi_tool.specs.Ask.{Decides, Judges};
-ghost use Rattle.tydi_tool.specs.Commands.{ask_of, check_ask, read_ask};
+ghost use Rattle.tydi_tool.specs.Commands.{ask_of, check_ask, read_ask, split_ask};
 ghost use Rattle.tydi_tool.specs.Outcome.{output_answer};
 ghost use Rattle.tydi_tool.specs.TraceFiles.{IsNew};
 ghost use Rattle.tydi_tool.specs.Words.{request_from, file_words};
@@ -13,6 +13,7 @@ ghost use Rattle.tydi_tool.specs.Words.{request_from, file_words};
 use crate::answer::Reply;
 use crate::asking::{ask, ask_text};
 use crate::ending::answered;
+use crate::ports::PortText;
 use crate::projects::ProjectText;
 use crate::reports::report;
 use crate::traces::TraceFile;
@@ -37,6 +38,7 @@ pub(crate) fn reply_to<S: Store>(alloc: Global, command: Command<'_>, store: &mu
     match command {
         Command::Check { trace } => check(alloc, trace, store),
         Command::Read { project } => read(alloc, project, store),
+        Command::Split { project, port } => split(alloc, project, port, store),
     }
 }
 
@@ -83,4 +85,20 @@ fn canonical_text(alloc: Global, ast: &Ast) -> Reply
     ensures { Judges (λ a. a ≡ output_answer (canonical ast.now)) result }
 {
     answered(alloc, print(alloc, ast))
+}
+
+/// `split PROJECT PORT`.
+fn split<S: Store>(alloc: Global, project: &Text, port: &Text, store: &mut S) -> Reply
+    requires { IsTrue (S.allowed store.old project.now) }
+    ensures decided { Decides (S.files store.old) (S.started store.old) (S.started store.new) (Rose (S.faults store.old) (S.faults store.new))
+        (split_ask project.now port.now) result }
+{
+    let text = PortText {
+        project: ProjectText { word: project },
+        port,
+    };
+    match ask_text(alloc, store, project, PROJECT_LIMIT, text) {
+        Ok(answer) => Reply::Says(answer),
+        Err(reply) => reply,
+    }
 }

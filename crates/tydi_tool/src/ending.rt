@@ -1,7 +1,8 @@
 //! How a command ends: with a verdict, or with a text.
 
-ghost use Rattle.std.specs.Prelude.{◌≡◌, ◌⊎◌, Ok, Err, MatchResult};
-ghost use Rattle.tydi_tool.specs.Outcome.{output_answer};
+ghost use Rattle.std.specs.Prelude.{◌≡◌, ◌⊎◌, ℕ, List, Ok, Err, MatchResult};
+ghost use Rattle.split_text.specs.Text.{IsUpTo};
+ghost use Rattle.tydi_tool.specs.Outcome.{output_answer, output_limit};
 ghost use Rattle.tydi_tool.specs.declared.answer.Answer.TheVariants as answers;
 ghost use Rattle.tydi_tool.specs.declared.answer.Reply.TheVariants as replies;
 
@@ -12,7 +13,7 @@ use std::alloc::Global;
 use tydi_base::{List, Memory};
 
 /// The most bytes that an answer gives to out: 64 MiB.
-const OUTPUT_LIMIT: u64 = 67_108_864;
+pub(crate) const OUTPUT_LIMIT: u64 = 67_108_864;
 
 /// A line as the verdict, or want of memory.
 pub(crate) fn verdict(line: Result<List<u8>, Memory>) -> Reply
@@ -32,6 +33,13 @@ pub(crate) fn answered(alloc: Global, text: Result<List<u8>, Memory>) -> Reply
         Ok(text) => output(alloc, Output::whole(text)),
         Err(Memory) => Reply::Memory,
     }
+}
+
+/// A text as the answer, by a front that is all of it or already too long, or want of memory.
+pub(crate) fn answered_front(alloc: Global, front: List<u8>) -> Reply
+    ensures { (text : List ℕ) → IsUpTo output_limit text front → (result ≡ replies.Says (output_answer text)) ⊎ (result ≡ replies.Memory) }
+{
+    output(alloc, Output::whole(front))
 }
 
 /// A text as the answer, where it is not too long.

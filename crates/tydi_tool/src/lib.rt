@@ -11,6 +11,7 @@ mod gather;
 mod laws;
 mod loading;
 mod output;
+mod ports;
 mod projects;
 mod reader;
 mod refusal;

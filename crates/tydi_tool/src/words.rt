@@ -1,5 +1,5 @@
 ghost use Rattle.std.specs.Prelude.{◌≡◌, option_map};
-ghost use Rattle.tydi_tool.specs.Words.{request_of, request_from, is_word, check_request, read_request};
+ghost use Rattle.tydi_tool.specs.Words.{request_of, request_from, is_word, check_request, read_request, split_request};
 
 use tydi_base::Text;
 
@@ -15,6 +15,13 @@ pub enum Command<'a> {
         /// The file of the project.
         project: &'a Text,
     },
+    /// Write the physical streams of a port.
+    Split {
+        /// The file of the project.
+        project: &'a Text,
+        /// The port, as `a::b::s.p`.
+        port: &'a Text,
+    },
 }
 
 /// The command that the words after the program's name spell. None exactly where they spell none. It takes no memory.
@@ -26,6 +33,8 @@ pub fn words_of<'a>(words: &'a [Text]) -> Option<Command<'a>>
         check_of(rest)
     } else if command.as_str() == "read" {
         read_of(rest)
+    } else if command.as_str() == "split" {
+        split_of(rest)
     } else {
         None
     }
@@ -45,6 +54,17 @@ fn read_of<'a>(words: &'a [Text]) -> Option<Command<'a>>
 {
     match words {
         [project] if is_word(project) => Some(Command::Read { project }),
+        _ => None,
+    }
+}
+
+fn split_of<'a>(words: &'a [Text]) -> Option<Command<'a>>
+    ensures { option_map request_from result ≡ split_request words.now }
+{
+    match words {
+        [project, port] if is_word(project) && is_word(port) => {
+            Some(Command::Split { project, port })
+        }
         _ => None,
     }
 }

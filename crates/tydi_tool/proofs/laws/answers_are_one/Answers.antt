@@ -1,5 +1,4 @@
-use Rattle.tydi_tool.proofs.AnswerLemmas.{SaysBy-request}
-use Rattle.tydi_tool.proofs.SomeLemmas.{SaysBy-request-some}
+use Rattle.tydi_tool.proofs.CommandLemmas.{SaysBy-request, SaysBy-request-some}
 use Rattle.tydi_tool.proofs.laws.answers_are_one.Goals as goal
 
 pub returns-clause-one : goal.returns-clause-one

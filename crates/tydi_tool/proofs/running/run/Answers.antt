@@ -1,4 +1,4 @@
-use Rattle.tydi_tool.proofs.RunLemmas.{IsAnswered-run, IsComplete-run, ReportsRead-run, OutFront-run, Refusal-run, ErrFront-run, StartedAtEnd-run}
+use Rattle.tydi_tool.proofs.RunLemmas.{IsAnswered-run, IsComplete-run, ReportsRead-run, OutFront-run, LeavesOut-run, Refusal-run, ErrFront-run, LeavesErr-run, StartedAtEnd-run}
 use Rattle.tydi_tool.proofs.running.run.Goals as goal
 
 pub returns-clause-read_fault_line : goal.returns-clause-read_fault_line
@@ -13,11 +13,17 @@ returns-clause-complete g c = IsComplete-run _ _ _ _ _ _ _ _ _ _ _ _ c.run_words
 pub returns-clause-out_front : goal.returns-clause-out_front
 returns-clause-out_front g c = OutFront-run _ _ _ _ _ _ _ _ _ _ _ _ c.run_words.ensures
 
+pub returns-clause-out_left : goal.returns-clause-out_left
+returns-clause-out_left g c = LeavesOut-run _ _ _ _ _ _ _ _ _ _ _ _ c.run_words.ensures
+
 pub returns-clause-refusal_left : goal.returns-clause-refusal_left
 returns-clause-refusal_left g c = Refusal-run _ _ _ _ _ _ _ _ _ _ _ _ c.run_words.ensures
 
 pub returns-clause-err_front : goal.returns-clause-err_front
 returns-clause-err_front g c = ErrFront-run _ _ _ _ _ _ _ _ _ _ _ _ c.run_words.ensures
+
+pub returns-clause-err_left : goal.returns-clause-err_left
+returns-clause-err_left g c = LeavesErr-run _ _ _ _ _ _ _ _ _ _ _ _ c.run_words.ensures
 
 pub returns-clause-started : goal.returns-clause-started
 returns-clause-started g c = StartedAtEnd-run _ _ _ _ _ _ _ _ _ _ _ _ c.run_words.ensures
