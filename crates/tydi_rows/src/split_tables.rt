@@ -3,7 +3,7 @@
 /// Ports, each with its physical streams, or why it has none.
 pub(crate) const SPLITS: &str = "\
 # a stream without bits is left out
-$ split p n::s.p
+$ split t n::s.p
 ~ namespace n { type t = Stream(data: Group(b: Stream(data: Bits(8), dimensionality: 1, synchronicity: Flatten, complexity: 1)), dimensionality: 1, complexity: 1); streamlet s = (p: in t); }
 > stream b lanes 1 dims 1 level 1 element 8 user 0 forward
 >   root -
@@ -15,7 +15,7 @@ $ split p n::s.p
 >   field - 0 8
 = 0
 # and kept where that is asked
-$ split p n::s.p
+$ split t n::s.p
 ~ namespace n { type t = Stream(data: Group(b: Stream(data: Bits(8), dimensionality: 1, synchronicity: Flatten, complexity: 1)), dimensionality: 1, complexity: 1, keep: true); streamlet s = (p: in t); }
 > stream - lanes 1 dims 1 level 1 element 0 user 0 forward
 >   root -
@@ -33,7 +33,7 @@ $ split p n::s.p
 >   field - 0 8
 = 0
 # lanes are the product, rounded up
-$ split p n::s.p
+$ split t n::s.p
 ~ namespace n { type t = Stream(data: Group(a: Bits(1), b: Stream(data: Bits(1), throughput: 3.0)), throughput: 1.5); streamlet s = (p: in t); }
 > stream - lanes 2 dims 0 level 4 element 1 user 0 forward
 >   root -
@@ -49,7 +49,7 @@ $ split p n::s.p
 >   field - 0 1
 = 0
 # also below one
-$ split p n::s.p
+$ split t n::s.p
 ~ namespace n { type t = Stream(data: Group(a: Bits(1), b: Stream(data: Bits(1), throughput: 1.0)), throughput: 0.5); streamlet s = (p: in t); }
 > stream - lanes 1 dims 0 level 4 element 1 user 0 forward
 >   root -
@@ -65,7 +65,7 @@ $ split p n::s.p
 >   field - 0 1
 = 0
 # the most lanes
-$ split p n::s.p
+$ split t n::s.p
 ~ namespace n { type t = Stream(data: Bits(1), throughput: 128); streamlet s = (p: in t); }
 > stream - lanes 128 dims 0 level 4 element 1 user 0 forward
 >   root -
@@ -75,12 +75,12 @@ $ split p n::s.p
 >   field - 0 1
 = 0
 # and more
-$ split p n::s.p
+$ split t n::s.p
 ~ namespace n { type t = Stream(data: Bits(1), throughput: 128.5); streamlet s = (p: in t); }
-! tydi: BadType p 1:20 TooManyLanes
+! tydi: BadType t 1:20 TooManyLanes
 = 1
 # a user's project
-$ split p video::top.a
+$ split t video::top.a
 < namespace video {
 <   type rgb = Group(r: Bits(8), g: Bits(8), b: Bits(8));
 <   type frames = Stream(data: rgb, throughput: 2.0,
@@ -107,7 +107,7 @@ $ split p video::top.a
 >   field b 16 8
 = 0
 # a port that goes out
-$ split p video::invert.b
+$ split t video::invert.b
 < namespace video {
 <   type rgb = Group(r: Bits(8), g: Bits(8), b: Bits(8));
 <   type frames = Stream(data: rgb, throughput: 2.0,
@@ -134,17 +134,17 @@ $ split p video::invert.b
 >   field b 16 8
 = 0
 # a type that holds itself
-$ split p n::s.p
+$ split t n::s.p
 ~ namespace n { type t = Group(x: t); streamlet s = (p: in t); }
-! tydi: CyclicType p 1:20
+! tydi: CyclicType t 1:20
 = 1
 # a word that names no port
-$ split p n::s.q
+$ split t n::s.q
 ~ namespace n { type t = Stream(data: Bits(8), complexity: 1); streamlet s = (p: in t); }
 ! tydi: NoPort n::s.q
 = 1
 # a nested stream, reversed, with dimensions and lanes of both
-$ split p n::s.p
+$ split t n::s.p
 ~ namespace n { type t = Stream(data: Group(a: Bits(8), b: Stream(data: Bits(4), throughput: 1.5, dimensionality: 1, complexity: 2, direction: Reverse)), throughput: 3, dimensionality: 2, complexity: 7); streamlet s = (p: in t); }
 > stream - lanes 3 dims 2 level 7 element 8 user 0 forward
 >   root -
@@ -167,12 +167,12 @@ $ split p n::s.p
 >   field - 0 4
 = 0
 # two streams of one path
-$ split p n::s.p
+$ split t n::s.p
 ~ namespace n { type t = Stream(data: Stream(data: Bits(8)), keep: true); streamlet s = (p: in t); }
 ! tydi: NameClash -
 = 1
 # a tower of types
-$ split p n::s.p
+$ split t n::s.p
 < namespace n {
 <   type a0 = Group(x: Null);
 <   type a1 = Group(x: a0, y: a0);
@@ -197,36 +197,36 @@ $ split p n::s.p
 >   ready 1
 = 0
 # an unknown name comes before a fault of its port
-$ split p n::s.p
+$ split t n::s.p
 ~ namespace n { type t = u; streamlet s = (p: in t); }
-! tydi: UnknownName p 1:24
+! tydi: UnknownName t 1:24
 = 1
 # a port that is no Stream
-$ split p n::s.p
+$ split t n::s.p
 ~ namespace n { type t = Bits(8); streamlet s = (p: in t); }
-! tydi: PortNotStream p 1:48
+! tydi: PortNotStream t 1:48
 = 1
 # a word that has not the form of a port
-$ split p n::s
+$ split t n::s
 ~ namespace n { streamlet s = (); }
 ! tydi: NoPort n::s
 = 1
 # nor this one
-$ split p n::s.p.q
+$ split t n::s.p.q
 ~ namespace n { streamlet s = (); }
 ! tydi: NoPort n::s.p.q
 = 1
 # a text that is no project
-$ split p n::s.p
+$ split t n::s.p
 ~ namespace n { type t }
-! tydi: Unexpected p 1:22
+! tydi: Unexpected t 1:22
 = 1
 # a word too few
 $ split p
 ! tydi: Usage
 = 2
 # a word that begins with a dash
-$ split p -
+$ split t -
 ! tydi: Usage
 = 2
 ";
