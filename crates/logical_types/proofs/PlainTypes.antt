@@ -1,12 +1,14 @@
 -- A valid type is plain, and so is each type in a plain one, whatever is around it.
-use Rattle.std.proofs.Common.{◌≡◌, ℕ, Bool, true, false, cond, List, [], ◌∷◌, ◌++◌, filter, refl, sym, ap, ◌∙◌}
+use Rattle.std.proofs.Common.{◌≡◌, ℕ, ◌≤◌, Bool, true, false, cond, List, [], ◌∷◌, ◌++◌, filter, refl, sym, ap, ◌∙◌, arith}
+use Rattle.std.proofs.lemmas.Bool.Decides.{nat_tests}
 use Rattle.std.specs.List.{flat_map}
 use Rattle.std.proofs.lemmas.Grind.{flat_map-append}
 use Rattle.logical_types.specs.declared.fault.TypeFault.{TypeFault}
 use Rattle.logical_types.specs.declared.fault.TypeFault.TheVariants as faults
 use Rattle.logical_types.specs.declared.streams.Around.{Around}
 use Rattle.logical_types.specs.Tree.{Ltype, null, bits, group, union, stream, Parts, no_parts, part, Settings}
-use Rattle.logical_types.specs.Faults.{outermost, inside, TypeNode, nodes, nodes_of_parts, has_fault, all_faults, plain_faults, faults_at, IsValid, IsPlain, ArePlain}
+use Rattle.logical_types.specs.Width.{width_of}
+use Rattle.logical_types.specs.Faults.{outermost, inside, TypeNode, nodes, nodes_of_parts, has_fault, all_faults, is_too_wide, plain_faults, faults_at, faults_within, IsValid, IsPlain, ArePlain}
 
 -- the faults at a node that are not of throughputs, lanes or dimensions
 abbrev plain_at : TypeNode → List TypeFault
@@ -79,6 +81,32 @@ mutual
       ∙ ap (λ (l : List TypeFault). l ++ plain_of_parts one more) (plain_within-any one other ltype)
       ∙ ap (λ (l : List TypeFault). plain_within other ltype ++ l) (plain_of_parts-any one other more)
       ∙ sym (flat_map-append plain_at (nodes other ltype) (nodes_of_parts other more))
+
+-- ---- how wide a plain type is
+
+not_wide : (ltype : Ltype) → is_too_wide ltype ≡ false → width_of ltype ≤ 4096
+not_wide ltype test = grind (arith, nat_tests)
+
+first_narrow : (around : Around) (ltype : Ltype) (rest : List TypeFault) → plain_at (record { around = around; ltype = ltype }) ++ rest ≡ [] → width_of ltype ≤ 4096
+first_narrow around ltype rest empty =
+    let node : TypeNode = record { around = around; ltype = ltype } in
+    let zero_bits = none_of (has_fault node faults.ZeroBits) faults.ZeroBits _ (apart (plain_at node) rest empty).0 in
+    not_wide ltype (none_of (has_fault node faults.ElementTooWide) faults.ElementTooWide _ zero_bits.1).0
+
+narrow_within : (around : Around) (ltype : Ltype) → plain_within around ltype ≡ [] → width_of ltype ≤ 4096
+narrow_within around null plain = first_narrow around null _ plain
+narrow_within around (bits width) plain = first_narrow around (bits width) _ plain
+narrow_within around (group parts) plain = first_narrow around (group parts) _ plain
+narrow_within around (union parts) plain = first_narrow around (union parts) _ plain
+narrow_within around (stream element user settings) plain = first_narrow around (stream element user settings) _ plain
+
+-- an element of a plain type has at most 4,096 bits
+pub width-IsPlain : (ltype : Ltype) → IsPlain ltype → width_of ltype ≤ 4096
+width-IsPlain = narrow_within outermost
+
+-- so has one of a type without faults, whatever is around it
+pub width-valid : (around : Around) (ltype : Ltype) → faults_within around ltype ≡ [] → width_of ltype ≤ 4096
+width-valid around ltype valid = narrow_within around ltype (no_plain_faults (nodes around ltype) valid)
 
 -- ---- the types in a plain type
 

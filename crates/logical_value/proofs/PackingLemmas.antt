@@ -1,5 +1,5 @@
 -- What is written into a word, part after part.
-use Rattle.std.proofs.Common.{◌≡◌, ◌∙◌, ℕ, zero, suc, ◌+◌, ◌-◌, ◌^◌, ◌<◌, ◌≤◌, Bool, false, true, ltb, if◌then◌else◌, Option, None, Some, IsSome, get_or, filter, List, [], ◌∷◌, ◌++◌, length, drop, refl, sym, ap, subst, append_assoc, arith, length-append}
+use Rattle.std.proofs.Common.{◌≡◌, ◌∙◌, ℕ, zero, suc, ◌+◌, ◌-◌, ◌^◌, ◌<◌, ◌≤◌, Bool, false, true, ltb, if◌then◌else◌, Option, None, Some, IsSome, get_or, List, [], ◌∷◌, ◌++◌, length, drop, refl, sym, ap, subst, append_assoc, arith, length-append}
 use Rattle.std.proofs.lemmas.Bool.Decides.{nat_tests}
 use Rattle.std.proofs.lemmas.List.{append-nil, drop-replicate, length-replicate, replicate-append-replicate}
 use Rattle.std.proofs.Math.Seq.{take-append_seam, drop-append-add}
@@ -10,10 +10,8 @@ use Rattle.tydi_base.proofs.WidthLaws.{index_width-enough}
 use Rattle.tydi_base.proofs.BitsLemmas.{length-bits_of}
 use Rattle.logical_types.specs.Tree.{Ltype, Parts, number_of_parts, plain, plain_parts}
 use Rattle.logical_types.specs.declared.ltype.Part.{Part}
-use Rattle.logical_types.specs.Faults.{IsPlain, has_fault, is_too_wide, outermost, plain_faults}
-use Rattle.logical_types.specs.declared.fault.TypeFault.{TypeFault}
-use Rattle.logical_types.specs.declared.fault.TypeFault.TheVariants as faults
-use Rattle.logical_types.proofs.PlainTypes.{apart as split_empty, none_of}
+use Rattle.logical_types.specs.Faults.{IsPlain}
+use Rattle.logical_types.proofs.PlainTypes.{width-IsPlain}
 use Rattle.logical_types.proofs.PlainLemmas.{number_of_parts-plain, plain_parts-at, plain_parts-past}
 use Rattle.logical_types.specs.Tree as types
 use Rattle.logical_types.specs.Width.{width_of, total_width, tag_width, greatest_width, saturated}
@@ -184,23 +182,6 @@ Continues-past first now all values parts at left done continues =
     continues.rest now (Puts-none now (pack_parts (plain_parts (drop at parts)) (plain_values left)) (ap (λ ps. pack_parts ps (plain_values left)) (plain_parts-past parts at done)))
 
 -- ---- the whole word
-
-not_wide : (ltype : Ltype) → is_too_wide ltype ≡ false → width_of ltype ≤ 4096
-not_wide ltype test = grind (arith, nat_tests)
-
-first_narrow : (ltype : Ltype) (rest : List TypeFault) → filter (has_fault (record { around = outermost; ltype = ltype })) plain_faults ++ rest ≡ [] → width_of ltype ≤ 4096
-first_narrow ltype rest empty =
-    let both = split_empty (filter (has_fault (record { around = outermost; ltype = ltype })) plain_faults) rest empty in
-    let zero_bits = none_of (has_fault (record { around = outermost; ltype = ltype }) faults.ZeroBits) faults.ZeroBits _ both.0 in
-    let wide = none_of (has_fault (record { around = outermost; ltype = ltype }) faults.ElementTooWide) faults.ElementTooWide _ zero_bits.1 in
-    not_wide ltype wide.0
-
-pub width-IsPlain : (ltype : Ltype) → IsPlain ltype → width_of ltype ≤ 4096
-width-IsPlain types.null is = first_narrow types.null _ is
-width-IsPlain (types.bits width) is = first_narrow (types.bits width) _ is
-width-IsPlain (types.group parts) is = first_narrow (types.group parts) _ is
-width-IsPlain (types.union parts) is = first_narrow (types.union parts) _ is
-width-IsPlain (types.stream element user settings) is = first_narrow (types.stream element user settings) _ is
 
 -- what is written into a word of the element's width is the whole word
 pub packed-whole : (old new : Packing) (ltype : Ltype) (value : Tree) (width : ℕ) → width ≡ width_of ltype → old.bits ≡ zero_bits width → old.offset ≡ 0 → IsPlain ltype

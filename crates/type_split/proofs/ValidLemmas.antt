@@ -1,44 +1,17 @@
 -- What a type without faults is.
-use Rattle.std.proofs.Common.{◌≡◌, ℕ, suc, zero, ◌*◌, ◌≤◌, Bool, true, false, cond, not, ◌||◌, List, [], ◌∷◌, ◌++◌, ltb, eqb, refl, sym, ap, ◌∙◌, arith}
-use Rattle.std.specs.List.{flat_map}
+use Rattle.std.proofs.Common.{◌≡◌, ℕ, suc, zero, ◌*◌, ◌≤◌, Bool, true, false, cond, not, ◌||◌, [], ◌∷◌, ◌++◌, ltb, eqb, refl, sym, ◌∙◌, arith}
 use Rattle.std.proofs.lemmas.Bool.Decides.{nat_tests}
 use Rattle.logical_types.specs.declared.fault.TypeFault.TheVariants as faults
 use Rattle.logical_types.specs.declared.streams.Around.{Around}
-use Rattle.logical_types.specs.Tree.{Ltype, null, bits, group, union, stream, Settings, has_stream}
-use Rattle.logical_types.specs.Width.{width_of}
-use Rattle.logical_types.specs.Faults.{inside, TypeNode, nodes, has_fault, faults_at, rate_faults, faults_within, has_bad_throughput, has_too_many_lanes, has_too_many_dims, is_too_wide}
+use Rattle.logical_types.specs.Tree.{Ltype, stream, Settings, has_stream}
+use Rattle.logical_types.specs.Faults.{inside, rate_faults, faults_within, has_bad_throughput, has_too_many_lanes, has_too_many_dims}
 use Rattle.logical_types.specs.Throughput.{product_of, fits_words}
 use Rattle.logical_types.proofs.FaultLemmas.{faults_within-stream}
-use Rattle.logical_types.proofs.PlainTypes.{apart, none_of}
+use Rattle.logical_types.proofs.PlainTypes.{apart, none_of, width-valid}
 use Rattle.logical_types.proofs.ThroughputLemmas.{lowest-IsReduced}
 use Rattle.std.proofs.Math.Nat.{mul-pos}
 use Rattle.tydi_base.specs.Frac.{Fraction, IsReduced}
 use Rattle.type_split.specs.Found.{IsInRange}
-
--- ---- the first node of a type is the type itself
-
-pub record Nodes (around : Around) (t : Ltype) : Type 0 where
-  pub rest : List TypeNode
-  pub all : nodes around t ≡ record { around = around; ltype = t } ∷ rest
-
-first_node : (around : Around) (t : Ltype) → Nodes around t
-first_node around null = record { rest = _; all = refl }
-first_node around (bits width) = record { rest = _; all = refl }
-first_node around (group parts) = record { rest = _; all = refl }
-first_node around (union parts) = record { rest = _; all = refl }
-first_node around (stream element user settings) = record { rest = _; all = refl }
-
-not_wide : (t : Ltype) → is_too_wide t ≡ false → width_of t ≤ 4096
-not_wide t fails = grind (arith, nat_tests)
-
--- a type without faults has elements of at most 4,096 bits
-pub valid-width : (around : Around) (t : Ltype) → faults_within around t ≡ [] → width_of t ≤ 4096
-valid-width around t valid =
-    let first = first_node around t in
-    let node : TypeNode = record { around = around; ltype = t } in
-    let here = (apart (faults_at node) (flat_map faults_at first.rest) (sym (ap (flat_map faults_at) first.all) ∙ valid)).0 in
-    let zero = none_of (has_fault node faults.ZeroBits) faults.ZeroBits _ here in
-    not_wide t (none_of (has_fault node faults.ElementTooWide) faults.ElementTooWide _ zero.1).0
 
 -- ---- a Stream without faults
 
@@ -95,6 +68,6 @@ valid-range around element user settings valid flows = record {
   some_lane = flows;
   lanes_most = within_lanes (128 * (inside around settings).product.den) (inside around settings).product.num valid.lanes;
   dims_most = within_lanes 32 (inside around settings).dims valid.dims;
-  element_most = valid-width (inside around settings) element valid.element_valid;
-  user_most = valid-width (inside around settings) user valid.user_valid;
+  element_most = width-valid (inside around settings) element valid.element_valid;
+  user_most = width-valid (inside around settings) user valid.user_valid;
 }
