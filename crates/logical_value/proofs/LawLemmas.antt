@@ -194,7 +194,7 @@ first_found None other x found not_one not_other = not_other found
 first_found (Some y) other x found not_one not_other = not_one found
 
 mutual
-  no_bad_tag : (ltype : Ltype) (bits : List Bool) (names path : List (List ℕ)) (value : Tree) → bad_tag names ltype bits ≡ Some path → Agrees ltype bits value → ⊥
+  pub no_bad_tag : (ltype : Ltype) (bits : List Bool) (names path : List (List ℕ)) (value : Tree) → bad_tag names ltype bits ≡ Some path → Agrees ltype bits value → ⊥
   no_bad_tag types.null bits names path value bad agrees = cc
   no_bad_tag (types.bits width) bits names path value bad agrees = cc
   no_bad_tag (types.group parts) bits names path (group values) bad agrees = no_bad_tags parts bits names path values bad agrees

@@ -1,3 +1,4 @@
 pub mod PlainLemmas
 pub mod PackingLemmas
 pub mod LawLemmas
+pub mod UnpackingLemmas

@@ -111,11 +111,11 @@ no_some (Some x) none there = cc
 
 -- where there is no room, nothing was to be written
 pub Puts-no_room : (old new : Packing) (more : List Bool) (count : ℕ) (found : Option ℕ) → length more ≡ count → found ≡ None
-    → (old.offset + count ≤ 4096 → old.offset + count ≤ length old.bits → IsSome found) → Puts old new more
+    → (old.offset + count ≤ length old.bits → IsSome found) → Puts old new more
 Puts-no_room old new more count found long none some done room narrow fits holds =
     let wide : length old.bits ≡ length done + length (zero_bits room) = ap length holds.bits ∙ length-append done (zero_bits room) in
     let zeros = length-replicate room false in
-    absurd (no_some found none (some (omega (arith, holds.at, narrow, fits, long)) (omega (arith, holds.at, wide, zeros, fits, long))))
+    absurd (no_some found none (some (omega (arith, holds.at, wide, zeros, fits, long))))
 
 -- ---- numbers
 

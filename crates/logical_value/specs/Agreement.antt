@@ -85,7 +85,11 @@ pub record IsUnpacked (ltype : Ltype) (bits : List Bool) (value : Tree) : Type 0
   pub agrees : Agrees ltype bits value
   pub streams : set_apart ltype value ≡ value
 
--- the fault is that of the word; want of memory says nothing
+-- the fault tells this path; want of memory says nothing
+abbrev pub Tells : Option (List (List ℕ)) → UnpackFault → Type 0
+Tells found (faults.BadTag path) = found ≡ Some path
+Tells found faults.Memory = Unit {0}
+
+-- the fault is that of the word
 abbrev pub IsFaultOf : Ltype → List Bool → UnpackFault → Type 0
-IsFaultOf ltype bits (faults.BadTag path) = bad_tag [] ltype bits ≡ Some path
-IsFaultOf ltype bits faults.Memory = Unit {0}
+IsFaultOf ltype bits fault = Tells (bad_tag [] ltype bits) fault

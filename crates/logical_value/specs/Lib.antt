@@ -3,4 +3,5 @@ pub mod Element
 pub mod Packed
 pub mod Agreement
 pub mod Packing
+pub mod Unpacking
 pub mod Laws

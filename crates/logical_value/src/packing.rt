@@ -1,6 +1,6 @@
 //! The word of a value.
 
-ghost use Rattle.std.specs.Prelude.{◌≡◌, ◌+◌, ◌<◌, ◌≤◌, ◌^◌, ℕ, length, IfOk, IfSome, IsSome, OnOk};
+ghost use Rattle.std.specs.Prelude.{◌≡◌, ◌<◌, ◌^◌, ℕ, IfOk, OnOk};
 ghost use Rattle.tydi_base.specs.Bits.{bits_of, zero_bits};
 ghost use Rattle.logical_types.specs.Faults.{IsPlain};
 ghost use Rattle.logical_types.specs.Tree.{bits, group, plain, plain_parts, union};
@@ -9,6 +9,7 @@ ghost use Rattle.logical_value.specs.Packed as spec;
 ghost use Rattle.logical_value.specs.Packing.{Puts};
 ghost use Rattle.logical_value.specs.Tree as values;
 
+use crate::place::end_of;
 use crate::value::Value;
 use logical_types::{LType, Part, saturated_width, union_width, width};
 use std::alloc::Global;
@@ -156,7 +157,7 @@ impl Packing {
     fn put_bits(&mut self, word: &Bits)
         ensures { Puts self.old self.new word.now }
     {
-        if let Some(end) = self.end_of(word.len()) {
+        if let Some(end) = end_of(self.offset, word.len(), self.bits.len()) {
             self.bits.put_word(self.offset, word);
             self.offset = end;
         }
@@ -166,22 +167,8 @@ impl Packing {
     fn leave(&mut self, count: u32)
         ensures { Puts self.old self.new (zero_bits count) }
     {
-        if let Some(end) = self.end_of(count as usize) {
+        if let Some(end) = end_of(self.offset, count as usize, self.bits.len()) {
             self.offset = end;
-        }
-    }
-
-    /// Where so many bits more end. None only where there is no room for them.
-    fn end_of(&self, count: usize) -> Option<usize>
-        ensures end { IfSome result (λ end. end ≡ self.now.offset + count) }
-        ensures within { IsSome result → self.now.offset + count ≤ length self.now.bits }
-        ensures some { self.now.offset + count ≤ 4096 → self.now.offset + count ≤ length self.now.bits → IsSome result }
-    {
-        let end = self.offset.checked_add(count)?;
-        if end <= self.bits.len() {
-            Some(end)
-        } else {
-            None
         }
     }
 }

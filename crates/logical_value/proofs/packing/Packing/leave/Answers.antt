@@ -1,4 +1,4 @@
-use Rattle.std.proofs.Common.{false, refl}
+use Rattle.std.proofs.Common.{false, refl, arith}
 use Rattle.std.proofs.lemmas.List.{length-replicate}
 use Rattle.tydi_base.specs.Bits.{zero_bits}
 use Rattle.logical_value.proofs.PackingLemmas.{Puts-zeros, Puts-no_room}
@@ -10,4 +10,5 @@ returns-in-Some c =
 
 pub returns-in_default : goal.returns-in_default
 returns-in_default c =
-    Puts-no_room c.args.self.now c.args.self.now (zero_bits c.args.count) c.args.count c.end_of.result (length-replicate c.args.count false) c.in_default.is c.end_of.ensures.some
+    Puts-no_room c.args.self.now c.args.self.now (zero_bits c.args.count) c.args.count c.end_of.result (length-replicate c.args.count false) c.in_default.is
+    (λ within. c.end_of.ensures.some (omega (arith, within, c.len.ensures)))
