@@ -1,9 +1,10 @@
 -- What holds of all words and values of an element (this project's own).
-use Rattle.std.specs.Prelude.{◌≡◌, ℕ, Bool, List, length, Some}
+use Rattle.std.specs.Prelude.{◌≡◌, ℕ, Bool, true, List, length, Some}
 use Rattle.logical_types.specs.Tree.{Ltype}
 use Rattle.logical_types.specs.Width.{width_of}
 use Rattle.logical_value.specs.Agreement.{Agrees, IsUnpacked, bad_tag, cleared}
 use Rattle.logical_value.specs.Element.{IsElement, set_apart}
+use Rattle.logical_value.specs.Fits.{fits_element}
 use Rattle.logical_value.specs.Packed.{pack_of}
 use Rattle.logical_value.specs.Tree.{Tree}
 
@@ -22,3 +23,7 @@ OneValue = (ltype : Ltype) (bits : List Bool) (one other : Tree) → IsUnpacked 
 -- a word with a tag that names no variant, of those that are read, agrees with no value
 abbrev pub BadTagsAgreeWithNone : Type 0
 BadTagsAgreeWithNone = (ltype : Ltype) (bits : List Bool) (names path : List (List ℕ)) (value : Tree) → bad_tag names ltype bits ≡ Some path → Agrees ltype bits value → ⊥
+
+-- what fits a type in a series is a value of an element, which has a word
+abbrev pub FitsAreElements : Type 0
+FitsAreElements = (ltype : Ltype) (value : Tree) → fits_element ltype value ≡ true → IsElement ltype value

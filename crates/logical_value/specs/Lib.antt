@@ -4,4 +4,5 @@ pub mod Packed
 pub mod Agreement
 pub mod Packing
 pub mod Unpacking
+pub mod Fits
 pub mod Laws

@@ -1,9 +1,11 @@
 //! What holds of all words and values of an element.
 
-ghost use Rattle.logical_value.specs.Laws.{BadTagsAgreeWithNone, OneValue, PackedIsUnpacked, UnpackedIsPacked};
+ghost use Rattle.logical_value.specs.Laws.{BadTagsAgreeWithNone, FitsAreElements, OneValue, PackedIsUnpacked, UnpackedIsPacked};
 
 /// The word of a value stands for that value with what stands for its Streams apart, and the word of a value that a word stands for is
-/// that word with its ignored bits zero.
+/// that word with its ignored bits zero. So `unpack` of what `pack` gives is the value with its stream parts apart, since a word stands
+/// for one value at most and a BadTag tells of a word that stands for none; and `pack` of what `unpack` gives is the word with its
+/// ignored bits zero.
 pub fn words_and_values_are_tied()
     ensures packed { PackedIsUnpacked }
     ensures unpacked { UnpackedIsPacked }
@@ -17,4 +19,9 @@ pub fn words_have_one_value()
 /// A word with a tag that names no variant, of those that are read, stands for no value.
 pub fn bad_tags_stand_for_nothing()
     ensures { BadTagsAgreeWithNone }
+{}
+
+/// What fits a type in a series is a value of an element. So `pack` may be asked for the word of each leaf of a value that `fits`.
+pub fn values_that_fit_are_elements()
+    ensures { FitsAreElements }
 {}

@@ -1,9 +1,11 @@
-//! Values of types, and the words that stand for them. `pack` gives the word of a value, and `unpack` the value that a word stands for.
-//! `specs/Element.antt` says which values a type has, `specs/Packed.antt` what the word of a value is, and `specs/Agreement.antt` which
-//! word stands for which value. The crate stands on `logical_types`. Each call goes as deep as the type nests.
+//! Values of types, and the words that stand for them. `pack` gives the word of a value, `unpack` the value that a word stands for, and
+//! `fits` tells whether a value is one of a port's type. `specs/Element.antt` says which values an element has, `specs/Packed.antt` what
+//! the word of a value is, `specs/Agreement.antt` which word stands for which value, and `specs/Fits.antt` which values a port has. The
+//! crate stands on `logical_types` and `type_split`. Each call goes as deep as the type and its sequences nest.
 #![tactic(auto)]
 
 mod fault;
+mod fitting;
 mod laws;
 mod packing;
 mod place;
@@ -11,7 +13,11 @@ mod unpacking;
 mod value;
 
 pub use fault::UnpackFault;
-pub use laws::{bad_tags_stand_for_nothing, words_and_values_are_tied, words_have_one_value};
+pub use fitting::fits;
+pub use laws::{
+    bad_tags_stand_for_nothing, values_that_fit_are_elements, words_and_values_are_tied,
+    words_have_one_value,
+};
 pub use packing::pack;
 pub use unpacking::unpack;
 pub use value::{PortValue, Value};

@@ -1,7 +1,9 @@
 //! A value.
 
 ghost use Rattle.std.specs.Prelude.{◌≡◌, ℕ, Bool, List, MatchOption};
-ghost use Rattle.logical_value.specs.Tree.{Tree, Trees, group, plain, plain_values, union, word};
+ghost use Rattle.logical_types.specs.Tree as types;
+ghost use Rattle.logical_value.specs.Fits.{fits_element, stands_apart};
+ghost use Rattle.logical_value.specs.Tree.{Tree, Trees, group, list, plain, plain_values, union, word};
 
 use tydi_base::{Bits, Boxed, List};
 
@@ -29,6 +31,48 @@ pub struct PortValue {
 }
 
 impl Value {
+    /// Whether it is the value of a Null.
+    pub(crate) fn is_null(&self) -> bool
+        ensures { result ≡ fits_element types.null (plain self.now) }
+    {
+        match self {
+            Value::Null => true,
+            Value::Word(_) => false,
+            Value::Group(_) => false,
+            Value::Union { .. } => false,
+            Value::List(_) => false,
+            Value::Apart => false,
+        }
+    }
+
+    /// Whether it stands for a Stream that is told elsewhere.
+    pub(crate) fn is_apart(&self) -> bool
+        ensures { result ≡ stands_apart (plain self.now) }
+    {
+        match self {
+            Value::Null => false,
+            Value::Word(_) => false,
+            Value::Group(_) => false,
+            Value::Union { .. } => false,
+            Value::List(_) => false,
+            Value::Apart => true,
+        }
+    }
+
+    /// Its members. None where it is no sequence.
+    pub(crate) fn members(&self) -> Option<&[Value]>
+        ensures { MatchOption result ((parts : Trees) → plain self.now ≡ list parts → ⊥) (λ parts. plain self.now ≡ list (plain_values parts.now)) }
+    {
+        match self {
+            Value::Null => None,
+            Value::Word(_) => None,
+            Value::Group(_) => None,
+            Value::Union { .. } => None,
+            Value::List(parts) => Some(parts.as_slice()),
+            Value::Apart => None,
+        }
+    }
+
     /// Its word. None where it is no value of a Bits.
     pub(crate) fn word(&self) -> Option<&Bits>
         ensures { MatchOption result ((bits : List Bool) → plain self.now ≡ word bits → ⊥) (λ bits. plain self.now ≡ word bits.now) }
