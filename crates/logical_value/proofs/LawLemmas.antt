@@ -10,7 +10,7 @@ use Rattle.logical_types.specs.Tree as types
 use Rattle.logical_types.specs.Width.{width_of, total_width, tag_width, greatest_width}
 use Rattle.logical_value.specs.Agreement.{Agrees, AgreeAll, AgreesVariant, bad_tag, bad_tag_of_parts, bad_tag_of_variant, first_of, cleared, cleared_parts, cleared_variant}
 use Rattle.logical_value.specs.Element.{IsElement, AreElements, IsVariant, set_apart, set_all_apart, set_variant_apart}
-use Rattle.logical_value.specs.Laws.{PackedIsUnpacked, UnpackedIsPacked, OneValue, BadTagsAgreeWithNone}
+use Rattle.logical_value.specs.Laws.{PackedIsUnpacked, UnpackedIsPacked, UnpackedAreElements, OneValue, BadTagsAgreeWithNone}
 use Rattle.logical_value.specs.Packed.{pack_of, pack_parts, pack_variant}
 use Rattle.logical_value.specs.Tree.{Tree, null, word, group, union, list, apart, Trees, no_trees, tree}
 use Rattle.logical_value.proofs.PackingLemmas.{length-pack_of, tag-below}
@@ -142,6 +142,40 @@ mutual
 
 pub unpacked_is_packed : UnpackedIsPacked
 unpacked_is_packed = pack_of-agreed
+
+-- ---- a value that agrees with a word is one of an element
+
+mutual
+  element-agreed : (ltype : Ltype) (bits : List Bool) (value : Tree) → length bits ≡ width_of ltype → Agrees ltype bits value → IsElement ltype value
+  element-agreed types.null bits null long agrees = tt
+  element-agreed types.null bits value long agrees = absurd agrees
+  element-agreed (types.bits width) bits (word other) long agrees = ap length agrees ∙ long
+  element-agreed (types.bits width) bits value long agrees = absurd agrees
+  element-agreed (types.group parts) bits (group values) long agrees = elements-agreed parts bits values (omega (arith, long)) agrees
+  element-agreed (types.group parts) bits value long agrees = absurd agrees
+  element-agreed (types.union parts) bits (union tag value) long agrees =
+      let width = tag_width (number_of_parts parts) in
+      let left = length-drop width bits in variant-agreed parts tag (drop width bits) value (omega (arith, left, long)) agrees.1
+  element-agreed (types.union parts) bits value long agrees = absurd agrees
+  element-agreed (types.stream element user settings) bits value long agrees = tt
+
+  elements-agreed : (parts : Parts) (bits : List Bool) (values : Trees) → total_width parts ≤ length bits → AgreeAll parts bits values → AreElements parts values
+  elements-agreed types.no_parts bits no_trees long agree = tt
+  elements-agreed (types.part name ltype more) bits (tree value others) long agree =
+      let left = length-drop (width_of ltype) bits in (
+        element-agreed ltype (take (width_of ltype) bits) value (front_length bits (width_of ltype) (omega (arith, long))) agree.0,
+        elements-agreed more (drop (width_of ltype) bits) others (omega (arith, left, long)) agree.1,
+      )
+  elements-agreed parts bits values long agree = absurd agree
+
+  variant-agreed : (parts : Parts) (tag : ℕ) (bits : List Bool) (value : Tree) → greatest_width parts ≤ length bits → AgreesVariant parts tag bits value → IsVariant parts tag value
+  variant-agreed types.no_parts tag bits value long agrees = absurd agrees
+  variant-agreed (types.part name ltype more) zero bits value long agrees =
+      element-agreed ltype (take (width_of ltype) bits) value (front_length bits (width_of ltype) (omega (arith, long))) agrees
+  variant-agreed (types.part name ltype more) (suc tag) bits value long agrees = variant-agreed more tag bits value (omega (arith, long)) agrees
+
+pub unpacked_are_elements : UnpackedAreElements
+unpacked_are_elements = element-agreed
 
 -- ---- one value
 

@@ -3,3 +3,4 @@ pub mod PackingLemmas
 pub mod LawLemmas
 pub mod UnpackingLemmas
 pub mod FitLemmas
+pub mod NodeLemmas

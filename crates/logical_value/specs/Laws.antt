@@ -16,6 +16,10 @@ PackedIsUnpacked = (ltype : Ltype) (value : Tree) → IsElement ltype value → 
 abbrev pub UnpackedIsPacked : Type 0
 UnpackedIsPacked = (ltype : Ltype) (bits : List Bool) (value : Tree) → length bits ≡ width_of ltype → Agrees ltype bits value → pack_of ltype value ≡ cleared ltype bits
 
+-- what a word of the element's width stands for is a value of the element, which has a word
+abbrev pub UnpackedAreElements : Type 0
+UnpackedAreElements = (ltype : Ltype) (bits : List Bool) (value : Tree) → length bits ≡ width_of ltype → Agrees ltype bits value → IsElement ltype value
+
 -- a word stands for one value at most
 abbrev pub OneValue : Type 0
 OneValue = (ltype : Ltype) (bits : List Bool) (one other : Tree) → IsUnpacked ltype bits one → IsUnpacked ltype bits other → one ≡ other

@@ -1,14 +1,15 @@
 //! What holds of all words and values of an element.
 
-ghost use Rattle.logical_value.specs.Laws.{BadTagsAgreeWithNone, FitsAreElements, OneValue, PackedIsUnpacked, UnpackedIsPacked};
+ghost use Rattle.logical_value.specs.Laws.{BadTagsAgreeWithNone, FitsAreElements, OneValue, PackedIsUnpacked, UnpackedAreElements, UnpackedIsPacked};
 
-/// The word of a value stands for that value with what stands for its Streams apart, and the word of a value that a word stands for is
-/// that word with its ignored bits zero. So `unpack` of what `pack` gives is the value with its stream parts apart, since a word stands
-/// for one value at most and a BadTag tells of a word that stands for none; and `pack` of what `unpack` gives is the word with its
-/// ignored bits zero.
+/// The word of a value stands for that value with what stands for its Streams apart. The word of a value that a word stands for is that
+/// word with its ignored bits zero; it has one, since it is a value of the element. So `unpack` of what `pack` gives is the value with
+/// its stream parts apart, since a word stands for one value at most and a BadTag tells of a word that stands for none; and `pack` of
+/// what `unpack` gives is the word with its ignored bits zero.
 pub fn words_and_values_are_tied()
     ensures packed { PackedIsUnpacked }
     ensures unpacked { UnpackedIsPacked }
+    ensures elements { UnpackedAreElements }
 {}
 
 /// A word stands for one value at most.
