@@ -1,34 +1,17 @@
 -- The graph of streamlets says which streamlet contains which.
-use Rattle.std.proofs.Common.{◌≡◌, ℕ, zero, suc, ◌+◌, ◌<◌, ◌≤◌, ◌⊎◌, inl, inr, Bool, true, false, cond, List, [], ◌∷◌, ◌++◌, length, get_or, map, take, Option, Some, None, Contains, refl, sym, ap, subst, ◌∙◌, arith}
-use Rattle.std.specs.List.{filter_map}
+use Rattle.std.proofs.Common.{◌≡◌, ℕ, zero, suc, ◌+◌, ◌<◌, ◌≤◌, ◌⊎◌, inl, inr, Bool, true, false, cond, List, [], ◌++◌, length, Option, Some, None, Contains, refl, sym, ap, subst, ◌∙◌, arith}
 use Rattle.std.proofs.lemmas.Bool.{cases_lt, eqb-true, eq-eqb}
-use Rattle.std.proofs.lemmas.List.{take_more, map-append}
-use Rattle.std.proofs.lemmas.List.Elements.{Contains-append_left, Contains-append_right, Contains-append_cases, filter_map-append}
+use Rattle.std.proofs.lemmas.List.Elements.{Contains-append_left, Contains-append_right, Contains-append_cases}
 use Rattle.til_parser.specs.declared.tree.AstKind.{AstKind}
 use Rattle.til_parser.specs.declared.tree.AstKind.TheVariants as decls
 use Rattle.til_parser.specs.declared.tree.AstName.{AstName}
 use Rattle.til_parser.specs.declared.tree.AstPath.{AstPath}
-use Rattle.til_parser.specs.declared.tree.AstStmt.{AstStmt}
 use Rattle.til_resolve.specs.Cycles.{LeadsTo, ContainsStreamlet, paths_of_instances}
 use Rattle.til_resolve.specs.Declarations.{Declaration, declaration, named_as, before, is_streamlet}
-use Rattle.til_resolve.specs.Graph.{Leads, AreNumbers, kinds_named, streamlets_inside, put_inside, HasInside}
-use Rattle.til_resolve.specs.Names.{WrittenInstance, instance_at, implements, is_number, is_impl_of}
+use Rattle.til_resolve.specs.Graph.{Leads, AreNumbers, streamlets_inside, put_inside, HasInside}
+use Rattle.til_resolve.specs.Names.{implements, is_number, is_impl_of}
 use Rattle.til_resolve.proofs.EarliestLemmas.{Contains-nil}
 use Rattle.til_resolve.proofs.TypeGraphLemmas.{named-by, names-in, named-within, past, ByWay-map}
-
--- ---- the streamlets of statements
-
-pub statements-more : (all : List Declaration) (space : List (List ℕ)) (stmts : List AstStmt) (i : ℕ) (stmt : AstStmt) → i < length stmts → stmt ≡ get_or stmts i stmt
-    → kinds_named is_streamlet all space (map (λ one. one.streamlet) (filter_map instance_at (take (i + 1) stmts)))
-    ≡ kinds_named is_streamlet all space (map (λ one. one.streamlet) (filter_map instance_at (take i stmts)))
-    ++ kinds_named is_streamlet all space (map (λ one. one.streamlet) (filter_map instance_at (stmt ∷ [])))
-statements-more all space stmts i stmt within is =
-    let streamlet : WrittenInstance → AstPath = λ one. one.streamlet in
-    ap (λ (l : List AstStmt). kinds_named is_streamlet all space (map streamlet (filter_map instance_at l)))
-    (take_more stmts i stmt within ∙ ap (λ (s : AstStmt). take i stmts ++ s ∷ []) (sym is))
-    ∙ ap (kinds_named is_streamlet all space)
-    (ap (map streamlet) (filter_map-append instance_at (take i stmts) (stmt ∷ [])) ∙ map-append streamlet (filter_map instance_at (take i stmts)) (filter_map instance_at (stmt ∷ [])))
-    ∙ filter_map-append (named_as is_streamlet all space) (map streamlet (filter_map instance_at (take i stmts))) (map streamlet (filter_map instance_at (stmt ∷ [])))
 
 -- ---- what stands at the numbers below an end
 
@@ -118,10 +101,3 @@ module _ (all : List Declaration) (graph : List (List ℕ)) (is : HasInside all 
 
   pub contains-back : (s : ℕ) → LeadsTo (ContainsStreamlet all) s s → LeadsTo (Leads graph) s s
   contains-back s way = (way.0, ByWay-map (ContainsStreamlet all) (Leads graph) Leads-ContainsStreamlet s s way.0 way.1)
-
--- a declaration implements one streamlet
-pub one_streamlet : (found : Option ℕ) (s t : ℕ) → Some s ≡ found → found ≡ Some t → t ≡ s
-one_streamlet found s t one other = let same : Some s ≡ Some t = one ∙ other in cc
-
-pub no_streamlet : (found : Option ℕ) (t : ℕ) → None ≡ found → found ≡ Some t → ⊥
-no_streamlet found t none some = let same : None ≡ Some t = none ∙ some in cc

@@ -9,6 +9,7 @@ mod PlacingLemmas
 mod PortLemmas
 mod TwiceLemmas
 mod NameLemmas
+mod PathsWrittenLemmas
 mod FirstLemmas
 pub mod StandLemmas
 pub mod ToldLemmas
@@ -16,6 +17,7 @@ pub mod PortTypeLemmas
 mod TypeGraphLemmas
 mod RankLemmas
 mod ContainmentLemmas
+mod CycleLemmas
 mod BelowLemmas
 mod MeaningLemmas
 pub mod StableLemmas

@@ -1,36 +1,29 @@
 -- The graph of types says which type declaration names which.
 use Rattle.std.proofs.Common.{◌≡◌, ℕ, zero, suc, ◌+◌, ◌<◌, ◌≤◌, ◌⊎◌, inl, inr, List, [], ◌∷◌, ◌++◌, length, get_or, take, Bool, true, false, cond, Option, Some, None, IfSome, Contains, refl, sym, ap, subst, ◌∙◌, arith, length-append}
-use Rattle.std.specs.List.{flat_map, filter_map}
+use Rattle.std.specs.Borrow.{Bor}
+use Rattle.std.specs.List.{filter_map}
 use Rattle.std.proofs.lemmas.Bool.{cases_lt}
-use Rattle.std.proofs.lemmas.Grind.{flat_map-append}
-use Rattle.std.proofs.lemmas.List.{take_more}
+use Rattle.std.proofs.lemmas.List.{take_more, map-append}
 use Rattle.std.proofs.lemmas.List.Elements.{Contains-append_left, Contains-append_right, Contains-append_cases, Contains-push, filter_map-append}
-use Rattle.til_parser.specs.declared.ltype.AstPart.{AstPart}
 use Rattle.til_parser.specs.declared.tree.AstPath.{AstPath}
-use Rattle.til_parser.specs.Tree.{plain}
 use Rattle.til_resolve.specs.Cycles.{ByWay, LeadsTo, NamesType, IsCyclicType, paths_of_alias}
 use Rattle.til_resolve.specs.Declarations.{Declaration, declaration, named, named_as, meant, before, is_type, path_of, kept_as}
-use Rattle.til_resolve.specs.Graph.{Leads, AreNumbers, types_named, types_at, type_graph}
-use Rattle.til_resolve.specs.Names.{paths_in}
-use Rattle.til_resolve.specs.Sought.{paths_in_list}
+use Rattle.til_resolve.specs.Graph.{Leads, AreNumbers, kinds_named, types_at, type_graph}
+use Rattle.til_resolve.specs.PathsWritten.{seen}
 use Rattle.til_resolve.proofs.EarliestLemmas.{Contains-nil, Contains-one}
 use Rattle.til_resolve.specs.Paths.{is_same_path}
-use Rattle.til_resolve.proofs.AgainLemmas.{append_nil}
 use Rattle.til_resolve.proofs.ScopeLemmas.{position-within}
 
--- ---- the types that paths name
+-- ---- what paths name
 
-pub types_named-append : (all : List Declaration) (space : List (List ℕ)) (front back : List AstPath) → types_named all space (front ++ back) ≡ types_named all space front ++ types_named all space back
-types_named-append all space front back = filter_map-append (named_as is_type all space) front back
-
--- the paths of one part more
-pub types_named-more : (all : List Declaration) (space : List (List ℕ)) (parts : List AstPart) (i : ℕ) (part : AstPart) → i < length parts → part ≡ get_or parts i part
-    → types_named all space (paths_in_list (take (i + 1) parts)) ≡ types_named all space (paths_in_list (take i parts)) ++ types_named all space (paths_in (plain part.ltype))
-types_named-more all space parts i part within is =
-    let paths : AstPart → List AstPath = λ one. paths_in (plain one.ltype) in
-    ap (λ (l : List AstPart). types_named all space (flat_map paths l)) (take_more parts i part within ∙ ap (λ (y : AstPart). take i parts ++ y ∷ []) (sym is))
-    ∙ ap (types_named all space) (flat_map-append paths (take i parts) (part ∷ []) ∙ ap (λ (l : List AstPath). flat_map paths (take i parts) ++ l) (append_nil (paths part)))
-    ∙ types_named-append all space (flat_map paths (take i parts)) (paths part)
+-- what one path more names
+pub kinds_named-more : (asks : Declaration → Bool) (all : List Declaration) (space : List (List ℕ)) (paths : List (Bor AstPath)) (i : ℕ) (path : Bor AstPath) → i < length paths → path ≡ get_or paths i path
+    → kinds_named asks all space (seen (take (i + 1) paths)) ≡ kinds_named asks all space (seen (take i paths)) ++ kinds_named asks all space (path.now ∷ [])
+kinds_named-more asks all space paths i path within is =
+    let now : Bor AstPath → AstPath = λ one. one.now in
+    ap (λ (l : List (Bor AstPath)). kinds_named asks all space (seen l)) (take_more paths i path within ∙ ap (λ (y : Bor AstPath). take i paths ++ y ∷ []) (sym is))
+    ∙ ap (kinds_named asks all space) (map-append now (take i paths) (path ∷ []))
+    ∙ filter_map-append (named_as asks all space) (seen (take i paths)) (path.now ∷ [])
 
 -- ---- a list of what stands at each number
 

@@ -61,12 +61,9 @@ NeverRises ranks graph = (one other : ℕ) → Leads graph one other → rank_of
 abbrev pub kinds_named : (Declaration → Bool) → List Declaration → List (List ℕ) → List AstPath → List ℕ
 kinds_named is all space paths = filter_map (named_as is all space) paths
 
-abbrev pub types_named : List Declaration → List (List ℕ) → List AstPath → List ℕ
-types_named all space paths = kinds_named is_type all space paths
-
 -- the types that a type declaration names
 abbrev pub types_at : List Declaration → ℕ → List ℕ
-types_at all one = types_named all (declaration all one).space (paths_of_alias (declaration all one).kind)
+types_at all one = kinds_named is_type all (declaration all one).space (paths_of_alias (declaration all one).kind)
 
 -- the same of the declarations before a number
 abbrev pub type_graph : List Declaration → ℕ → List (List ℕ)

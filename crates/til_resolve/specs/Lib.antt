@@ -11,8 +11,10 @@ pub mod Placing
 pub mod Kinds
 pub mod Ports
 pub mod Twice
+pub mod PathsWritten
 pub mod Sought
 pub mod Graph
+pub mod Suspects
 pub mod Shapes
 pub mod Written
 pub mod Chains

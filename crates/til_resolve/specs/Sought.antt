@@ -1,10 +1,7 @@
 -- Which of the faults of a path is looked for. It serves the search, and no public clause.
 use Rattle.std.specs.Prelude.{ℕ, nat_lt, Bool, List, [], ◌++◌, Option, Some, None, if◌then◌else◌}
-use Rattle.std.specs.List.{flat_map}
 use Rattle.tydi_base.specs.declared.place.Place.{Place}
-use Rattle.til_parser.specs.declared.ltype.AstPart.{AstPart}
 use Rattle.til_parser.specs.declared.tree.AstPath.{AstPath}
-use Rattle.til_parser.specs.Tree.{plain}
 use Rattle.til_resolve.specs.declared.names.Sought.{Sought}
 use Rattle.til_resolve.specs.declared.names.Sought.TheVariants as sought
 use Rattle.til_resolve.specs.declared.kinds.Asked.{Asked}
@@ -12,7 +9,7 @@ use Rattle.til_resolve.specs.declared.fault.ResolveFault.{ResolveFault}
 use Rattle.til_resolve.specs.declared.fault.ResolveFault.TheVariants as faults
 use Rattle.til_resolve.specs.Declarations.{Declaration, declaration, before}
 use Rattle.til_resolve.specs.Kinds.{asks}
-use Rattle.til_resolve.specs.Names.{Use, asking, paths_in, uses_in, is_unknown, is_wrong_kind, port_unknown, refused}
+use Rattle.til_resolve.specs.Names.{Use, asking, uses_in, is_unknown, is_wrong_kind, port_unknown, refused}
 
 -- a path is refused for what is sought
 abbrev pub is_refused : Sought → List Declaration → Use → Bool
@@ -26,10 +23,6 @@ use_of space asked path = record { space = space; path = path; asks = asks asked
 -- the places of the refused ones of these paths
 abbrev pub refused_of : Sought → List Declaration → List (List ℕ) → Asked → List AstPath → List Place
 refused_of wrong all space asked paths = refused (is_refused wrong all) (asking space (asks asked) paths)
-
--- the paths in the types of parts
-abbrev pub paths_in_list : List AstPart → List AstPath
-paths_in_list parts = flat_map (λ part. paths_in (plain part.ltype)) parts
 
 -- the port of a test that its streamlet lacks, where unknown names are sought
 abbrev pub port_refused : Sought → List Declaration → Declaration → List Place

@@ -9,7 +9,7 @@ ghost use Rattle.til_resolve.specs.Written.{AreWritten};
 
 use crate::bad_types::first_bad_type;
 use crate::chains::find_chains;
-use crate::cyclic_types::first_cyclic_type;
+use crate::cycles::first_cyclic_type;
 use crate::fault::ResolveFault;
 use crate::last::first_last_fault;
 use crate::misshapen::{Sort, first_misshapen};
@@ -82,8 +82,8 @@ fn first_name_fault(alloc: Global, scope: &Scope<'_>) -> Result<Option<ResolveFa
     if let Some(place) = first_twice(alloc, scope, &ports)? {
         return Ok(Some(ResolveFault::DeclaredTwice(place)));
     }
-    let unknown = first_refused(scope, &ports, Sought::Unknown);
-    let wrong_kind = first_refused(scope, &ports, Sought::WrongKind);
+    let unknown = first_refused(alloc, scope, &ports, Sought::Unknown)?;
+    let wrong_kind = first_refused(alloc, scope, &ports, Sought::WrongKind)?;
     Ok(first_of_both(unknown, wrong_kind))
 }
 

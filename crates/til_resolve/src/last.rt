@@ -6,7 +6,7 @@ ghost use Rattle.til_resolve.specs.Scope.{declarations_of};
 ghost use Rattle.til_resolve.specs.Shapes.{IsTable};
 ghost use Rattle.til_resolve.specs.Written.{AreWritten};
 
-use crate::containment::first_cyclic_instance;
+use crate::cycles::first_cyclic_instance;
 use crate::fault::ResolveFault;
 use crate::misshapen::{Sort, first_misshapen};
 use crate::scope::Scope;

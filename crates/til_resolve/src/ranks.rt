@@ -1,6 +1,10 @@
 //! Ranks by which a graph is seen to have few cycles. They are found by a walk that numbers what leads to one another alike, and
-//! lower than what leads to it (Tarjan, Depth-first search and linear graph algorithms, 1972). Nothing is promised of them: who
-//! uses them tests what they need.
+//! lower than what leads to it (Tarjan, Depth-first search and linear graph algorithms, 1972).
+//!
+//! Nothing is promised of them, and no answer rests on them. `certificate` tests that no rank rises along an edge, and searches
+//! where ranks don't show that a number is on no cycle; `chains` and `shapes` test the tables that are made in the order of ranks,
+//! and have another way where a test fails. What rests on ranks is time: with those that are found every test passes, so that one
+//! walk is enough.
 
 use std::alloc::Global;
 use tydi_base::{List, Memory};

@@ -1,13 +1,15 @@
 //! The faults of trees, by a table found by hand.
 
+use logical_types::TypeFault;
 use std::alloc::Global;
 use std::test::Fail;
 use til_lexer::lex;
 use til_parser::parse;
 use til_resolve::{ResolveFault, resolve};
+use tydi_base::Place;
 
 // Texts, and the fault of each, if it has one: its number, and the offset of its place.
-const FAULTY: [(&str, Option<(u8, u32)>); 51] = [
+const FAULTY: [(&str, Option<(u8, u32)>); 57] = [
     // A second declaration of one name, whatever its kind, also where its namespace is opened again.
     (
         "namespace a { type b = Null; type b = Null; }",
@@ -151,19 +153,40 @@ const FAULTY: [(&str, Option<(u8, u32)>); 51] = [
     // Types that have a fault: of the first that has it in the text, by whatever names.
     (
         "namespace a { type b = c; type c = d; type d = Bits(0); }",
-        Some((6, 19)),
+        Some((61, 19)),
     ),
     (
         "namespace a { type d = Bits(1); interface i = (p: in Null, q: in b); type b = c; type c = Group(x: d, X: d); }",
-        Some((6, 59)),
+        Some((67, 59)),
     ),
     (
         "namespace a { streamlet s = (p: in Stream(data: b)); type b = Union(); type c = Bits(0); }",
-        Some((6, 29)),
+        Some((68, 29)),
     ),
     (
         "namespace a { type b = c; type c = d; type d = Bits(1); }",
         None,
+    ),
+    (
+        "namespace a { type b = Group(x: c, y: c); type c = Bits(2049); }",
+        Some((62, 19)),
+    ),
+    ("namespace a { type t = Bits(4097); }", Some((62, 19))),
+    (
+        "namespace a { streamlet s = (p: in t); type t = Stream(data: Null, throughput: 0); }",
+        Some((63, 29)),
+    ),
+    (
+        "namespace a { type t = Stream(data: Null, throughput: 100); type u = Stream(data: t, throughput: 2); }",
+        Some((64, 65)),
+    ),
+    (
+        "namespace a { type t = Stream(data: Null, dimensionality: 17); type u = Stream(data: t, dimensionality: 16); }",
+        Some((65, 68)),
+    ),
+    (
+        "namespace a { type t = Stream(data: Null); type u = Stream(data: Null, user: Group(x: t)); }",
+        Some((66, 48)),
     ),
     // A port whose type is no Stream: the first, be it in an interface, and by a name.
     (
@@ -268,18 +291,40 @@ const NESTED_65: &str =
      type a60 = Group(x: a59); type a61 = Group(x: a60); type a62 = Group(x: a61); type a63 = Group(x: a62); \
      type a64 = Group(x: a63); }";
 
-// The number of a fault, and the offset of its place.
+// The number of a fault, and the offset of its place; of a type's fault its own, behind 60.
 fn number_of(fault: ResolveFault) -> (u8, u32) {
     match fault {
-        ResolveFault::DeclaredTwice(place) => (1, place.offset),
-        ResolveFault::UnknownName(place) => (2, place.offset),
-        ResolveFault::WrongKind(place) => (3, place.offset),
-        ResolveFault::CyclicType(place) => (4, place.offset),
-        ResolveFault::TypeTooLarge(place) => (5, place.offset),
-        ResolveFault::BadType(place, _) => (6, place.offset),
-        ResolveFault::PortNotStream(place) => (7, place.offset),
-        ResolveFault::CyclicInstance(place) => (8, place.offset),
+        ResolveFault::DeclaredTwice(place) => told(1, place),
+        ResolveFault::UnknownName(place) => told(2, place),
+        ResolveFault::WrongKind(place) => told(3, place),
+        ResolveFault::CyclicType(place) => told(4, place),
+        ResolveFault::TypeTooLarge(place) => told(5, place),
+        ResolveFault::BadType(place, fault) => told(number_of_type(fault), place),
+        ResolveFault::PortNotStream(place) => told(7, place),
+        ResolveFault::CyclicInstance(place) => told(8, place),
         ResolveFault::Memory => (9, 0),
+    }
+}
+
+fn number_of_type(fault: TypeFault) -> u8 {
+    match fault {
+        TypeFault::ZeroBits => 61,
+        TypeFault::ElementTooWide => 62,
+        TypeFault::BadThroughput => 63,
+        TypeFault::TooManyLanes => 64,
+        TypeFault::TooManyDims => 65,
+        TypeFault::UserHasStream => 66,
+        TypeFault::NameTwice => 67,
+        TypeFault::EmptyUnion => 68,
+    }
+}
+
+// A number with the offset of a place. Each text is one line, so its column counts the same bytes from 1.
+fn told(number: u8, place: Place) -> (u8, u32) {
+    if place.line == 1 && place.column == place.offset.saturating_add(1) {
+        (number, place.offset)
+    } else {
+        (0, place.column)
     }
 }
 

@@ -13,5 +13,5 @@ returns-in-Some c =
 pub returns : goal.returns
 returns c =
     let all = declarations_of c.args.scope.now.declared in
-    told-names all c.first_refused-unknown.result c.first_refused-wrong_kind.result c.first_of_both.result c.first_of_both.ensures
-    (subst (IsEarliest (Contains (twice all))) c.in_default.is c.in_ok-place.ensures) c.first_refused-unknown.ensures c.first_refused-wrong_kind.ensures
+    told-names all c.in_ok-unknown.unknown c.in_ok-wrong_kind.wrong_kind c.first_of_both.result c.first_of_both.ensures
+    (subst (IsEarliest (Contains (twice all))) c.in_default.is c.in_ok-place.ensures) c.in_ok-unknown.ensures c.in_ok-wrong_kind.ensures

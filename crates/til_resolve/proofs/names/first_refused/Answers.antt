@@ -13,8 +13,8 @@ numbers-preserved c =
     let all = declarations_of c.args.scope.now.declared in
     let one = declaration all c.numbers.number in
     let here : IsEarliest (Contains (refused_at c.args.sought all c.numbers.number)) c.earlier.result = rw (c.earlier.ensures)
-    (IsEarliest-append (refused (is_refused c.args.sought all) (uses_in one)) (port_refused c.args.sought all one) c.in_declaration-in_paths.result c.of_test-in_test.result
-    c.in_declaration-in_paths.ensures c.of_test-in_test.ensures) in
+    (IsEarliest-append (refused (is_refused c.args.sought all) (uses_in one)) (port_refused c.args.sought all one) c.in_ok-in_paths.in_paths c.of_test-in_test.result
+    c.in_ok-in_paths.ensures c.of_test-in_test.ensures) in
     IsEarliest-before (refused_at c.args.sought all) c.numbers.number c.numbers.found c.earlier.result c.earlier-found.result c.earlier-found.ensures c.numbers.invariant here
 
 pub returns : goal.returns
