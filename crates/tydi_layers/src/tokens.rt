@@ -173,119 +173,6 @@ const TOKENS: [Expected; 22] = [
     },
 ];
 
-struct Faulty {
-    text: &'static str,
-    fault: LexFault,
-}
-
-// Texts, and the first fault of each, by hand.
-const FAULTY: [Faulty; 13] = [
-    Faulty {
-        text: "a\n -b",
-        fault: LexFault::StrayChar(Place {
-            offset: 3,
-            line: 2,
-            column: 2,
-        }),
-    },
-    Faulty {
-        text: "1 / 2",
-        fault: LexFault::StrayChar(Place {
-            offset: 2,
-            line: 1,
-            column: 3,
-        }),
-    },
-    Faulty {
-        text: "a\u{20ac}",
-        fault: LexFault::StrayChar(Place {
-            offset: 1,
-            line: 1,
-            column: 2,
-        }),
-    },
-    Faulty {
-        text: "\u{20ac}",
-        fault: LexFault::StrayChar(Place {
-            offset: 0,
-            line: 1,
-            column: 1,
-        }),
-    },
-    Faulty {
-        text: "= \"a\n#",
-        fault: LexFault::OpenString(Place {
-            offset: 2,
-            line: 1,
-            column: 3,
-        }),
-    },
-    Faulty {
-        text: "\"#\" #\"\n",
-        fault: LexFault::OpenDoc(Place {
-            offset: 4,
-            line: 1,
-            column: 5,
-        }),
-    },
-    Faulty {
-        text: "\u{e9}",
-        fault: LexFault::NameNotAscii(Place {
-            offset: 0,
-            line: 1,
-            column: 1,
-        }),
-    },
-    Faulty {
-        text: "#\u{e9}# a__\u{e9}",
-        fault: LexFault::NameNotAscii(Place {
-            offset: 5,
-            line: 1,
-            column: 6,
-        }),
-    },
-    Faulty {
-        text: "a__b",
-        fault: LexFault::BadName(Place {
-            offset: 0,
-            line: 1,
-            column: 1,
-        }),
-    },
-    Faulty {
-        text: "// a_\nb_ \"",
-        fault: LexFault::BadName(Place {
-            offset: 6,
-            line: 2,
-            column: 1,
-        }),
-    },
-    Faulty {
-        text: "x _a",
-        fault: LexFault::BadName(Place {
-            offset: 2,
-            line: 1,
-            column: 3,
-        }),
-    },
-    Faulty {
-        text: "1234567890123456789",
-        fault: LexFault::NumberTooLong(Place {
-            offset: 0,
-            line: 1,
-            column: 1,
-        }),
-    },
-    Faulty {
-        text: "1 123456789.1234567890 c_",
-        fault: LexFault::NumberTooLong(Place {
-            offset: 2,
-            line: 1,
-            column: 3,
-        }),
-    },
-];
-
 // Texts without a fault, and how many tokens they have.
 const COUNTS: [(&str, usize); 6] = [
     ("", 0),
@@ -317,15 +204,6 @@ fn are_expected(tokens: &[Token], expected: &[Expected]) -> bool {
 fn tokens_stand_at_their_places(rt: HostRuntime) -> Result<(), Fail> {
     let tokens = lex(rt.alloc(), TEXT).ok().ok_or("tokens")?;
     assert!(rt; are_expected(tokens.as_slice(), &TOKENS));
-    Ok(())
-}
-
-#[test]
-fn the_first_fault_is_told(rt: HostRuntime) -> Result<(), Fail> {
-    for case in &FAULTY {
-        let fault = lex(rt.alloc(), case.text).err().ok_or("a fault")?;
-        assert_eq!(rt; fault, case.fault);
-    }
     Ok(())
 }
 
