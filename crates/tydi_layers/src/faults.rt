@@ -9,7 +9,7 @@ use til_resolve::{ResolveFault, resolve};
 use tydi_base::Place;
 
 // Texts, and the fault of each, if it has one: its number, and the offset of its place.
-const FAULTY: [(&str, Option<(u8, u32)>); 57] = [
+const FAULTY: [(&str, Option<(u8, u32)>); 58] = [
     // A second declaration of one name, whatever its kind, also where its namespace is opened again.
     (
         "namespace a { type b = Null; type b = Null; }",
@@ -187,6 +187,10 @@ const FAULTY: [(&str, Option<(u8, u32)>); 57] = [
     (
         "namespace a { type t = Stream(data: Null); type u = Stream(data: Null, user: Group(x: t)); }",
         Some((66, 48)),
+    ),
+    (
+        "namespace a { type b = Stream(data: Null, throughput: 128); type c = Stream(data: Null, throughput: 128.5); }",
+        Some((64, 65)),
     ),
     // A port whose type is no Stream: the first, be it in an interface, and by a name.
     (
