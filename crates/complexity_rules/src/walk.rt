@@ -91,7 +91,7 @@ impl Walk {
         }
     }
 
-    /// The walk goes over the end of this dimension where this lane marks it.
+    /// The walk goes over the end of this dimension where this lane marks it. Whether the only lane of a stream does is not foreseen.
     #[inline(always)]
     fn over_mark(self, p: &Params, transfer: &Transfer, lane: u16, dim: u8) -> Walk
         requires fits { Fits p.now transfer.now }
@@ -102,8 +102,16 @@ impl Walk {
             → Finds p.now.dims begins (over ++ (if last_bit p.now transfer.now lane dim then items.Close dim ∷ [] else [])) result }
         ensures few { result.packets ≤ self.packets + 1 }
     {
-        let closed = self.over_close(p, dim);
-        chosen(is_last(p, transfer, lane, dim), closed, self)
+        let marked = is_last(p, transfer, lane, dim);
+        if p.lanes == 1 {
+            let closed = self.over_close(p, dim);
+            return chosen(marked, closed, self);
+        }
+        if marked {
+            self.over_close(p, dim)
+        } else {
+            self
+        }
     }
 
     /// The walk goes over the ends that this lane marks. Most streams have one dimension, for which there is no loop.
