@@ -35,17 +35,17 @@ ones-part n from (suc count) =
     ap ones parts ∙ ones_cat count (y / 2 ^ count % 2) (y % 2 ^ count) (mod-lt y (pow_pos count)) ∙ omega (arith, top, below)
 
 -- a part of a number, with all else shifted out
-ones-shifted : (n from count more : ℕ) → count + more ≡ 128 → ones (n / 2 ^ from * 2 ^ more % 2 ^ 128) ≡ ones_of n from count
+ones-shifted : (bits n from count more : ℕ) → count + more ≡ bits → ones (n / 2 ^ from * 2 ^ more % 2 ^ bits) ≡ ones_of n from count
 unfolding ones
-ones-shifted n from count more whole =
+ones-shifted bits n from count more whole =
     let y = n / 2 ^ from in
     let part = y % 2 ^ count in
-    let width : 2 ^ count * 2 ^ more ≡ 2 ^ 128 = sym (pow-add 2 count more) ∙ ap (λ (k : ℕ). 2 ^ k) whole in
+    let width : 2 ^ count * 2 ^ more ≡ 2 ^ bits = sym (pow-add 2 count more) ∙ ap (λ (k : ℕ). 2 ^ k) whole in
     let small : part * 2 ^ more < 2 ^ count * 2 ^ more = below part (2 ^ more) (2 ^ count) (mod-lt y (pow_pos count)) (pow_pos more) in
     let split : y * 2 ^ more ≡ y / 2 ^ count * (2 ^ count * 2 ^ more) + part * 2 ^ more =
     ap (λ (k : ℕ). k * 2 ^ more) (sym (shr_split y count)) ∙ add-mul (y / 2 ^ count * 2 ^ count) part (2 ^ more)
     ∙ ap (λ (k : ℕ). k + part * 2 ^ more) (mul_assoc (y / 2 ^ count) (2 ^ count) (2 ^ more)) in
-    let kept : y * 2 ^ more % 2 ^ 128 ≡ part * 2 ^ more =
+    let kept : y * 2 ^ more % 2 ^ bits ≡ part * 2 ^ more =
     ap (λ (k : ℕ). y * 2 ^ more % k) (sym width) ∙ ap (λ (k : ℕ). k % (2 ^ count * 2 ^ more)) split ∙ mod-mul-add (y / 2 ^ count) (2 ^ count * 2 ^ more) (part * 2 ^ more) small in
     ap ones kept ∙ ap ones (sym (add-zero (part * 2 ^ more))) ∙ ones_cat more part 0 (pow_pos more) ∙ add-zero (ones part) ∙ ones-part n from count
   where
@@ -104,11 +104,11 @@ active_lanes-most t from (suc count) = omega (arith, active_lanes-most t from co
 pub active_outside : (t : Transfer) (from to : ℕ) → from ≤ to → ((lane : ℕ) → from ≤ lane → lane < to → (lane < t.stai) ⊎ (t.endi < lane)) → active_lanes t from (to - from) ≡ 0
 active_outside t from to order outside = active_none t from (to - from) (λ lane after before. outside lane after (omega arith))
 
--- the active lanes of a range are the ones of the strobe between stai and endi
-pub active_shifted : (t : Transfer) (from to low high : ℕ) → from ≤ low → low < high → high ≤ to → to ≤ 128 → t.stai ≤ low → high ≤ t.endi + 1 →
+-- the active lanes of a range are the ones of the strobe between stai and endi, in a number of so many bits
+pub active_shifted : (bits : ℕ) (t : Transfer) (from to low high : ℕ) → from ≤ low → low < high → high ≤ to → high ≤ bits → t.stai ≤ low → high ≤ t.endi + 1 →
     ((lane : ℕ) → from ≤ lane → lane < low → lane < t.stai) → ((lane : ℕ) → high ≤ lane → lane < to → t.endi < lane) →
-    ones (t.strb / 2 ^ low * 2 ^ (128 - (high - low)) % 2 ^ 128) ≡ active_lanes t from (to - from)
-active_shifted t from to low high front some back most after before idle_front idle_back =
+    ones (t.strb / 2 ^ low * 2 ^ (bits - (high - low)) % 2 ^ bits) ≡ active_lanes t from (to - from)
+active_shifted bits t from to low high front some back most after before idle_front idle_back =
     let whole : to - from ≡ low - from + (high - low + (to - high)) = omega arith in
     let begins : from + (low - from) ≡ low = omega arith in
     let ends : low + (high - low) ≡ high = omega arith in
@@ -120,7 +120,7 @@ active_shifted t from to low high front some back most after before idle_front i
     let at_low = ap (λ (lane : ℕ). active_lanes t lane (high - low + (to - high))) begins in
     let at_high = ap (λ (lane : ℕ). active_lanes t lane (to - high)) ends in
     let all = ap (active_lanes t from) whole in
-    ones-shifted t.strb low (high - low) (128 - (high - low)) (omega arith) ∙ omega (arith, first, last, inside, parts, rest, at_low, at_high, all)
+    ones-shifted bits t.strb low (high - low) (bits - (high - low)) (omega arith) ∙ omega (arith, first, last, inside, parts, rest, at_low, at_high, all)
 
 pub ones_none : ones 0 ≡ 0
 unfolding ones

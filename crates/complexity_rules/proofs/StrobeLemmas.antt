@@ -1,10 +1,8 @@
 -- Strobe bits that are not all equal.
-use Rattle.std.proofs.Common.{◌≡◌, ◌∙◌, ℕ, zero, suc, ◌+◌, ◌-◌, ◌/◌, ◌%◌, ◌^◌, ◌<◌, ◌≤◌, inl, inr, ◌⊎◌, refl, sym, ap, arith}
+use Rattle.std.proofs.Common.{◌≡◌, ◌∙◌, ℕ, zero, suc, ◌+◌, ◌-◌, ◌/◌, ◌%◌, ◌^◌, ◌<◌, ◌≤◌, inl, inr, ◌⊎◌, ◌↔◌, Bool, true, false, not, IsTrue, refl, sym, ap, arith}
 use Rattle.std.specs.Int.{bit_at}
 use Rattle.std.proofs.Math.Nat.{pow-succ', div-add-mod, mod-lt}
 use Rattle.std.proofs.lemmas.Bool.{cases_lt}
-use Rattle.std.specs.Int.Count.{ones, ones-ones}
-use Rattle.std.proofs.lemmas.Nat.{div-add-mod', ones-le, ones_cat, zero_from_ones}
 use Rattle.std.proofs.lemmas.Nat.Bits.{bit_at_lowest, bit_at-suc, bit_at-zero, bit_at_ones}
 use Rattle.physical_stream.specs.Params.{Parameters}
 use Rattle.physical_stream.specs.Breaks.{BreaksStrobe}
@@ -49,32 +47,14 @@ has_zero n (suc lanes) below = by_low (low_bit n) (λ less. has_zero (n / 2) lan
     by_low (inl even) above = HasBit-here 0 n lanes even
     by_low (inr odd) above = HasBit-above 0 n lanes (above (omega (arith, pow-succ' 2 lanes, div-add-mod n 2)))
 
--- a number that is not all ones has fewer ones than bits
-ones_fewer : (n lanes : ℕ) → n + 1 < 2 ^ lanes → ones n < lanes
-unfolding ones
-ones_fewer n zero below = absurd (omega arith)
-ones_fewer n (suc lanes) below = by_low (low_bit n) (λ less. ones_fewer (n / 2) lanes less)
-  where
-    parts : ones n ≡ ones (n / 2) + ones (n % 2)
-    parts = ap ones (sym (div-add-mod' n 2)) ∙ ones_cat 1 (n / 2) (n % 2) (mod-lt n (omega arith))
-
-    most : ones (n / 2) ≤ lanes
-    most = ones-le lanes (n / 2) (half_below n lanes (omega arith))
-
-    by_low : (n % 2 ≡ 0) ⊎ (n % 2 ≡ 1) → (n / 2 + 1 < 2 ^ lanes → ones (n / 2) < lanes) → ones n < suc lanes
-    by_low (inl even) above = let none : ones (n % 2) ≡ 0 = ap ones even in omega (arith, parts, none, most)
-    by_low (inr odd) above =
-        let one : ones (n % 2) ≡ 1 = ap ones odd in
-        let less = above (omega (arith, pow-succ' 2 lanes, div-add-mod n 2)) in omega (arith, parts, one, less)
-
 -- some bits differ exactly where the strobe is neither zero nor all ones
-pub BreaksStrobe-mixed : (p : Parameters) (t : Transfer) → t.strb < 2 ^ p.lanes → 0 < t.strb → t.strb + 1 < 2 ^ p.lanes → BreaksStrobe p t
+BreaksStrobe-mixed : (p : Parameters) (t : Transfer) → t.strb < 2 ^ p.lanes → 0 < t.strb → t.strb + 1 < 2 ^ p.lanes → BreaksStrobe p t
 BreaksStrobe-mixed p t below some less =
     let one = has_one t.strb p.lanes below some in
     let other = has_zero t.strb p.lanes less in
     record { one = one.0; other = other.0; one_within = one.1; other_within = other.1; one_set = one.2; other_clear = other.2 }
 
-pub mixed-BreaksStrobe : (p : Parameters) (t : Transfer) → t.strb < 2 ^ p.lanes → BreaksStrobe p t → (0 < t.strb) × (t.strb + 1 < 2 ^ p.lanes)
+mixed-BreaksStrobe : (p : Parameters) (t : Transfer) → t.strb < 2 ^ p.lanes → BreaksStrobe p t → (0 < t.strb) × (t.strb + 1 < 2 ^ p.lanes)
 mixed-BreaksStrobe p t below b = (not_zero t.strb refl, not_ones (cases_lt (t.strb + 1) (2 ^ p.lanes)))
   where
     not_zero : (n : ℕ) → t.strb ≡ n → 0 < t.strb
@@ -88,26 +68,26 @@ mixed-BreaksStrobe p t below b = (not_zero t.strb refl, not_ones (cases_lt (t.st
         let ones : t.strb ≡ 2 ^ p.lanes - 1 = omega arith in
         let clash : ◌≡◌ {A = ℕ} 1 0 = sym (bit_at_ones p.lanes b.other b.other_within) ∙ ap (λ (n : ℕ). bit_at n b.other) (sym ones) ∙ b.other_clear in absurd (omega arith)
 
--- the bits differ exactly where some of them are ones and not all
-pub BreaksStrobe-ones : (p : Parameters) (t : Transfer) → t.strb < 2 ^ p.lanes → 0 < ones t.strb → ones t.strb < p.lanes → BreaksStrobe p t
-unfolding ones
-BreaksStrobe-ones p t below some few = BreaksStrobe-mixed p t below (not_zero t.strb refl) (not_ones (cases_lt (t.strb + 1) (2 ^ p.lanes)))
+-- the test of the strobe
+pub BreaksStrobe-test : (p : Parameters) (t : Transfer) (lanes : ℕ) (all : Bool) → t.strb < 2 ^ p.lanes → (t.strb ≡ 0 → ⊥) → lanes ≡ p.lanes → IsTrue all ↔ (t.strb ≡ 2 ^ lanes - 1) → IsTrue (not all) ↔ BreaksStrobe p t
+BreaksStrobe-test p t lanes true below some same is = (
+  λ holds. absurd cc,
+  λ b.
+      let less = (mixed-BreaksStrobe p t below b).1 in
+      let ones : t.strb ≡ 2 ^ p.lanes - 1 = is.0 refl ∙ ap (λ (n : ℕ). 2 ^ n - 1) same in
+      absurd (omega (arith, less, ones)),
+)
+BreaksStrobe-test p t lanes false below some same is = (
+  λ holds. BreaksStrobe-mixed p t below (positive t.strb some) (not_ones (cases_lt (t.strb + 1) (2 ^ p.lanes))),
+  λ b. refl,
+)
   where
-    not_zero : (n : ℕ) → t.strb ≡ n → 0 < t.strb
-    not_zero zero is = let none : ones t.strb ≡ 0 = ap ones is in absurd (omega (arith, some, none))
-    not_zero (suc n) is = omega arith
+    positive : (n : ℕ) → (n ≡ 0 → ⊥) → 0 < n
+    positive zero none = absurd (none refl)
+    positive (suc n) none = omega arith
 
     not_ones : (t.strb + 1 < 2 ^ p.lanes) ⊎ (2 ^ p.lanes ≤ t.strb + 1) → t.strb + 1 < 2 ^ p.lanes
     not_ones (inl less) = less
     not_ones (inr more) =
-        let all : t.strb ≡ 2 ^ p.lanes - 1 = omega arith in
-        let many : ones t.strb ≡ p.lanes = ap ones all ∙ ones-ones p.lanes in absurd (omega (arith, few, many))
-
-pub ones-BreaksStrobe : (p : Parameters) (t : Transfer) → t.strb < 2 ^ p.lanes → BreaksStrobe p t → (0 < ones t.strb) × (ones t.strb < p.lanes)
-ones-BreaksStrobe p t below b =
-    let mixed = mixed-BreaksStrobe p t below b in
-    (some (ones t.strb) refl mixed.0, ones_fewer t.strb p.lanes mixed.1)
-  where
-    some : (n : ℕ) → ones t.strb ≡ n → 0 < t.strb → 0 < ones t.strb
-    some zero is positive = let none : t.strb ≡ 0 = zero_from_ones t.strb is in absurd (omega (arith, positive, none))
-    some (suc n) is positive = omega arith
+        let ones : t.strb ≡ 2 ^ p.lanes - 1 = omega arith in
+        let clash = is.1 (ones ∙ ap (λ (n : ℕ). 2 ^ n - 1) (sym same)) in absurd cc

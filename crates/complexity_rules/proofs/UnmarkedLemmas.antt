@@ -1,11 +1,12 @@
 -- Lanes that mark no end, and a walk over them.
-use Rattle.std.proofs.Common.{◌≡◌, ◌∙◌, ℕ, zero, suc, ◌+◌, ◌-◌, ◌*◌, ◌/◌, ◌%◌, ◌^◌, ◌<◌, ◌≤◌, Bool, true, false, ◌==◌, cond, if◌then◌else◌, List, [], ◌∷◌, ◌++◌, get_or, Option, Some, refl, sym, ap, subst, arith}
-use Rattle.std.specs.Int.{bit_at, trailing_zeros, w128}
+use Rattle.std.proofs.Common.{◌≡◌, ◌∙◌, ℕ, zero, suc, ◌+◌, ◌-◌, ◌*◌, ◌/◌, ◌%◌, ◌^◌, ◌<◌, ◌≤◌, Bool, true, false, ◌==◌, MatchOption, cond, if◌then◌else◌, List, [], ◌∷◌, ◌++◌, get_or, Option, Some, refl, sym, ap, subst, arith}
+use Rattle.std.specs.Bool.{then_some}
+use Rattle.std.specs.Int.{bit_at}
 use Rattle.std.specs.Int.Count.{ones}
-use Rattle.std.proofs.Math.Nat.{add-mul, add-zero, div-le_self, div-mul-le_self, mul_comm, mul-le-mul_right}
+use Rattle.std.proofs.Math.Nat.{add-mul, add-zero, div-mul-le_self, mul_comm, mul-le-mul_right}
 use Rattle.std.proofs.Math.Numerals.{add-one}
 use Rattle.std.proofs.lemmas.Nat.{mul-add-lt, shr-shr, zero_from_ones}
-use Rattle.std.proofs.lemmas.Nat.Bits.{bit_at_lowest, bit_at-suc, bit_at-trailing_zeros, bit_at-zero}
+use Rattle.std.proofs.lemmas.Nat.Bits.{bit_at_lowest, bit_at-suc, bit_at-zero}
 use Rattle.std.proofs.lemmas.Option.{cond_some}
 use Rattle.tydi_base.specs.Bits.{number_of_bits}
 use Rattle.tydi_base.specs.Hex.{no_ones}
@@ -17,7 +18,7 @@ use Rattle.physical_stream.specs.declared.item.Item.TheVariants as items
 use Rattle.physical_stream.specs.declared.item.Tail.{Tail}
 use Rattle.physical_stream.specs.declared.item.Tail.TheVariants as tails
 use Rattle.physical_stream.specs.declared.transfer.Transfer.{Transfer}
-use Rattle.complexity_rules.specs.Unmarked.{active_lanes, AreUnmarked, ShowsMarks}
+use Rattle.complexity_rules.specs.Unmarked.{active_lanes, AreUnmarked, AreZeros, ShowsMarks}
 use Rattle.complexity_rules.specs.Walk.{Finds}
 use Rattle.complexity_rules.specs.declared.walk.Walk.{Walk}
 use Rattle.complexity_rules.proofs.LaneLemmas.{closes}
@@ -59,36 +60,39 @@ unmarked_by p t marks number from to shows is clear lane dim after before within
     omega (arith, mul-add-lt (lane - from) p.dims dim (to - from) (omega arith) within, mul_comm p.dims (to - from)) in
     shows number (lane * p.dims + dim) is (ap (bit_at number) place ∙ clear ((lane - from) * p.dims + dim) inside)
 
--- the rest of the number is 0
-pub unmarked_zero : (p : Parameters) (t : Transfer) (marks : Option ℕ) (number from to place : ℕ) → ShowsMarks marks t → marks ≡ Some number → place ≡ from * p.dims → number / 2 ^ place ≡ 0 →
-    AreUnmarked p t from to
-unmarked_zero p t marks number from to start shows is at none =
-    unmarked_by p t marks number from to shows is (λ place within.
-    ap (λ (n : ℕ). bit_at number (n + place)) (sym at) ∙ ap (λ (n : ℕ). n % 2) (sym (shr-shr number start place)) ∙ ap (λ (n : ℕ). bit_at n place) none ∙ bit_at-zero place)
-
--- the rest of the number begins with zeros
-pub unmarked_zeros : (p : Parameters) (t : Transfer) (marks : Option ℕ) (number from to start zeros : ℕ) → ShowsMarks marks t → marks ≡ Some number → start ≡ from * p.dims →
-    ((place : ℕ) → place < zeros → bit_at (number / 2 ^ start) place ≡ 0) → to - from ≤ zeros / p.dims → AreUnmarked p t from to
-unmarked_zeros p t marks number from to start zeros shows is at clear few =
-    unmarked_by p t marks number from to shows is (λ place within.
-    let most : (to - from) * p.dims ≤ zeros = omega (arith, mul-le-mul_right p.dims few, div-mul-le_self zeros p.dims) in
-    ap (λ (n : ℕ). bit_at number (n + place)) (sym at) ∙ ap (λ (n : ℕ). n % 2) (sym (shr-shr number start place)) ∙ clear place (omega arith))
-
 pub place_of : (lane width from inside dims : ℕ) → lane ≡ from → width ≡ inside → inside ≡ dims → lane * width ≡ from * dims
 place_of lane width from inside dims at as_wide same = ap (λ (n : ℕ). n * width) at ∙ ap (λ (n : ℕ). from * n) (as_wide ∙ same)
 
--- the lanes before the lowest one that is left
-pub unmarked_trailing : (p : Parameters) (t : Transfer) (marks : Option ℕ) (number from to start : ℕ) → ShowsMarks marks t → marks ≡ Some number → number < 2 ^ 128 → start ≡ from * p.dims →
-    (number / 2 ^ start ≡ 0 → ⊥) → to - from ≤ trailing_zeros w128 (number / 2 ^ start) / p.dims → AreUnmarked p t from to
-unmarked_trailing p t marks number from to start shows is below at some few =
-    let rest = number / 2 ^ start in
-    let fits : rest < 2 ^ 128 = omega (arith, below, div-le_self number (2 ^ start)) in
-    let lowest = bit_at-trailing_zeros w128 rest (positive rest some) fits in
-    unmarked_zeros p t marks number from to start (trailing_zeros w128 rest) shows is at lowest.2 few
-  where
-    positive : (n : ℕ) → (n ≡ 0 → ⊥) → 0 < n
-    positive zero some = absurd (some refl)
-    positive (suc n) some = omega arith
+-- ---- the first one of a number from a place on
+
+-- what is left of the number is 0
+zeros-all : (number place rest : ℕ) → rest ≡ number / 2 ^ place → rest ≡ 0 → (count : ℕ) → AreZeros number place count
+zeros-all number place rest is none count next within =
+    ap (λ (n : ℕ). n % 2) (sym (shr-shr number place next)) ∙ ap (λ (n : ℕ). bit_at n next) (sym is ∙ none) ∙ bit_at-zero next
+
+-- what is left of it begins with so many zeros
+zeros-before : (number place rest zeros : ℕ) → rest ≡ number / 2 ^ place → ((next : ℕ) → next < zeros → bit_at rest next ≡ 0) → AreZeros number place zeros
+zeros-before number place rest zeros is lowest next within = ap (λ (n : ℕ). n % 2) (sym (shr-shr number place next)) ∙ ap (λ (n : ℕ). bit_at n next) (sym is) ∙ lowest next within
+
+-- what is told of the first one, where what is left of the number is this
+pub first_one-told : (number place rest zeros : ℕ) (some : Bool) (found : Option ℕ) → rest ≡ number / 2 ^ place → (some ≡ false → rest ≡ 0) → (some ≡ true → (next : ℕ) → next < zeros → bit_at rest next ≡ 0)
+    → found ≡ then_some some zeros → MatchOption found ((count : ℕ) → AreZeros number place count) (AreZeros number place)
+first_one-told number place rest zeros false found is none lowest told = subst (λ (o : Option ℕ). MatchOption o ((count : ℕ) → AreZeros number place count) (AreZeros number place)) (sym told) (zeros-all number place rest is (none refl))
+first_one-told number place rest zeros true found is none lowest told = subst (λ (o : Option ℕ). MatchOption o ((count : ℕ) → AreZeros number place count) (AreZeros number place)) (sym told) (zeros-before number place rest zeros is (lowest refl))
+
+-- no lane is marked where the number has zeros alone from the first of them on
+pub unmarked_all : (p : Parameters) (t : Transfer) (marks : Option ℕ) (number from to start : ℕ) → ShowsMarks marks t → marks ≡ Some number → start ≡ from * p.dims →
+    ((count : ℕ) → AreZeros number start count) → AreUnmarked p t from to
+unmarked_all p t marks number from to start shows is at zeros =
+    unmarked_by p t marks number from to shows is (λ place within. ap (λ (n : ℕ). bit_at number (n + place)) (sym at) ∙ zeros (suc place) place (omega arith))
+
+-- none of the lanes before the first one of the number is marked
+pub unmarked_before : (p : Parameters) (t : Transfer) (marks : Option ℕ) (number from to start zeros : ℕ) → ShowsMarks marks t → marks ≡ Some number → start ≡ from * p.dims →
+    AreZeros number start zeros → to - from ≤ zeros / p.dims → AreUnmarked p t from to
+unmarked_before p t marks number from to start zeros shows is at clear few =
+    unmarked_by p t marks number from to shows is (λ place within.
+    let most : (to - from) * p.dims ≤ zeros = omega (arith, mul-le-mul_right p.dims few, div-mul-le_self zeros p.dims) in
+    ap (λ (n : ℕ). bit_at number (n + place)) (sym at) ∙ clear place (omega arith))
 
 -- ---- a walk over unmarked lanes
 

@@ -1,5 +1,5 @@
 -- What a walk over items finds, item by item and list by list.
-use Rattle.std.proofs.Common.{◌≡◌, ◌∙◌, ℕ, ◌+◌, Bool, true, false, not, ◌||◌, if◌then◌else◌, List, [], ◌∷◌, ◌++◌, cond, ◌==◌, Option, None, Some, refl, sym, ap, subst, append_assoc}
+use Rattle.std.proofs.Common.{◌≡◌, ◌≤◌, ◌∙◌, ℕ, ◌+◌, Bool, true, false, not, ◌||◌, if◌then◌else◌, List, [], ◌∷◌, ◌++◌, cond, ◌==◌, Option, None, Some, refl, sym, ap, subst, append_assoc}
 use Rattle.std.proofs.Math.Bool.{or_assoc}
 use Rattle.std.proofs.lemmas.List.{append-nil}
 use Rattle.std.proofs.lemmas.List.Sums.{sum_by_push}
@@ -118,6 +118,16 @@ pub Finds-absent : (dims : ℕ) (begins : Option Tail) (over : List Item) (item 
     Finds dims begins over walk → Finds dims begins (over ++ (if there then item ∷ [] else [])) walk
 Finds-absent dims begins over item there walk is f =
     subst (λ (b : Bool). Finds dims begins (over ++ (if b then item ∷ [] else [])) walk) (sym is) (Finds-none dims begins over walk f)
+
+-- the one of two walks that went over the item where it is there
+pub Finds-chosen : (dims : ℕ) (begins : Option Tail) (over : List Item) (item : Item) (there : Bool) (over_item walk : Walk) →
+    Finds dims begins (over ++ item ∷ []) over_item → Finds dims begins over walk → Finds dims begins (over ++ (if there then item ∷ [] else [])) (cond there over_item walk)
+Finds-chosen dims begins over item true over_item walk found f = found
+Finds-chosen dims begins over item false over_item walk found f = Finds-none dims begins over walk f
+
+pub chosen-few : (there : Bool) (one other : Walk) (most : ℕ) → one.packets ≤ most → other.packets ≤ most → (cond there one other).packets ≤ most
+chosen-few true one other most few less = few
+chosen-few false one other most few less = less
 
 -- two parts, one after another
 pub Finds-parts : (dims : ℕ) (begins : Option Tail) (over a b : List Item) (walk : Walk) →

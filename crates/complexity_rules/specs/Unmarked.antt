@@ -18,3 +18,7 @@ AreUnmarked p t from to = (lane dim : ℕ) → from ≤ lane → lane < to → d
 -- where there is such a number, it has a one at the place of each last bit that is set
 abbrev pub ShowsMarks : Option ℕ → Transfer → Type 0
 ShowsMarks marks t = (number place : ℕ) → marks ≡ Some number → bit_at number place ≡ 0 → slice_index_or t.last place false ≡ false
+
+-- so many bits of a number from a place on are zeros
+abbrev pub AreZeros : ℕ → ℕ → ℕ → Type 0
+AreZeros number place count = (next : ℕ) → next < count → bit_at number (place + next) ≡ 0

@@ -1,7 +1,7 @@
 //! The lowest rule that a cycle breaks. Where a transfer waits it has to be shown again, and nothing else can be broken. Else all
 //! that the rules need of the cycles before is the kind of the last item done.
 
-ghost use Rattle.std.specs.Prelude.{◌≡◌, ◌↔◌, ◌&&◌, not, None, List, Bool, IsTrue};
+ghost use Rattle.std.specs.Prelude.{◌≡◌, ◌↔◌, ◌-◌, ◌^◌, ◌≤◌, ◌&&◌, not, None, List, Bool, IsTrue};
 ghost use Rattle.physical_stream.specs.Breaks.{BreaksEnd, BreaksIndex, BreaksLaneLast, BreaksStart, BreaksStrobe};
 ghost use Rattle.physical_stream.specs.Cycles.{Cycle, items_done, waiting_of};
 ghost use Rattle.physical_stream.specs.Items.{items_of};
@@ -17,7 +17,7 @@ ghost use Rattle.complexity_rules.specs.Walk.{Finds, first_close, misses_empty};
 use crate::pauses::{breaks_inner_pause, breaks_outer_pause};
 use crate::table::binds;
 use crate::walk::{Shown, Walk};
-use physical_stream::{Params, Rule, Tail, Transfer};
+use physical_stream::{Params, Rule, Tail, Transfer, all_lanes};
 use tydi_base::Level;
 
 /// A row for each rule, in the order of their numbers: its name, and the condition under which a cycle does what it forbids. The
@@ -103,8 +103,21 @@ fn breaks_strobe(p: &Params, transfer: &Transfer) -> bool
     requires { Fits p.now transfer.now }
     ensures { IsTrue result ↔ BreaksStrobe p.now transfer.now }
 {
-    let ones = transfer.strb.count_ones();
-    ones > 0 && ones < u32::from(p.lanes)
+    transfer.strb != 0 && !is_all_ones(transfer.strb, p.lanes)
+}
+
+/// Whether this is the greatest number of so many bits.
+#[inline(always)]
+fn is_all_ones(number: u128, bits: u16) -> bool
+    requires { bits ≤ 128 }
+    ensures { IsTrue result ↔ (number ≡ 2 ^ bits - 1) }
+{
+    if bits < 64 {
+        let ones: u64 = (1 << bits) - 1;
+        number == u128::from(ones)
+    } else {
+        number == all_lanes(bits)
+    }
 }
 
 /// Whether stai is not 0.

@@ -1,10 +1,11 @@
 //! Lanes that mark no end. A walk goes past them at once.
 
-ghost use Rattle.std.specs.Prelude.{◌≡◌, ◌-◌, ◌*◌, ◌/◌, ◌<◌, ◌≤◌, count_ones};
+ghost use Rattle.std.specs.Prelude.{◌≡◌, ◌↔◌, ℕ, ◌-◌, ◌*◌, ◌/◌, ◌^◌, ◌<◌, ◌≤◌, IfSome, IsTrue, MatchOption, count_ones};
+ghost use Rattle.physical_stream.specs.Items.{is_active};
 ghost use Rattle.physical_stream.specs.declared.transfer.Transfer.{Transfer};
-ghost use Rattle.complexity_rules.specs.Unmarked.{active_lanes, AreUnmarked, ShowsMarks};
+ghost use Rattle.complexity_rules.specs.Unmarked.{active_lanes, AreUnmarked, AreZeros, ShowsMarks};
 
-use physical_stream::{Params, Transfer};
+use physical_stream::{Params, Transfer, is_active};
 
 /// The active lanes from one up to another, as the ones of a number.
 #[inline(always)]
@@ -19,7 +20,30 @@ pub(crate) fn active_between(transfer: &Transfer, from: u16, to: u16) -> u128
     if low >= high {
         return 0;
     }
+    if high <= 64 && is_short(transfer.strb) {
+        return u128::from((transfer.strb as u64 >> low) << (64 - (high - low)));
+    }
     (transfer.strb >> low) << (128 - (high - low))
+}
+
+/// Whether a lane is active.
+#[inline(always)]
+pub(crate) fn is_lane_active(transfer: &Transfer, lane: u16) -> bool
+    requires { lane < 128 }
+    ensures { result ≡ is_active transfer.now lane }
+{
+    if lane >= 64 || !is_short(transfer.strb) {
+        return is_active(transfer, lane);
+    }
+    (transfer.strb as u64 >> lane) % 2 == 1 && transfer.stai <= lane && lane <= transfer.endi
+}
+
+/// Whether a number has 64 bits at most. Shifts of such numbers are fast.
+#[inline(always)]
+fn is_short(number: u128) -> bool
+    ensures { IsTrue result ↔ (number < 2 ^ 64) }
+{
+    number < 1 << 64
 }
 
 /// The last bits as a number. None where they are more than it can hold.
@@ -49,12 +73,25 @@ pub(crate) fn next_marked(p: &Params, marks: Option<u128>, from: u16, to: u16) -
     if place >= 128 {
         return from;
     }
-    let rest = number >> place;
-    if rest == 0 {
-        return to;
+    match first_one(number, place) {
+        Some(bits) => to.min(from + lanes_in(p, bits) as u16),
+        None => to,
     }
-    let past = lanes_in(p, rest.trailing_zeros());
-    to.min(from + past as u16)
+}
+
+/// How many zeros stand before the first one of a number from a place on. None where there is no such one.
+#[inline(always)]
+fn first_one(number: u128, place: u32) -> Option<u32>
+    requires { place < 128 }
+    ensures zeros { MatchOption result ((count : ℕ) → AreZeros number place count) (AreZeros number place) }
+    ensures few { IfSome result (λ zeros. zeros ≤ 128) }
+{
+    if place < 64 && is_short(number) {
+        let rest = number as u64 >> place;
+        return (rest != 0).then_some(rest.trailing_zeros());
+    }
+    let rest = number >> place;
+    (rest != 0).then_some(rest.trailing_zeros())
 }
 
 /// How many whole lanes so many last bits are. It divides only where there are more dimensions than one.

@@ -9,12 +9,12 @@ ghost use Rattle.physical_stream.specs.declared.item.Item.{Item};
 ghost use Rattle.physical_stream.specs.declared.item.Item.TheVariants as items;
 ghost use Rattle.physical_stream.specs.declared.item.Tail.{Tail};
 ghost use Rattle.complexity_rules.specs.Effect.{IsEffect};
-ghost use Rattle.complexity_rules.specs.Unmarked.{AreUnmarked};
+ghost use Rattle.complexity_rules.specs.Unmarked.{AreUnmarked, ShowsMarks};
 ghost use Rattle.complexity_rules.specs.Walk.{Finds, first_of_two};
 
 use crate::effect::Effect;
-use crate::unmarked::{active_between, marks_of, next_marked};
-use physical_stream::{Params, Tail, Transfer, is_active, is_last};
+use crate::unmarked::{active_between, is_lane_active, marks_of, next_marked};
+use physical_stream::{Params, Tail, Transfer, is_last};
 
 /// What a walk over items has found so far.
 #[derive(Clone, Copy, Debug, PartialEq, Eq)]
@@ -91,7 +91,7 @@ impl Walk {
         }
     }
 
-    /// The walk goes over the end of this dimension where this lane marks it.
+    /// The walk goes over the end of this dimension where this lane marks it. Whether the only lane of a stream does is not foreseen.
     #[inline(always)]
     fn over_mark(self, p: &Params, transfer: &Transfer, lane: u16, dim: u8) -> Walk
         requires fits { Fits p.now transfer.now }
@@ -102,14 +102,19 @@ impl Walk {
             → Finds p.now.dims begins (over ++ (if last_bit p.now transfer.now lane dim then items.Close dim ∷ [] else [])) result }
         ensures few { result.packets ≤ self.packets + 1 }
     {
-        if is_last(p, transfer, lane, dim) {
+        let marked = is_last(p, transfer, lane, dim);
+        if p.lanes == 1 {
+            let closed = self.over_close(p, dim);
+            return chosen(marked, closed, self);
+        }
+        if marked {
             self.over_close(p, dim)
         } else {
             self
         }
     }
 
-    /// The walk goes over the ends that this lane marks.
+    /// The walk goes over the ends that this lane marks. Most streams have one dimension, for which there is no loop.
     #[inline(always)]
     fn over_marks(self, p: &Params, transfer: &Transfer, lane: u16) -> Walk
         requires fits { Fits p.now transfer.now }
@@ -118,6 +123,9 @@ impl Walk {
         ensures found { (begins : Option Tail) (over : List Item) → Finds p.now.dims begins over self → Finds p.now.dims begins (over ++ lane_closes p.now transfer.now lane) result }
         ensures few { result.packets ≤ self.packets + 32 }
     {
+        if p.dims == 1 {
+            return self.over_mark(p, transfer, lane, 0);
+        }
         let mut walk = self;
         'dims: for dim in 0..p.dims {
             walk = walk.over_mark(p, transfer, lane, dim);
@@ -134,7 +142,7 @@ impl Walk {
             → Finds p.now.dims begins (over ++ (if is_active transfer.now lane then items.Elem (lane_word p.now transfer.now lane) ∷ [] else [])) result }
         ensures few { result.packets ≤ self.packets + 1 }
     {
-        if is_active(transfer, lane) {
+        if is_lane_active(transfer, lane) {
             self.over_element(p)
         } else {
             self
@@ -180,8 +188,9 @@ impl Walk {
 
     /// The walk goes over the items of the first lanes, so many of them.
     #[inline(always)]
-    fn over_lanes(self, p: &Params, transfer: &Transfer, count: u16) -> Walk
+    fn over_lanes(self, p: &Params, transfer: &Transfer, marks: Option<u128>, count: u16) -> Walk
         requires fits { Fits p.now transfer.now }
+        requires shows { ShowsMarks marks transfer.now }
         requires within { count ≤ p.now.lanes }
         requires numbered { count ≤ 128 }
         requires fresh { self.packets ≡ 0 }
@@ -191,7 +200,6 @@ impl Walk {
         if count == 0 {
             return self;
         }
-        let marks = marks_of(transfer);
         let mut walk = self;
         let mut lane = 0;
         'lanes: while lane < count {
@@ -224,25 +232,32 @@ pub(crate) fn walk_over(p: &Params, transfer: &Transfer, tail: Option<Tail>) -> 
     ensures early { IsTrue result.early ↔ BreaksLaneLast p.now transfer.now }
     ensures few { result.walk.packets ≤ 4224 }
 {
-    if next_marked(p, marks_of(transfer), 0, p.lanes) == p.lanes {
+    let marks = marks_of(transfer);
+    if next_marked(p, marks, 0, p.lanes) == p.lanes {
         return Shown {
             early: false,
             walk: Walk::after(tail).over_unmarked(p, transfer, 0, p.lanes),
         };
     }
-    walk_over_marked(p, transfer, tail)
+    walk_over_marked(p, transfer, marks, tail)
 }
 
 /// The same, lane by lane.
 #[inline(always)]
-fn walk_over_marked(p: &Params, transfer: &Transfer, tail: Option<Tail>) -> Shown
+fn walk_over_marked(
+    p: &Params,
+    transfer: &Transfer,
+    marks: Option<u128>,
+    tail: Option<Tail>,
+) -> Shown
     requires fits { Fits p.now transfer.now }
+    requires shows { ShowsMarks marks transfer.now }
     ensures found { Finds p.now.dims tail (items_of p.now transfer.now) result.walk }
     ensures early { IsTrue result.early ↔ BreaksLaneLast p.now transfer.now }
     ensures few { result.walk.packets ≤ 4224 }
 {
     let last = p.lanes - 1;
-    let before = Walk::after(tail).over_lanes(p, transfer, last);
+    let before = Walk::after(tail).over_lanes(p, transfer, marks, last);
     Shown {
         early: before.first_close.is_some(),
         walk: before.over_lane(p, transfer, last),
@@ -276,6 +291,28 @@ fn counted(counts: bool) -> u64
     ensures { result ≡ cond counts 1 0 }
 {
     u64::from(counts)
+}
+
+/// One of two walks. It branches on nothing, since which one it is is not foreseen.
+#[inline(always)]
+fn chosen(first: bool, one: Walk, other: Walk) -> Walk
+    ensures { result ≡ cond first one other }
+{
+    Walk {
+        tail: if first { one.tail } else { other.tail },
+        active: if first { one.active } else { other.active },
+        first_close: if first {
+            one.first_close
+        } else {
+            other.first_close
+        },
+        misplaced: if first {
+            one.misplaced
+        } else {
+            other.misplaced
+        },
+        packets: if first { one.packets } else { other.packets },
+    }
 }
 
 /// Whether one of two holds. It looks at both, since neither is foreseen.

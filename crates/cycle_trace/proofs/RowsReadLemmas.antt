@@ -1,10 +1,12 @@
 -- How far the rows of a text are read.
-use Rattle.std.proofs.Common.{◌≡◌, ◌≢◌, ◌↔◌, IsTrue, ◌∙◌, ℕ, zero, suc, ◌+◌, ◌*◌, ◌<◌, ◌≤◌, false, ◌==◌, if◌then◌else◌, inl, inr, ◌⊎◌, List, [], ◌∷◌, ◌++◌, length, map, take, get_or, Option, Some, None, Result, Ok, Err, MatchOption, IfSome, refl, sym, ap, subst, arith}
+use Rattle.std.proofs.Common.{◌≡◌, ◌≢◌, ◌↔◌, IsTrue, ◌∙◌, ℕ, zero, suc, ◌+◌, ◌*◌, ◌<◌, ◌≤◌, false, ◌==◌, if◌then◌else◌, List, [], ◌∷◌, ◌++◌, length, map, max, drop, get_or, Option, Some, None, Result, Ok, Err, MatchOption, IfSome, refl, sym, ap, subst, arith}
 use Rattle.std.specs.List.{slice_get}
 use Rattle.std.specs.Option.{option_map}
 use Rattle.std.proofs.Math.ListN.{set}
-use Rattle.std.proofs.lemmas.Bool.{cases_lt}
-use Rattle.std.proofs.lemmas.List.{length-append, length-map, length-take-le, take_more}
+use Rattle.std.proofs.Math.Nat.{le-max_left, le-max_right}
+use Rattle.std.proofs.Math.Numerals.{add-one}
+use Rattle.std.proofs.Math.Seq.{drop-cons}
+use Rattle.std.proofs.lemmas.List.{length-append, length-map}
 use Rattle.std.proofs.lemmas.Option.{slice_get_within, slice_get-map, slice_get-get_or}
 use Rattle.tydi_base.specs.Reading.{Gives}
 use Rattle.physical_stream.specs.Params.{Parameters}
@@ -17,17 +19,17 @@ use Rattle.cycle_trace.specs.declared.row_fields.RowBits.{RowBits}
 use Rattle.cycle_trace.specs.declared.rows_read.RowsRead.{RowsRead}
 use Rattle.cycle_trace.specs.declared.stream_rows.StreamRows.{StreamRows}
 use Rattle.cycle_trace.specs.Faults.{fault_in}
-use Rattle.cycle_trace.specs.ReaderView.{HasRoomFor, ReadsRows, kept_of}
+use Rattle.cycle_trace.specs.ReaderView.{ReadsRows, kept_of}
 use Rattle.cycle_trace.specs.RowKept.{cycle_in}
 use Rattle.cycle_trace.specs.RowSink.{CanTake, with_row}
 use Rattle.cycle_trace.specs.Beginnings.{Fails, GoesOnLine}
-use Rattle.cycle_trace.specs.RowLayout.{row_room}
+use Rattle.cycle_trace.specs.RowLayout.{row_room, rows_room}
 use Rattle.cycle_trace.specs.RowText.{row_at, row_fault}
 use Rattle.cycle_trace.specs.Trace.{TraceText, owed, params_of_heads}
 use Rattle.cycle_trace.proofs.KeepLemmas.{length-owed_heads}
 use Rattle.cycle_trace.proofs.RowSpelling.{row_at-some}
 use Rattle.cycle_trace.proofs.BeginningLemmas.{IsFault-row, row-fails}
-use Rattle.cycle_trace.proofs.PartsLemmas.{slice_get-front, slice_get-next, slice_get-there}
+use Rattle.cycle_trace.proofs.PartsLemmas.{slice_get-there}
 use Rattle.cycle_trace.proofs.RowLengthLemmas.{row_at-long}
 use Rattle.cycle_trace.proofs.SurveyorLemmas.{has_turn, next_row, slice_get-set_same}
 
@@ -97,7 +99,7 @@ ReadsRows-more rows next t row h can streams want got room stream = record {
   within = omega (arith, length-append t.rows (row ∷ []), slice_get_within (owed (params_of_heads t.heads) t.cycles) (length t.rows) can.params can.turn, length-owed_heads t);
   turn = if next.stream == 0 then h.turn + 1 else h.turn;
   next = next_row t h.turn rows.stream h.next row can (if next.stream == 0 then h.turn + 1 else h.turn) next.stream stream refl;
-  room = λ s head there. omega (arith, h.room s head there, room);
+  room = room ∙ h.room;
 }
 
 -- the faults of rows are no want of memory
@@ -119,7 +121,7 @@ module _ (rows next : RowsRead) (t : TraceText) (h : ReadsRows rows t) (less : r
     within = h.within;
     turn = h.turn;
     next = record { place = ap (λ (n : ℕ). n) h.next.place ∙ ap (λ (s : ℕ). h.turn * length t.heads + s) (sym stream); within = λ some. subst (λ (s : ℕ). s < length t.heads) (sym stream) (h.next.within some) };
-    room = λ s head there. omega (arith, h.room s head there, room);
+    room = room ∙ h.room;
   }
 
 -- so does what it reads
@@ -135,26 +137,24 @@ gives-read rows t h less old new there p turn number line result is gives =
     views bits =
         ap (λ (shown : Option Transfer). let cycle : Cycle = record { ready = bits.ready; shown = if bits.valid then shown else None } in cycle) (sym (kept-set rows.streams.items rows.stream new (stream_in rows t h less)))
 
--- room for a stream more
-pub HasRoomFor-more : (heads : List Head) (n room next : ℕ) (head : Head) → HasRoomFor (take n heads) room → n < length heads → head ≡ get_or heads n head → room ≤ next → row_room head.params ≤ next
-    → HasRoomFor (take (n + 1) heads) next
-HasRoomFor-more heads n room next head has within is grows enough stream found there = by_cases (cases_lt stream n)
-  where
-    here : take (n + 1) heads ≡ take n heads ++ head ∷ []
-    here = take_more heads n head within ∙ ap (λ (x : Head). take n heads ++ x ∷ []) (sym is)
+max_assoc : (a b c : ℕ) → max (max a b) c ≡ max a (max b c)
+max_assoc a b c = omega arith
 
-    long : length (take n heads) ≡ n
-    long = length-take-le n heads (omega arith)
+-- room for the rows of one stream more
+pub rows_room-more : (heads : List Head) (n room next : ℕ) (head : Head) → max room (rows_room (drop n heads)) ≡ rows_room heads → n < length heads → head ≡ get_or heads n head → next ≡ max room (row_room head.params)
+    → max next (rows_room (drop (n + 1) heads)) ≡ rows_room heads
+rows_room-more heads n room next head so_far within is larger =
+    let here : drop n heads ≡ head ∷ drop (n + 1) heads = rw add-one (drop-cons heads n head within) ∙ ap (λ (x : Head). x ∷ drop (n + 1) heads) (sym is) in
+    let parts : max room (max (row_room head.params) (rows_room (drop (n + 1) heads))) ≡ rows_room heads = ap (λ (xs : List Head). max room (rows_room xs)) (sym here) ∙ so_far in
+    ap (λ (m : ℕ). max m (rows_room (drop (n + 1) heads))) larger ∙ max_assoc room (row_room head.params) (rows_room (drop (n + 1) heads)) ∙ parts
 
-    at : slice_get (take n heads ++ head ∷ []) stream ≡ Some found
-    at = ap (λ (xs : List Head). slice_get xs stream) (sym here) ∙ there
-
-    by_cases : (stream < n) ⊎ (n ≤ stream) → row_room found.params ≤ next
-    by_cases (inl less) = omega (arith, has stream found (sym (slice_get-front (take n heads) (head ∷ []) stream (omega (arith, long))) ∙ at))
-    by_cases (inr more) =
-        let last : stream ≡ length (take n heads) = omega (arith, long, slice_get_within (take n heads ++ head ∷ []) stream found at, length-append (take n heads) (head ∷ [])) in
-        let same : head ≡ found = let e = sym (slice_get-next (take n heads) head stream last) ∙ at in cc in
-        omega (arith, enough, ap (λ (x : Head). row_room x.params) same)
+-- each stream has room for its rows
+rows_room-each : (heads : List Head) (stream : ℕ) (head : Head) → slice_get heads stream ≡ Some head → row_room head.params ≤ rows_room heads
+rows_room-each [] stream head there = absurd cc
+rows_room-each (first ∷ heads) zero head there =
+    let same : first ≡ head = cc in
+    subst (λ (x : Head). row_room x.params ≤ rows_room (first ∷ heads)) same (le-max_left (row_room first.params) (rows_room heads))
+rows_room-each (first ∷ heads) (suc stream) head there = omega (arith, rows_room-each heads stream head there, le-max_right (row_room first.params) (rows_room heads))
 
 -- a line that is longer than any row
 pub long-fails : (rows : RowsRead) (t : TraceText) → ReadsRows rows t → rows.got < rows.want → (bytes line : List ℕ) → GoesOnLine bytes line t → rows.room < length line
@@ -165,7 +165,7 @@ long-fails rows t h less bytes line goes long =
     let old = slice_get-there rows.streams.items rows.stream (stream_in rows t h less) in
     let same = params_here rows t h turn.0 turn.1 old.0 old.1 in
     let few : turn.0.lanes ≤ 128 = subst (λ (p : Parameters). p.lanes ≤ 128) same old.0.layout.laid.narrow in
-    let room : row_room turn.0 ≤ rows.room = subst (λ (p : Parameters). row_room p ≤ rows.room) has.params (h.room rows.stream has.head has.there) in
+    let room : row_room turn.0 ≤ rows.room = subst (λ (n : ℕ). row_room turn.0 ≤ n) (sym h.room) (subst (λ (p : Parameters). row_room p ≤ rows_room t.heads) has.params (rows_room-each t.heads rows.stream has.head has.there)) in
     let number = 3 + length t.heads + length t.rows in
     row-fails t turn.0 turn.1 bytes line (row_fault number line) goes (IsFault-row (row_at number turn.0 line) number line (row_at-long turn.0 few number line (omega arith)))
 

@@ -54,3 +54,7 @@ GoesOn bytes begun t = (more : List ℕ) → trace_of (bytes ++ more) ≡ rows_o
 -- the same, where a whole line comes first
 abbrev pub GoesOnLine : (bytes line : List ℕ) → TraceText → Type 0
 GoesOnLine bytes line t = (more : List ℕ) → trace_of ((bytes ++ 10 ∷ []) ++ more) ≡ rows_on t (line ∷ lines_of more)
+
+-- the trace of a text that ends in this line, without an LF
+abbrev pub EndsIn : (bytes line : List ℕ) → TraceText → Type 0
+EndsIn bytes line t = trace_of bytes ≡ rows_on t (line ∷ [])

@@ -3,13 +3,12 @@ use Rattle.std.specs.Prelude.{◌≡◌, ℕ, ◌*◌, ◌<◌, ◌≤◌, Bool,
 use Rattle.std.specs.Option.{option_map}
 use Rattle.tydi_base.specs.Pieces.{Lacks, lines_of}
 use Rattle.physical_stream.specs.Cycles.{Cycle}
-use Rattle.physical_stream.specs.declared.head.Head.{Head}
 use Rattle.physical_stream.specs.declared.transfer.Transfer.{Transfer}
 use Rattle.cycle_trace.specs.Beginnings.{Fails, GoesOn, IsFault, Opens, OpensWith}
 use Rattle.cycle_trace.specs.Faults.{fault_in}
 use Rattle.cycle_trace.specs.HeaderText.{HeaderStart, header_start_of, header_start_after}
 use Rattle.cycle_trace.specs.LineBegun.{Begins}
-use Rattle.cycle_trace.specs.RowLayout.{row_room}
+use Rattle.cycle_trace.specs.RowLayout.{rows_room}
 use Rattle.cycle_trace.specs.Surveying.{IsNextRow}
 use Rattle.cycle_trace.specs.TextSet.{HasTexts}
 use Rattle.cycle_trace.specs.Trace.{TraceText, most_cycles, params_of_heads}
@@ -24,10 +23,6 @@ use Rattle.cycle_trace.specs.declared.text_read.Stage.TheVariants as stages
 use Rattle.cycle_trace.specs.declared.text_read.TextRead.{TextRead}
 use Rattle.cycle_trace.specs.declared.trace_reader.TraceReader.{TraceReader}
 
--- no row of these streams has more bytes
-abbrev pub HasRoomFor : List Head → ℕ → Type 0
-HasRoomFor heads room = (stream : ℕ) (head : Head) → slice_get heads stream ≡ Some head → row_room head.params ≤ room
-
 -- rows are read after this header and these rows
 pub record ReadsRows (rows : RowsRead) (t : TraceText) : Type 0 where
   pub params : map (λ stream. stream.layout.params) rows.streams.items ≡ params_of_heads t.heads
@@ -38,7 +33,7 @@ pub record ReadsRows (rows : RowsRead) (t : TraceText) : Type 0 where
   pub within : length t.rows ≤ t.cycles * length t.heads
   pub turn : ℕ
   pub next : IsNextRow t turn rows.stream
-  pub room : HasRoomFor t.heads rows.room
+  pub room : rows.room ≡ rows_room t.heads
 
 -- the transfer that is kept of this stream
 abbrev pub kept_of : List StreamRows → ℕ → Option Transfer
@@ -78,9 +73,13 @@ HoldsLine stages.Rows room begun line = Begins begun line × (begun.room ≡ roo
 HoldsLine (stages.Failed fault) room begun line = Unit {0}
 HoldsLine stage room begun line = Begins begun line × (begun.long ≡ None)
 
+-- the same, of a text that is read so far
+abbrev pub Holds : TextRead → LineBegun → List ℕ → Type 0
+Holds text begun line = HoldsLine text.stage text.rows.room begun line
+
 -- a reader stands for the bytes that it was fed
 abbrev pub StandsFor : {K : Type 0} → (K → Option TraceText → Type 0) → TraceReader K → List ℕ → Type 0
-StandsFor stands reader bytes = (line : List ℕ) × (HoldsLine reader.text.stage reader.text.rows.room reader.line line × Stands stands reader.sink reader.text line bytes)
+StandsFor stands reader bytes = (line : List ℕ) × (Holds reader.text reader.line line × Stands stands reader.sink reader.text line bytes)
 
 -- memory ran out
 abbrev pub IsSpent : {K : Type 0} → TraceReader K → Type 0

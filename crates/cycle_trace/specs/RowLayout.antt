@@ -1,8 +1,9 @@
 -- What reading a row knows of its stream (this project's own).
-use Rattle.std.specs.Prelude.{◌≡◌, ℕ, ◌-◌, ◌+◌, ◌*◌, ◌/◌, ◌^◌, ◌≤◌, Bool, ◌||◌, is_some}
+use Rattle.std.specs.Prelude.{◌≡◌, ℕ, ◌-◌, ◌+◌, ◌*◌, ◌/◌, ◌^◌, ◌≤◌, max, Bool, ◌||◌, List, [], ◌∷◌, is_some}
 use Rattle.tydi_base.specs.Width.{index_width}
 use Rattle.physical_stream.specs.Params.{Parameters}
 use Rattle.physical_stream.specs.Signals.{has_content, has_last, has_stai, has_endi, has_strb, has_user}
+use Rattle.physical_stream.specs.declared.head.Head.{Head}
 use Rattle.signal_layout.specs.declared.layout.Signals.{Signals}
 use Rattle.cycle_trace.specs.RowText.{has_payload}
 use Rattle.cycle_trace.specs.declared.row_layout.WordSignal.{WordSignal}
@@ -36,3 +37,8 @@ pub record LaysOut (p : Parameters) (content last strb user : WordSignal) (stai 
 -- numbers of lanes have three digits at most
 abbrev pub row_room : Parameters → ℕ
 row_room p = 29 + (p.lanes * p.element + 3) / 4 + (p.lanes * p.dims + 3) / 4 + (p.lanes + 3) / 4 + (p.user + 3) / 4
+
+-- as many bytes as the longest of the rows of these streams may have
+abbrev pub rows_room : List Head → ℕ
+rows_room [] = 0
+rows_room (head ∷ heads) = max (row_room head.params) (rows_room heads)

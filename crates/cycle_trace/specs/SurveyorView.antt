@@ -1,7 +1,7 @@
 -- What a survey of rows stands for (this project's own).
 use Rattle.std.specs.Prelude.{◌≡◌, Option, Some, None}
 use Rattle.cycle_trace.specs.Survey.{Answers}
-use Rattle.cycle_trace.specs.Surveying.{SurveysRows, offends_in}
+use Rattle.cycle_trace.specs.Surveying.{RowsSay, SurveysRows, offends_in}
 use Rattle.cycle_trace.specs.Trace.{TraceText, streams_of}
 use Rattle.cycle_trace.specs.declared.survey_run.SurveyRun.{SurveyRun}
 use Rattle.cycle_trace.specs.declared.surveyor.Surveyor.{Surveyor}
@@ -25,6 +25,10 @@ pub record AnswersTrace (t : TraceText) (surveyed : Surveyed) : Type 0 where
   pub cycles : surveyed.header.cycles ≡ t.cycles
   pub heads : surveyed.header.heads ≡ t.heads
   pub found : Answers (offends_in t) (streams_of t) surveyed.found
+
+-- the checkers and the offence say what the rows of this trace do
+abbrev pub SaysOf : TraceText → SurveyRun → Type 0
+SaysOf t run = RowsSay (offends_in t) t run.checkers.items run.found
 
 -- all but the checkers and the offence is as before
 pub record IsSameBut (old new : SurveyRun) : Type 0 where

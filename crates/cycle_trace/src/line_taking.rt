@@ -3,11 +3,11 @@
 ghost use Rattle.std.specs.Prelude.{◌≡◌, ◌↔◌, ◌⊎◌, ◌++◌, ◌∷◌, [], ◌<◌, ◌≤◌, length, ℕ, List, true, false, IfErr, IsSome, IsTrue, OnOk, Some, None, Err};
 ghost use Rattle.tydi_base.specs.Pieces.{Lacks};
 ghost use Rattle.tydi_base.specs.Reading.{Gives};
-ghost use Rattle.cycle_trace.specs.Beginnings.{Fails, GoesOnLine, OpensWith, begun, rows_on};
+ghost use Rattle.cycle_trace.specs.Beginnings.{EndsIn, Fails, GoesOnLine, OpensWith, begun};
 ghost use Rattle.cycle_trace.specs.Faults.{fault_in};
 ghost use Rattle.cycle_trace.specs.HeaderText.{is_head_line};
 ghost use Rattle.cycle_trace.specs.LineBegun.{IsLong};
-ghost use Rattle.cycle_trace.specs.ReaderView.{AfterLine, AfterRow, EndsInHeader, Finishes, HoldsLine, ReadsRows, Stands, StaysCalm, StaysFailed, is_past_header};
+ghost use Rattle.cycle_trace.specs.ReaderView.{AfterLine, AfterRow, EndsInHeader, Finishes, Holds, ReadsRows, Stands, StaysCalm, StaysFailed, is_past_header};
 ghost use Rattle.cycle_trace.specs.RowForm.{IsForm};
 ghost use Rattle.cycle_trace.specs.RowsText.{cut_row};
 ghost use Rattle.cycle_trace.specs.Trace.{TraceText, are_heads, most_cycles};
@@ -128,7 +128,7 @@ fn start_rows<K: RowSink>(alloc: Global, sink: &mut K, text: &mut TextRead) -> R
 }
 
 /// Takes the line of a row, or what follows the last one.
-// All that a row takes is called from here alone, and becomes one function.
+// All that a row takes is called from here alone, and becomes one function. In its callers it would be slower.
 #[inline(never)]
 fn after_row<K: RowSink>(
     alloc: Global,
@@ -160,8 +160,8 @@ pub(crate) fn take_begun<K: RowSink>(
     begun: &LineBegun,
 )
     requires rows { text.old.stage ≡ stages.Rows }
-    requires stands { (bytes : List ℕ) × ((line : List ℕ) × (HoldsLine text.old.stage text.old.rows.room begun.now line × Stands K.stands_for sink.old text.old line bytes)) }
-    ensures stands { (bytes line : List ℕ) → HoldsLine text.old.stage text.old.rows.room begun.now line → Stands K.stands_for sink.old text.old line bytes → Stands K.stands_for sink.new text.new [] (bytes ++ 10 ∷ []) }
+    requires stands { (bytes : List ℕ) × ((line : List ℕ) × (Holds text.old begun.now line × Stands K.stands_for sink.old text.old line bytes)) }
+    ensures stands { (bytes line : List ℕ) → Holds text.old begun.now line → Stands K.stands_for sink.old text.old line bytes → Stands K.stands_for sink.new text.new [] (bytes ++ 10 ∷ []) }
     ensures room { text.new.rows.room ≡ text.old.rows.room }
     ensures fixed { K.fixed sink.new ≡ K.fixed sink.old }
     ensures calm { StaysCalm (K.fixed sink.old) text.old.stage text.new.stage }
@@ -193,10 +193,10 @@ pub(crate) fn finish_text<K: RowSink>(
     mut text: TextRead,
     line: &LineBegun,
 ) -> Result<K, TraceFault>
-    requires { (bytes : List ℕ) × ((line_of : List ℕ) × (HoldsLine text.stage text.rows.room line.now line_of × Stands K.stands_for sink text line_of bytes)) }
-    ensures finishes { (bytes line_of : List ℕ) → HoldsLine text.stage text.rows.room line.now line_of → Stands K.stands_for sink text line_of bytes → Finishes K.stands_for (trace_of bytes) result }
+    requires { (bytes : List ℕ) × ((line_of : List ℕ) × (Holds text line.now line_of × Stands K.stands_for sink text line_of bytes)) }
+    ensures finishes { (bytes line_of : List ℕ) → Holds text line.now line_of → Stands K.stands_for sink text line_of bytes → Finishes K.stands_for (trace_of bytes) result }
     ensures failed { (fault : TraceFault) → text.stage ≡ stages.Failed fault → result ≡ Err fault }
-    ensures memory { (bytes line_of : List ℕ) → HoldsLine text.stage text.rows.room line.now line_of → Stands K.stands_for sink text line_of bytes → result ≡ Err faults.Memory → (text.stage ≡ stages.Failed faults.Memory) ⊎ EndsInHeader bytes }
+    ensures memory { (bytes line_of : List ℕ) → Holds text line.now line_of → Stands K.stands_for sink text line_of bytes → result ≡ Err faults.Memory → (text.stage ≡ stages.Failed faults.Memory) ⊎ EndsInHeader bytes }
 {
     match text.stage {
         Stage::Title => Err(TraceFault::BadHeader(1)),
@@ -257,7 +257,8 @@ fn end_of_header(text: &TextRead, line: &[u8]) -> Result<(), TraceFault>
 /// The sink, where all rows are read and nothing is left; or the fault of the text.
 fn finish_rows<K: RowSink>(sink: K, rows: &RowsRead, is_empty: bool) -> Result<K, TraceFault>
     requires { (t : TraceText) × ReadsRows rows.now t }
-    ensures finishes { (t : TraceText) (bytes line : List ℕ) → K.stands_for sink (Some t) → ReadsRows rows.now t → IsTrue is_empty ↔ (line ≡ []) → trace_of bytes ≡ rows_on t (line ∷ []) → Finishes K.stands_for (trace_of bytes) result }
+    ensures finishes { (t : TraceText) (bytes line : List ℕ) → K.stands_for sink (Some t) → ReadsRows rows.now t → IsTrue is_empty ↔ (line ≡ [])
+        → EndsIn bytes line t → Finishes K.stands_for (trace_of bytes) result }
     ensures calm { IfErr result (λ e. IsSome (fault_in e)) }
 {
     if !rows.is_whole() {

@@ -1,13 +1,13 @@
 //! The rows of a trace text, read line by line.
 
-ghost use Rattle.std.specs.Prelude.{◌≡◌, ◌≢◌, ◌↔◌, ◌+◌, ◌*◌, ◌<◌, ◌≤◌, [], map, length, slice_get, IfOk, Some, None, IfSome, IsTrue, IsSome, IfErr};
+ghost use Rattle.std.specs.Prelude.{◌≡◌, ◌≢◌, ◌↔◌, ◌+◌, ◌*◌, ◌<◌, ◌≤◌, [], map, max, length, slice_get, IfOk, Some, None, IfSome, IsTrue, IsSome, IfErr};
 ghost use Rattle.tydi_base.specs.Reading.{Gives};
 ghost use Rattle.physical_stream.specs.Cycles.{Cycle, cycle_in};
 ghost use Rattle.physical_stream.specs.Params.{Parameters};
 ghost use Rattle.physical_stream.specs.declared.head.Head.{Head};
 ghost use Rattle.cycle_trace.specs.Faults.{fault_in};
-ghost use Rattle.cycle_trace.specs.ReaderView.{HasRoomFor, ReadsRows, cycle_read};
-ghost use Rattle.cycle_trace.specs.RowLayout.{row_room};
+ghost use Rattle.cycle_trace.specs.ReaderView.{ReadsRows, cycle_read};
+ghost use Rattle.cycle_trace.specs.RowLayout.{row_room, rows_room};
 ghost use Rattle.cycle_trace.specs.RowSink.{CanTake, IsHeader, begun_by, with_row};
 ghost use Rattle.cycle_trace.specs.RowText as rows;
 ghost use Rattle.cycle_trace.specs.Trace.{TraceText, owed, params_of_heads};
@@ -126,9 +126,9 @@ fn streams_of(alloc: Global, heads: &[Head]) -> Result<Vec<StreamRows>, Memory>
     Ok(streams)
 }
 
-/// As many bytes as no row of these streams exceeds.
+/// As many bytes as the longest of the rows of these streams may have.
 fn room_for(heads: &[Head]) -> usize
-    ensures { HasRoomFor heads.now result }
+    ensures { result ≡ rows_room heads.now }
 {
     let mut room = 0;
     'heads: for head in heads {
@@ -149,8 +149,7 @@ fn row_room(p: &Params) -> usize
 
 /// The larger of two numbers.
 fn larger(one: usize, other: usize) -> usize
-    ensures one { one ≤ result }
-    ensures other { other ≤ result }
+    ensures { result ≡ max one other }
 {
     if one < other { other } else { one }
 }

@@ -1,8 +1,7 @@
 ghost use Rattle.std.specs.Prelude.{◌≡◌, IfOk, None};
 ghost use Rattle.physical_stream.specs.Cycles.{Cycle, cycle_in};
 ghost use Rattle.cycle_trace.specs.RowSink.{CanTake, IsHeader, begun_by, with_row};
-ghost use Rattle.cycle_trace.specs.Surveying.{RowsSay, offends_in};
-ghost use Rattle.cycle_trace.specs.SurveyorView.{AnswersTrace, IsSameBut, RunStands};
+ghost use Rattle.cycle_trace.specs.SurveyorView.{AnswersTrace, IsSameBut, RunStands, SaysOf};
 ghost use Rattle.cycle_trace.specs.Trace.{TraceText};
 
 use crate::survey_outcome::{FoundOffence, checkers_of, outcome_of};
@@ -57,7 +56,7 @@ impl SurveyRun {
     #[inline(always)]
     fn judge(&mut self, row: Row<'_>)
         requires { (t : TraceText) × (RunStands self.old t × CanTake t (cycle_in row)) }
-        ensures says { (t : TraceText) → RunStands self.old t → CanTake t (cycle_in row.entry) → RowsSay (offends_in (with_row t (cycle_in row.entry))) (with_row t (cycle_in row.entry)) self.new.checkers.items self.new.found }
+        ensures says { (t : TraceText) → RunStands self.old t → CanTake t (cycle_in row.entry) → SaysOf (with_row t (cycle_in row.entry)) self.new }
         ensures same { IsSameBut self.old self.new }
     {
         match self.found {
@@ -71,7 +70,7 @@ impl SurveyRun {
     fn judge_first(&mut self, row: Row<'_>)
         requires none { self.old.found ≡ None }
         requires stands { (t : TraceText) × (RunStands self.old t × CanTake t (cycle_in row)) }
-        ensures says { (t : TraceText) → RunStands self.old t → CanTake t (cycle_in row.entry) → RowsSay (offends_in (with_row t (cycle_in row.entry))) (with_row t (cycle_in row.entry)) self.new.checkers.items self.new.found }
+        ensures says { (t : TraceText) → RunStands self.old t → CanTake t (cycle_in row.entry) → SaysOf (with_row t (cycle_in row.entry)) self.new }
         ensures same { IsSameBut self.old self.new }
     {
         if let Some(rule) = self.checkers[self.stream].step(row) {

@@ -1,4 +1,4 @@
-use Rattle.std.proofs.Common.{◌∙◌, ◌-◌, ◌≤◌, ◌<◌, ◌⊎◌, inl, inr, ℕ, sym, subst, arith}
+use Rattle.std.proofs.Common.{◌∙◌, count_ones, ap, ◌-◌, ◌≤◌, ◌<◌, ◌⊎◌, inl, inr, ℕ, sym, subst, arith}
 use Rattle.std.proofs.lemmas.Bool.{cases_lt}
 use Rattle.complexity_rules.proofs.RangeLemmas.{active_lanes-most, active_outside, active_shifted, ones_none}
 use Rattle.complexity_rules.proofs.unmarked.active_between.Goals as goal
@@ -13,14 +13,28 @@ returns-then-low-high-clause-lanes c = ones_none ∙ sym (active_outside c.args.
         by_cases (inl front) = inl front
         by_cases (inr from) = inr (omega (arith, c.max.ensures, c.from-low.ensures, c.from.ensures, c.from-2.ensures, c.min-high.ensures, c.if-low-high.true))
 
+pub returns-then-is_short-clause-lanes : goal.returns-then-is_short-clause-lanes
+returns-then-is_short-clause-lanes c =
+    ap count_ones c.from-then-is_short.ensures
+    ∙ active_shifted 64 c.args.transfer.now c.args.from c.args.to c.from-low.result c.min-high.result (omega arith) (omega arith) (omega arith) (omega arith) (omega arith) (omega arith)
+    (λ lane after before. omega arith) (λ lane after before. omega arith)
+
+pub returns-then-is_short-clause-few : goal.returns-then-is_short-clause-few
+returns-then-is_short-clause-few c =
+    let counted =
+    ap count_ones c.from-then-is_short.ensures
+    ∙ active_shifted 64 c.args.transfer.now c.args.from c.args.to c.from-low.result c.min-high.result (omega arith) (omega arith) (omega arith) (omega arith) (omega arith) (omega arith)
+    (λ lane after before. omega arith) (λ lane after before. omega arith) in
+    subst (λ (n : ℕ). n ≤ c.args.to - c.args.from) (sym counted) (active_lanes-most c.args.transfer.now c.args.from (c.args.to - c.args.from))
+
 pub returns-clause-lanes : goal.returns-clause-lanes
 returns-clause-lanes c =
-    active_shifted c.args.transfer.now c.args.from c.args.to c.from-low.result c.min-high.result (omega arith) (omega arith) (omega arith) c.requires.numbered (omega arith) (omega arith)
+    active_shifted 128 c.args.transfer.now c.args.from c.args.to c.from-low.result c.min-high.result (omega arith) (omega arith) (omega arith) (omega arith) (omega arith) (omega arith)
     (λ lane after before. omega arith) (λ lane after before. omega arith)
 
 pub returns-clause-few : goal.returns-clause-few
 returns-clause-few c =
     let counted =
-    active_shifted c.args.transfer.now c.args.from c.args.to c.from-low.result c.min-high.result (omega arith) (omega arith) (omega arith) c.requires.numbered (omega arith) (omega arith)
+    active_shifted 128 c.args.transfer.now c.args.from c.args.to c.from-low.result c.min-high.result (omega arith) (omega arith) (omega arith) (omega arith) (omega arith) (omega arith)
     (λ lane after before. omega arith) (λ lane after before. omega arith) in
     subst (λ (n : ℕ). n ≤ c.args.to - c.args.from) (sym counted) (active_lanes-most c.args.transfer.now c.args.from (c.args.to - c.args.from))

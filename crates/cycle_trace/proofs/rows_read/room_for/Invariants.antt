@@ -1,6 +1,7 @@
-use Rattle.std.proofs.Common.{take}
-use Rattle.cycle_trace.specs.ReaderView.{HasRoomFor}
+use Rattle.std.proofs.Common.{◌≡◌, drop, max}
+use Rattle.cycle_trace.specs.RowLayout.{rows_room}
 use Rattle.cycle_trace.proofs.rows_read.room_for.Given as goal
 
+-- the room so far, and that for the streams to come
 abbrev pub invariant-heads : goal.invariant-heads
-invariant-heads l = HasRoomFor (take l.head-index l.heads) l.room
+invariant-heads l = max l.room (rows_room (drop l.head-index l.heads)) ≡ rows_room l.heads

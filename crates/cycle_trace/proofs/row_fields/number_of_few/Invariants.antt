@@ -1,6 +1,6 @@
 use Rattle.std.proofs.Common.{◌≡◌, Some, take}
 use Rattle.cycle_trace.proofs.StrobeLemmas.{number_in}
-use Rattle.cycle_trace.proofs.row_fields.number_of_digits.Given as goal
+use Rattle.cycle_trace.proofs.row_fields.number_of_few.Given as goal
 
 -- the digits so far spell the number so far
 abbrev pub invariant-digits : goal.invariant-digits
