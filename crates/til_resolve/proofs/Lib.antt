@@ -13,6 +13,7 @@ mod FirstLemmas
 pub mod StandLemmas
 pub mod ToldLemmas
 pub mod PortTypeLemmas
+pub mod PlainProjectLemmas
 mod TypeGraphLemmas
 mod RankLemmas
 mod ContainmentLemmas

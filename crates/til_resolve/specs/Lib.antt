@@ -23,3 +23,4 @@ pub mod Making
 pub mod SharedTypes
 pub mod Laws
 pub mod PortTypes
+pub mod PlainProject
