@@ -5,15 +5,14 @@ use Rattle.std.specs.List.{flat_map}
 use Rattle.tydi_base.specs.Path.{path_text}
 use Rattle.physical_stream.specs.Params.{Parameters}
 use Rattle.physical_stream.specs.declared.head.Head.{Head}
-use Rattle.logical_types.specs.Tree.{Ltype}
 use Rattle.signal_layout.specs.Fields.{fields_of}
 use Rattle.signal_layout.specs.Layout.{width_of}
 use Rattle.signal_layout.specs.declared.fields.Field.{Field}
 use Rattle.signal_layout.specs.declared.signal.Signal.{Signal}
 use Rattle.signal_layout.specs.declared.signal.Signal.TheVariants as signals
 use Rattle.cycle_trace.specs.Spelling.{head_text}
-use Rattle.type_split.specs.Nodes.{StreamNode, nodes_of}
-use Rattle.type_split.specs.Streams.{streams_of}
+use Rattle.type_split.specs.Nodes.{StreamNode}
+use Rattle.type_split.specs.Streams.{PlainSplit}
 use Rattle.type_split.specs.declared.split.Phys.{Phys}
 
 -- a signal of this name, and its width; nothing where the stream lacks it
@@ -50,9 +49,9 @@ head_of one = record { path = one.path; params = one.params; reversed = one.reve
 abbrev pub stream_text : List StreamNode → Phys → List ℕ
 stream_text nodes one = head_text (head_of one) ++ root_line (slice_get nodes one.root) ++ signal_lines (width_of one.params) ++ field_lines (slice_get nodes one.node)
 
--- the physical streams of a port's type
-abbrev pub split_text : Ltype → List ℕ
-split_text ltype = flat_map (stream_text (nodes_of ltype)) (streams_of ltype)
+-- the physical streams of a split
+abbrev pub split_text : PlainSplit → List ℕ
+split_text split = flat_map (stream_text split.nodes) split.streams
 
 -- a front of a text: all of it, or more than so many bytes
 pub record IsUpTo (limit : ℕ) (text front : List ℕ) : Type 0 where

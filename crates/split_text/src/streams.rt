@@ -1,39 +1,30 @@
-//! The text of a port's type.
+//! The text of a split.
 
-ghost use Rattle.std.specs.Prelude.{◌≡◌, ◌≤◌, ◌++◌, All, map, slice_get, IfOk, IfErr, OnOk, None};
+ghost use Rattle.std.specs.Prelude.{◌≡◌, ◌++◌, All, map, slice_get, IfOk, OnOk};
 ghost use Rattle.std.specs.List.{flat_map};
-ghost use Rattle.logical_types.specs.Faults.{IsPlain, IsValid};
-ghost use Rattle.logical_types.specs.Tree.{plain_of_stream};
-ghost use Rattle.type_split.specs.Nodes.{number_of_streams};
-ghost use Rattle.type_split.specs.Streams.{Blames, clash_of, node_view};
+ghost use Rattle.logical_types.specs.Faults.{IsPlain};
+ghost use Rattle.type_split.specs.Streams.{IsPortSplit, node_view, plain_split};
 ghost use Rattle.split_text.specs.Text as spec;
 ghost use Rattle.split_text.specs.Text.{IsUpTo, field_lines, root_line, stream_text};
 
 use crate::lines::{FieldLines, SignalLines};
 use cycle_trace::StreamLine;
-use logical_types::StreamType;
 use signal_layout::{Signals, fields_of};
 use std::alloc::Global;
 use tydi_base::{List, Memory, emit};
-use type_split::{Node, Phys, SplitFault, split_type};
+use type_split::{Node, Phys, Split};
 
-/// The text of the physical streams of a port's type that passed `logical_types::check`: the whole of it, or a front of more than
-/// `limit` bytes. NameClash comes exactly where two physical streams have one path.
-pub fn split_text(alloc: Global, ltype: &StreamType, limit: u64) -> Result<List<u8>, SplitFault>
-    requires valid { IsValid (plain_of_stream ltype.now) }
-    requires few { number_of_streams (plain_of_stream ltype.now) ≤ 65536 }
-    ensures text { IfOk result (λ front. IsUpTo limit (spec.split_text (plain_of_stream ltype.now)) front) }
-    ensures apart { IfOk result (λ _. clash_of (plain_of_stream ltype.now) ≡ None) }
-    ensures clash { IfErr result (Blames (clash_of (plain_of_stream ltype.now))) }
+/// The text of the physical streams of a split that `split_type` gave: the whole of it, or a front of more than `limit` bytes.
+pub fn split_text(alloc: Global, split: &Split<'_>, limit: u64) -> Result<List<u8>, Memory>
+    requires { IsPortSplit (plain_split split.now) }
+    ensures { IfOk result (λ front. IsUpTo limit (spec.split_text (plain_split split.now)) front) }
 {
-    let split = split_type(alloc, ltype)?;
-    let text = write_streams(
+    write_streams(
         alloc,
         split.nodes.as_slice(),
         split.streams.as_slice(),
         limit,
-    )?;
-    Ok(text)
+    )
 }
 
 /// The text of physical streams, up to where it has more than so many bytes.

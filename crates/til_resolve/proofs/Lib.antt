@@ -14,6 +14,7 @@ mod FirstLemmas
 pub mod StandLemmas
 pub mod ToldLemmas
 pub mod PortTypeLemmas
+pub mod PlainProjectLemmas
 mod TypeGraphLemmas
 mod RankLemmas
 mod ContainmentLemmas

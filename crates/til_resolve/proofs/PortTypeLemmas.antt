@@ -1,9 +1,8 @@
--- The port that a path names in a project has the type of the one that it names in the tree.
-use Rattle.std.proofs.Common.{◌≡◌, ℕ, zero, suc, ◌+◌, ◌<◌, ◌≤◌, ◌⊎◌, inl, inr, Bool, true, false, cond, ltb, List, [], ◌∷◌, ◌++◌, map, filter, length, get_or, slice_get, find, Option, Some, None, option_map, Contains, refl, sym, ap, subst, ◌∙◌, arith}
+-- The types of ports in a tree without faults.
+use Rattle.std.proofs.Common.{◌≡◌, ℕ, zero, suc, ◌+◌, ◌<◌, ◌≤◌, ◌⊎◌, inl, inr, Bool, true, false, cond, List, [], ◌∷◌, ◌++◌, map, filter, length, get_or, slice_get, find, Option, Some, None, Contains, refl, sym, ap, subst, ◌∙◌, arith}
 use Rattle.std.specs.List.{flat_map, range_with_len}
 use Rattle.std.proofs.lemmas.List.{get_or_default}
 use Rattle.std.proofs.lemmas.List.Elements.{Contains-append_cases, Contains-append_left, Contains-append_right}
-use Rattle.tydi_base.specs.declared.place.Place.{Place}
 use Rattle.til_parser.specs.declared.tree.Ast.{Ast}
 use Rattle.til_parser.specs.declared.tree.AstKind.{AstKind}
 use Rattle.til_parser.specs.declared.tree.AstKind.TheVariants as decls
@@ -11,85 +10,19 @@ use Rattle.til_parser.specs.declared.tree.AstName.{AstName}
 use Rattle.til_parser.specs.declared.tree.AstPort.{AstPort}
 use Rattle.til_parser.specs.declared.tree.AstPorts.TheVariants as ports
 use Rattle.til_parser.specs.Tree.{plain}
-use Rattle.logical_types.specs.Faults.{IsValid, faults_of}
-use Rattle.logical_types.specs.Tree.{Ltype, plain_of_stream}
+use Rattle.logical_types.specs.Faults.{faults_of}
 use Rattle.logical_types.specs.declared.fault.TypeFault.{TypeFault}
 use Rattle.til_resolve.specs.declared.fault.ResolveFault.TheVariants as faults
-use Rattle.til_resolve.specs.declared.project.Port.{Port}
-use Rattle.til_resolve.specs.declared.project.Project.{Project}
-use Rattle.til_resolve.specs.declared.project.Streamlet.{Streamlet}
-use Rattle.til_resolve.specs.Declarations.{Declaration, PortOf, declaration, declarations, kept_as, named, nowhere, is_interface, is_interface_kind, is_streamlet, named_as, path_of, ports_in, ports_of, ports_of_number}
+use Rattle.til_resolve.specs.Declarations.{Declaration, PortOf, declaration, declarations, kept_as, named, nowhere, is_interface, is_interface_kind, is_streamlet, named_as, ports_in, ports_of, ports_of_number}
 use Rattle.til_resolve.specs.Faults.{IsSound, WrittenType, port_types, types_in, types_of_kind, written_types}
-use Rattle.til_resolve.specs.Lookups.{or_else, port_at, port_in, port_path}
+use Rattle.til_resolve.specs.Lookups.{or_else}
 use Rattle.til_resolve.specs.Paths.{is_same_path}
-use Rattle.til_resolve.specs.PortTypes.{IsPortType, WholePort, port_type, type_of_port, whole_ports, whole_ports_of}
-use Rattle.til_resolve.specs.Project.{IsPortOf, IsProjectOf, IsStreamletOf, Pairwise, streamlet_numbers}
+use Rattle.til_resolve.specs.PlainProject.{HasPortTypes, PlainPort, PlainProject, PlainStreamlet, plain_port_at, plain_port_in, port_from, project_of, streamlet_from}
+use Rattle.til_resolve.specs.PortTypes.{IsPortType, type_of_port}
+use Rattle.til_resolve.specs.Project.{streamlet_numbers}
 use Rattle.til_resolve.specs.Types.{number_of_nodes, type_of}
 use Rattle.til_resolve.proofs.ToldLemmas.{less-or_not}
 use Rattle.til_resolve.proofs.TypeGraphLemmas.{named-within}
-
--- ---- the look-up
-
--- the type of a port of a project
-abbrev port_ltype : Port → Ltype
-port_ltype port = plain_of_stream port.ltype.value
-
-module _ (all : List Declaration) (path : List (List ℕ)) where
-  abbrev wanted : WholePort → Bool
-  wanted one = is_same_path one.path path
-
-  abbrev whole_type : WholePort → Ltype
-  whole_type one = type_of_port all one.port
-
-  abbrev whole : List (List ℕ) → PortOf → WholePort
-  whole front one = record { path = front ++ one.port.name.name ∷ []; port = one }
-
-  in-ports : (streamlet : Streamlet) (front : List (List ℕ)) (ones : List PortOf) (listed : List Port) → streamlet.path ≡ front → Pairwise (IsPortOf all) ones listed
-      → option_map port_ltype (find (λ port. is_same_path (port_path streamlet port) path) listed) ≡ option_map whole_type (find wanted (map (whole front) ones))
-  in-ports streamlet front [] [] is pairs = refl
-  in-ports streamlet front [] (port ∷ listed) is pairs = absurd pairs
-  in-ports streamlet front (one ∷ ones) [] is pairs = absurd pairs
-  in-ports streamlet front (one ∷ ones) (port ∷ listed) is pairs =
-      let same : port_path streamlet port ≡ front ++ one.port.name.name ∷ [] = ap (λ (l : List (List ℕ)). l ++ port.name ∷ []) is ∙ ap (λ (n : List ℕ). front ++ n ∷ []) pairs.0.name_is in
-      ap (λ (p : List (List ℕ)). option_map port_ltype (cond (is_same_path p path) (Some port) (find (λ port. is_same_path (port_path streamlet port) path) listed))) same
-      ∙ by (is_same_path (front ++ one.port.name.name ∷ []) path) (in-ports streamlet front ones listed is pairs.1)
-    where
-      by : (b : Bool)
-          → option_map port_ltype (find (λ port. is_same_path (port_path streamlet port) path) listed) ≡ option_map whole_type (find wanted (map (whole front) ones))
-          → option_map port_ltype (cond b (Some port) (find (λ port. is_same_path (port_path streamlet port) path) listed))
-          ≡ option_map whole_type (cond b (Some (whole front one)) (find wanted (map (whole front) ones)))
-      by true rest = ap (λ (t : Ltype). Some t) pairs.0.type_is
-      by false rest = rest
-
-  find-append : (xs ys : List WholePort) → find wanted (xs ++ ys) ≡ or_else (find wanted xs) (find wanted ys)
-  find-append [] ys = refl
-  find-append (x ∷ xs) ys = by (wanted x) (find-append xs ys)
-    where
-      by : (b : Bool) → find wanted (xs ++ ys) ≡ or_else (find wanted xs) (find wanted ys) → cond b (Some x) (find wanted (xs ++ ys)) ≡ or_else (cond b (Some x) (find wanted xs)) (find wanted ys)
-      by true rest = refl
-      by false rest = rest
-
-  mapped-or_else : {A : Type 0} (f : A → Ltype) (one other : Option A) → option_map f (or_else one other) ≡ or_else (option_map f one) (option_map f other)
-  mapped-or_else f None other = refl
-  mapped-or_else f (Some one) other = refl
-
-  in-streamlets : (numbers : List ℕ) (streamlets : List Streamlet) → Pairwise (IsStreamletOf all) numbers streamlets
-      → option_map port_ltype (port_at streamlets path) ≡ option_map whole_type (find wanted (flat_map (λ number. whole_ports_of all (declaration all number)) numbers))
-  in-streamlets [] [] pairs = refl
-  in-streamlets [] (streamlet ∷ streamlets) pairs = absurd pairs
-  in-streamlets (number ∷ numbers) [] pairs = absurd pairs
-  in-streamlets (number ∷ numbers) (streamlet ∷ streamlets) pairs =
-      let here = in-ports streamlet (path_of (declaration all number)) (ports_of all (declaration all number)) streamlet.ports pairs.0.path_is pairs.0.ports_are in
-      let rest = in-streamlets numbers streamlets pairs.1 in
-      mapped-or_else port_ltype (port_in streamlet path) (port_at streamlets path)
-      ∙ ap (λ (o : Option Ltype). or_else o (option_map port_ltype (port_at streamlets path))) here
-      ∙ ap (λ (o : Option Ltype). or_else (option_map whole_type (find wanted (whole_ports_of all (declaration all number)))) o) rest
-      ∙ sym (mapped-or_else whole_type (find wanted (whole_ports_of all (declaration all number))) (find wanted (flat_map (λ number. whole_ports_of all (declaration all number)) numbers)))
-      ∙ ap (option_map whole_type) (sym (find-append (whole_ports_of all (declaration all number)) (flat_map (λ number. whole_ports_of all (declaration all number)) numbers)))
-
--- the type of the port that a project finds
-pub found-port_type : (ast : Ast) (project : Project) (path : List (List ℕ)) → IsProjectOf ast project → option_map port_ltype (port_at project.streamlets path) ≡ port_type ast path
-found-port_type ast project path is = in-streamlets (declarations ast) path (streamlet_numbers (declarations ast)) project.streamlets is.streamlets_are
 
 -- ---- it is valid
 
@@ -239,23 +172,33 @@ sound-port ast one sound there = record {
     by (inl large) = absurd (sound (faults.TypeTooLarge one.port.name.place) (record { one = written_port (declarations ast) one; written = there; at = refl; is = inl large }))
     by (inr few) = few
 
--- the type of a port of a tree without faults
-pub port-is : (ast : Ast) (path : List (List ℕ)) (ltype : Ltype) → IsSound ast → port_type ast path ≡ Some ltype → IsPortType ltype
-port-is ast path ltype sound is = by (find (λ (one : WholePort). is_same_path one.path path) (whole_ports (declarations ast))) refl is
+-- the ports of a tree without faults
+pub ports-valid : (ast : Ast) → IsSound ast → HasPortTypes (project_of ast)
+ports-valid ast sound = record { each = each }
   where
-    all : List Declaration
-    all = declarations ast
-
-    by : (found : Option WholePort) → find (λ (one : WholePort). is_same_path one.path path) (whole_ports (declarations ast)) ≡ found
-        → option_map (λ one. type_of_port (declarations ast) one.port) found ≡ Some ltype → IsPortType ltype
-    by None found is = absurd cc
-    by (Some one) found is =
-        let here = Contains-found (λ (one : WholePort). is_same_path one.path path) (whole_ports (declarations ast)) one found in
-        let at = Contains-flattened (λ number. whole_ports_of (declarations ast) (declaration (declarations ast) number)) (streamlet_numbers (declarations ast)) one here in
+    each : (streamlet : PlainStreamlet) (port : PlainPort) → Contains (project_of ast).streamlets streamlet → Contains streamlet.ports port → IsPortType port.ltype
+    each streamlet port there inside =
+        let at = Contains-mapped (streamlet_from (declarations ast)) (streamlet_numbers (declarations ast)) streamlet there in
         let it : Declaration = declaration (declarations ast) at.one in
-        let port = Contains-mapped (λ (p : PortOf). record { path = path_of it ++ p.port.name.name ∷ []; port = p }) (ports_of (declarations ast) it) one at.of_it in
-        let same : port.one ≡ one.port = ap (λ (w : WholePort). w.port) port.same in
+        let of_it : Contains (map (port_from (declarations ast)) (ports_of (declarations ast) it)) port = subst (λ (s : PlainStreamlet). Contains s.ports port) (sym at.same) inside in
+        let one = Contains-mapped (port_from (declarations ast)) (ports_of (declarations ast) it) port of_it in
         let within = number-within (λ number. is_streamlet (declaration (declarations ast) number)) 0 (length (declarations ast)) at.one at.inside in
-        let written = in-streamlet (declarations ast) at.one it.space it.name it.kind port.one (omega (arith, within)) refl port.inside in
-        let type_is : type_of_port (declarations ast) one.port ≡ ltype = cc in
-        subst IsPortType (ap (type_of_port (declarations ast)) same ∙ type_is) (sound-port ast port.one sound written)
+        let written = in-streamlet (declarations ast) at.one it.space it.name it.kind one.one (omega (arith, within)) refl one.inside in
+        subst (λ (p : PlainPort). IsPortType p.ltype) one.same (sound-port ast one.one sound written)
+
+-- a port that is found is one of them
+pub found-valid : (project : PlainProject) (path : List (List ℕ)) (port : PlainPort) → HasPortTypes project → plain_port_at project.streamlets path ≡ Some port → IsPortType port.ltype
+found-valid project path port types is = by project.streamlets (λ streamlet there. there) is
+  where
+    inside : (streamlet : PlainStreamlet) (more : List PlainStreamlet) (found : Option PlainPort) → plain_port_in streamlet path ≡ found → ((one : PlainStreamlet) → Contains (streamlet ∷ more) one → Contains project.streamlets one)
+        → or_else found (plain_port_at more path) ≡ Some port → (plain_port_at more path ≡ Some port → IsPortType port.ltype) → IsPortType port.ltype
+    inside streamlet more None found among is rest = rest is
+    inside streamlet more (Some one) found among is rest =
+        let same : one ≡ port = cc in
+        types.each streamlet port (among streamlet (0, omega arith, refl))
+        (Contains-found (λ (p : PlainPort). is_same_path (streamlet.path ++ p.name ∷ []) path) streamlet.ports port (found ∙ ap (λ (p : PlainPort). Some p) same))
+
+    by : (streamlets : List PlainStreamlet) → ((one : PlainStreamlet) → Contains streamlets one → Contains project.streamlets one) → plain_port_at streamlets path ≡ Some port → IsPortType port.ltype
+    by [] among is = absurd cc
+    by (streamlet ∷ more) among is = inside streamlet more (plain_port_in streamlet path) refl among is
+        (by more (λ one there. among one (Contains-append_right (streamlet ∷ []) more one there)))

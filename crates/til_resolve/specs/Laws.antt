@@ -1,13 +1,13 @@
--- What holds of the faults of trees, and of the types of their ports.
+-- What holds of the faults of trees, of their projects, and of the types of ports.
 use Rattle.std.specs.Prelude.{◌≡◌, ℕ, List, Some, option_map}
 use Rattle.til_parser.specs.declared.tree.Ast.{Ast}
 use Rattle.til_parser.specs.Laws.{IsTreeOf}
-use Rattle.logical_types.specs.Tree.{Ltype, plain_of_stream}
 use Rattle.til_resolve.specs.declared.fault.ResolveFault.{ResolveFault}
 use Rattle.til_resolve.specs.declared.project.Project.{Project}
 use Rattle.til_resolve.specs.Faults.{IsToldOf, IsSound}
 use Rattle.til_resolve.specs.Lookups.{port_at}
-use Rattle.til_resolve.specs.PortTypes.{IsPortType, port_type}
+use Rattle.til_resolve.specs.PlainProject.{HasPortTypes, PlainPort, PlainProject, plain_port, plain_port_at, plain_project, project_of}
+use Rattle.til_resolve.specs.PortTypes.{IsPortType}
 use Rattle.til_resolve.specs.Project.{IsProjectOf}
 
 -- of the tree of a text one fault is told
@@ -18,11 +18,18 @@ OneFaultIsTold = (text : List ℕ) (ast : Ast) (one other : ResolveFault) → Is
 abbrev pub SomeFaultIsTold : Type 0
 SomeFaultIsTold = (ast : Ast) → ((fault : ResolveFault) → IsToldOf ast fault → ⊥) → IsSound ast
 
--- the port that a project finds has the type of the one that the tree has
-abbrev pub PortsHaveTheirTypes : Type 0
-PortsHaveTheirTypes = (ast : Ast) (project : Project) (path : List (List ℕ)) → IsProjectOf ast project
-    → option_map (λ port. plain_of_stream port.ltype.value) (port_at project.streamlets path) ≡ port_type ast path
+-- the plain data of a project is that of its tree
+abbrev pub ProjectsAreOfTrees : Type 0
+ProjectsAreOfTrees = (ast : Ast) (project : Project) → IsProjectOf ast project → plain_project project ≡ project_of ast
 
--- and in a tree without faults it is valid, and of 65,536 nodes at most
+-- and a port is found in a project exactly where it is found in the plain data, as the same port
+abbrev pub PortsAreFound : Type 0
+PortsAreFound = (project : Project) (path : List (List ℕ)) → option_map plain_port (port_at project.streamlets path) ≡ plain_port_at (plain_project project).streamlets path
+
+-- the types of ports in a tree without faults are valid, and of 65,536 nodes at most
 abbrev pub PortTypesAreValid : Type 0
-PortTypesAreValid = (ast : Ast) (path : List (List ℕ)) (ltype : Ltype) → IsSound ast → port_type ast path ≡ Some ltype → IsPortType ltype
+PortTypesAreValid = (ast : Ast) → IsSound ast → HasPortTypes (project_of ast)
+
+-- and so is that of each port that is found
+abbrev pub FoundPortsAreValid : Type 0
+FoundPortsAreValid = (project : PlainProject) (path : List (List ℕ)) (port : PlainPort) → HasPortTypes project → plain_port_at project.streamlets path ≡ Some port → IsPortType port.ltype

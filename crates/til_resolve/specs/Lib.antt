@@ -25,3 +25,4 @@ pub mod Making
 pub mod SharedTypes
 pub mod Laws
 pub mod PortTypes
+pub mod PlainProject

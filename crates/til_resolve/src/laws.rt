@@ -1,6 +1,6 @@
-//! The laws of the faults of trees, and of the types of their ports.
+//! The laws of the faults of trees, of their projects, and of the types of ports.
 
-ghost use Rattle.til_resolve.specs.Laws.{OneFaultIsTold, PortTypesAreValid, PortsHaveTheirTypes, SomeFaultIsTold};
+ghost use Rattle.til_resolve.specs.Laws.{FoundPortsAreValid, OneFaultIsTold, PortTypesAreValid, PortsAreFound, ProjectsAreOfTrees, SomeFaultIsTold};
 
 /// The law of faults: of the tree of a text one fault is told, and of each tree that has any.
 pub fn faults_are_told()
@@ -8,9 +8,14 @@ pub fn faults_are_told()
     ensures some { SomeFaultIsTold }
 {}
 
-/// The law of ports: the port that a project finds by a path has the type that the tree gives it, which is valid, and has at most
-/// 65,536 nodes.
-pub fn ports_have_their_types()
-    ensures types { PortsHaveTheirTypes }
-    ensures valid { PortTypesAreValid }
+/// The law of projects: the plain data of a project is that of its tree, and has the ports that the project has.
+pub fn projects_are_plain()
+    ensures tree { ProjectsAreOfTrees }
+    ensures ports { PortsAreFound }
+{}
+
+/// The law of ports: in a tree without faults the types of ports are valid, and have at most 65,536 nodes.
+pub fn port_types_are_valid()
+    ensures each { PortTypesAreValid }
+    ensures found { FoundPortsAreValid }
 {}

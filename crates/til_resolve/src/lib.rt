@@ -45,6 +45,6 @@ mod written;
 mod written_tests;
 
 pub use fault::ResolveFault;
-pub use laws::{faults_are_told, ports_have_their_types};
+pub use laws::{faults_are_told, port_types_are_valid, projects_are_plain};
 pub use project::{Impl, Instance, Link, LinkEnd, Port, Project, Streamlet, Test};
 pub use resolving::resolve;

@@ -59,8 +59,8 @@ fn text_of(alloc: Global, stream: StreamType, limit: u64) -> Result<List<u8>, Fa
     if check(&ltype).is_err() || number_of_streams(&ltype) > 65536 {
         return Ok(List::new(alloc));
     }
-    match split_text(alloc, stream.get(), limit) {
-        Ok(text) => Ok(text),
+    match split_type(alloc, stream.get()) {
+        Ok(split) => Ok(split_text(alloc, &split, limit)?),
         Err(_) => Ok(List::new(alloc)),
     }
 }

@@ -1,6 +1,8 @@
 //! The rows of a table. A line of it begins with a mark and a space: `#` says what a row shows, `$` has the words, `<` a line of
-//! the file, `~` the end of the file that has no LF, `>` a line of out and `!` one of err. `=` has the status, and ends the row;
-//! `again` is Done, where the text of out is then the file of the same words, which give it again.
+//! the file, `~` the end of the file that has no LF, `>` a line of out, `|` the end of out that has no LF, and `!` a line of err.
+//! `-` has what fails: `store 2` the call of the store of this number, `out 2` the push to out; `most 4` is the most bytes that a
+//! call gives or takes. `=` has the status, and ends the row; `again` is Done, where the text of out is then the file of the same
+//! words, which give it again.
 
 use crate::running::{Faults, Outcome, run_on};
 use std::alloc::Global;
@@ -21,6 +23,9 @@ pub(crate) struct Row {
     pub(crate) file: List<u8>,
     pub(crate) out: List<u8>,
     pub(crate) err: List<u8>,
+    failing_reads: List<u64>,
+    failing_writes: List<u64>,
+    most: u16,
 }
 
 impl Row {
@@ -30,6 +35,9 @@ impl Row {
             file: List::new(alloc),
             out: List::new(alloc),
             err: List::new(alloc),
+            failing_reads: List::new(alloc),
+            failing_writes: List::new(alloc),
+            most: u16::MAX,
         }
     }
 
@@ -43,8 +51,26 @@ impl Row {
             self.file.extend_from_slice(text.as_bytes())?;
         } else if mark == ">" {
             push_line(text, &mut self.out)?;
+        } else if mark == "|" {
+            self.out.extend_from_slice(text.as_bytes())?;
         } else if mark == "!" {
             push_line(text, &mut self.err)?;
+        } else if mark == "-" {
+            self.take_fault(text)?;
+        }
+        Ok(())
+    }
+
+    /// Takes what fails.
+    fn take_fault(&mut self, text: &str) -> Result<(), Memory> {
+        let (name, digits) = text.split_once(' ').unwrap_or((text, ""));
+        let number = digits.parse::<u16>().unwrap_or(u16::MAX);
+        if name == "store" {
+            self.failing_reads.push(u64::from(number))?;
+        } else if name == "out" {
+            self.failing_writes.push(u64::from(number))?;
+        } else {
+            self.most = number.saturating_sub(1);
         }
         Ok(())
     }
@@ -57,7 +83,13 @@ impl Row {
         status: u8,
     ) -> Result<(), Memory> {
         let file = List::from_slice(rt.alloc(), file)?;
-        let outcome = run_on(rt.alloc(), self.words.as_slice(), file, &NO_FAULTS)?;
+        let faults = Faults {
+            store: self.failing_reads.as_slice(),
+            out: self.failing_writes.as_slice(),
+            err: &[],
+            most: self.most,
+        };
+        let outcome = run_on(rt.alloc(), self.words.as_slice(), file, &faults)?;
         expect(
             rt,
             &outcome,

@@ -221,6 +221,52 @@ $ split t n::s.p
 ~ namespace n { type t }
 ! tydi: Unexpected t 1:22
 = 1
+# a start that fails
+$ split t n::s.p
+~ namespace n { type t = Stream(data: Bits(8), complexity: 1); streamlet s = (p: in t); }
+- store 0
+! tydi: ReadFault t
+= 3
+# a pull that fails, in pieces of 16 bytes
+$ split t n::s.p
+~ namespace n { type t = Stream(data: Bits(8), complexity: 1); streamlet s = (p: in t); }
+- store 3
+- most 16
+! tydi: ReadFault t
+= 3
+# and one that is not made
+$ split t n::s.p
+~ namespace n { type t = Stream(data: Bits(8), complexity: 1); streamlet s = (p: in t); }
+- store 9
+- most 16
+> stream - lanes 1 dims 0 level 1 element 8 user 0 forward
+>   root -
+>   valid 1
+>   ready 1
+>   data 8
+>   field - 0 8
+= 0
+# a push that fails, in pieces of 4 bytes
+$ split t n::s.p
+~ namespace n { type t = Stream(data: Bits(8), complexity: 1); streamlet s = (p: in t); }
+- out 15
+- most 4
+> stream - lanes 1 dims 0 level 1 element 8 user 0 forward
+|   r
+! tydi: WriteFault
+= 4
+# the first push that fails
+$ split t n::s.p
+~ namespace n { type t = Stream(data: Bits(8), complexity: 1); streamlet s = (p: in t); }
+- out 0
+! tydi: WriteFault
+= 4
+# a refusal pushes nothing to out
+$ split t n::s.q
+~ namespace n { type t = Stream(data: Bits(8), complexity: 1); streamlet s = (p: in t); }
+- out 0
+! tydi: NoPort n::s.q
+= 1
 # a word too few
 $ split p
 ! tydi: Usage

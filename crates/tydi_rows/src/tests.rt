@@ -29,7 +29,7 @@ fn tables(rt: HostRuntime) -> Result<(), Fail> {
         (SEVERAL_STREAMS, 9),
         (CANONICAL, 3),
         (FAULTS, 12),
-        (SPLITS, 20),
+        (SPLITS, 26),
     ];
     for (table, count) in tables {
         assert_eq!(rt; check_rows(&rt, table)?, count);

@@ -33,7 +33,7 @@ use Rattle.tydi_tool.specs.Refusals.{Refusal, refusal_line, refusal_of_trace, re
 use Rattle.tydi_tool.specs.Reading.{RefusesBy}
 use Rattle.tydi_tool.specs.Reports.{Reports, ReportsEnd, path_of_stream}
 use Rattle.tydi_tool.specs.Traces.{ReadsReading, ReadsTrace}
-use Rattle.tydi_tool.specs.Projects.{ReadsTokens, ReadsCoded, ReadsProject, refusal_of_parsing}
+use Rattle.tydi_tool.specs.Trees.{ReadsTokens, ReadsCoded, ReadsTree, refusal_of_parsing}
 use Rattle.tydi_tool.specs.Files.{Lack, file_of}
 use Rattle.tydi_tool.specs.Ask.{Ask, Ends, Asks, SaysOfBytes, SaysOfFile, SaysBy}
 use Rattle.tydi_tool.specs.Laws.{ReadsOnce, AsksOnce}
@@ -173,8 +173,8 @@ ReadsCoded-lines : (word bytes : List ℕ) (coded : Bool) (one other : List ℕ)
 ReadsCoded-lines word bytes true one other is p q = ReadsTokens-lines word bytes (tokens_of bytes) one other is refl p q
 ReadsCoded-lines word bytes false one other is p q = same_line {X = Ast} one other (p ∙ sym q)
 
-pub ReadsProject-once : (word : List ℕ) → ReadsOnce (ReadsProject word)
-ReadsProject-once word = record {
+pub ReadsTree-once : (word : List ℕ) → ReadsOnce (ReadsTree word)
+ReadsTree-once word = record {
   same = λ bytes a b p q. ReadsCoded-same word bytes (is_utf8 bytes) a b refl p q;
   apart = λ bytes a line p q. ReadsCoded-apart word bytes (is_utf8 bytes) a line p q;
   lines = λ bytes one other p q. ReadsCoded-lines word bytes (is_utf8 bytes) one other refl p q;

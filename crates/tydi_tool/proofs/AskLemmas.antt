@@ -1,5 +1,5 @@
 -- What a command asks for, replies and says, whatever its files are.
-use Rattle.std.proofs.Common.{refl, ◌≡◌, ℕ, ◌≤◌, inl, inr, List, Option, None, Some, IfSome, ◌∙◌, subst, arith, Result, Ok, Err, ⊎_elim}
+use Rattle.std.proofs.Common.{refl, sym, ◌≡◌, ℕ, ◌≤◌, ◌⊎◌, inl, inr, List, Option, None, Some, IfSome, ◌∙◌, subst, arith, Result, Ok, Err, ⊎_elim}
 use Rattle.tydi_io.specs.Faults.{Rose}
 use Rattle.tydi_io.specs.Store.{Files}
 use Rattle.tydi_tool.specs.declared.answer.Answer.{Answer}
@@ -7,7 +7,9 @@ use Rattle.tydi_tool.specs.declared.answer.Reply.{Reply}
 use Rattle.tydi_tool.specs.declared.answer.Reply.TheVariants as replies
 use Rattle.tydi_tool.specs.Words.{FileWord}
 use Rattle.tydi_tool.specs.Files.{IsPulled}
-use Rattle.tydi_tool.specs.Ask.{Ask, Ends, Asks, SaysBy, Judges, Stops, DecidedBy, Decides, IsAsked}
+use Rattle.tydi_tool.specs.Refusals.{Refusal}
+use Rattle.tydi_tool.specs.Reading.{IsRefusedBy, refusal_in}
+use Rattle.tydi_tool.specs.Ask.{Ask, Ends, Asks, SaysBy, Judges, Stops, DecidedBy, Decides, IsAsked, TellsOf, goes_on}
 
 Stops-weaken : (told : Option Files) (file : FileWord) (new : Option (List ℕ × ℕ)) (rose rose' here here' : Type 0) (reply : Reply) → (rose → rose') → (here → here') →
     Stops told file new rose here reply → Stops told file new rose' here' reply
@@ -64,6 +66,11 @@ pub Decides-wanted : (file : FileWord) (X : Type 0) (Reads : List ℕ → Result
     Decides told old old rose (Asks file X Reads next) replies.Memory
 Decides-wanted file X Reads next told old rose = inl (inl (here_now told old))
 
+-- it was read, and the command is decided over the store as it is
+pub DecidedBy-then : (file : FileWord) (X : Type 0) (Reads : List ℕ → Result X (List ℕ) → Type 0) (next : X → Ask) (told : Option Files) (old new : Option (List ℕ × ℕ)) (rose here : Type 0) (x : X) (reply : Reply) →
+    IsAsked told file Reads old new rose (Ok x) → DecidedBy told new rose (IsPulled told file new) (next x) reply → DecidedBy told new rose here (Asks file X Reads next) reply
+DecidedBy-then file X Reads next told old new rose here x reply asked rest = inr (asked.0, (asked.1.0, inr (x, (asked.1.1.0, rest))))
+
 -- it was read, and the command ends
 pub DecidedBy-last : (file : FileWord) (X : Type 0) (Reads : List ℕ → Result X (List ℕ) → Type 0) (Tells : X → Answer → Type 0) (told : Option Files) (old new : Option (List ℕ × ℕ)) (rose here : Type 0) (x : X) (reply : Reply) →
     IsAsked told file Reads old new rose (Ok x) → Judges (Tells x) reply → DecidedBy told new rose here (Asks file X Reads (λ y. Ends (Tells y))) reply
@@ -99,3 +106,40 @@ DecidedBy-rest file X Reads next told told' old mid new f g h here x reply same 
         ),
       ),
     )
+
+-- ---- a step of a command
+
+-- a command that wants memory before it starts a file more
+wanted_before : (told : Option Files) (new : Option (List ℕ × ℕ)) (rose here : Type 0) (ask : Ask) → here → DecidedBy told new rose here ask replies.Memory
+wanted_before told new rose here (Ends Tells) at = (tt, at)
+wanted_before told new rose here (Asks file X Reads next) at = inl (inl at)
+
+-- a step gave what is wanted, and the command goes on with it
+pub DecidedBy-goes_on : {V : Type 0} (told : Option Files) (new : Option (List ℕ × ℕ)) (rose here : Type 0) (wanted : Result V Refusal) (next : V → Ask) (v : V) (reply : Reply) →
+    wanted ≡ Ok v → DecidedBy told new rose here (next v) reply → DecidedBy told new rose here (goes_on wanted next) reply
+DecidedBy-goes_on {V} told new rose here wanted next v reply is rest = subst (λ (w : Result V Refusal). DecidedBy told new rose here (goes_on w next) reply) (sym is) rest
+
+-- it gave the reply
+pub DecidedBy-refused : {V : Type 0} (told : Option Files) (new : Option (List ℕ × ℕ)) (rose here : Type 0) (wanted : Result V Refusal) (next : V → Ask) (reply : Reply) →
+    here → IsRefusedBy (refusal_in wanted) reply → DecidedBy told new rose here (goes_on wanted next) reply
+DecidedBy-refused told new rose here (Ok v) next reply at memory = subst (DecidedBy told new rose here (next v)) (sym memory) (wanted_before told new rose here (next v) at)
+DecidedBy-refused told new rose here (Err refusal) next reply at (inl says) = subst (DecidedBy told new rose here (goes_on (Err refusal) next)) (sym says) (refl, at)
+DecidedBy-refused told new rose here (Err refusal) next reply at (inr memory) = subst (DecidedBy told new rose here (goes_on (Err refusal) next)) (sym memory) (tt, at)
+
+-- the step is the last
+pub DecidedBy-told : {V : Type 0} (told : Option Files) (new : Option (List ℕ × ℕ)) (rose here : Type 0) (wanted : Result V Refusal) (Tells : V → Answer → Type 0) (reply : Reply) →
+    here → Judges (TellsOf wanted Tells) reply → DecidedBy told new rose here (goes_on wanted (λ v. Ends (Tells v))) reply
+DecidedBy-told told new rose here (Ok v) Tells reply at judges = (judges, at)
+DecidedBy-told told new rose here (Err refusal) Tells reply at judges = (judges, at)
+
+pub Judges-told : {V : Type 0} (wanted : Result V Refusal) (Tells : V → Answer → Type 0) (v : V) (reply : Reply) → wanted ≡ Ok v → Judges (Tells v) reply → Judges (TellsOf wanted Tells) reply
+Judges-told {V} wanted Tells v reply is judges = subst (λ (w : Result V Refusal). Judges (TellsOf w Tells) reply) (sym is) judges
+
+pub Judges-refused : {V : Type 0} (wanted : Result V Refusal) (Tells : V → Answer → Type 0) (reply : Reply) → IsRefusedBy (refusal_in wanted) reply → Judges (TellsOf wanted Tells) reply
+Judges-refused (Ok v) Tells reply memory = subst (Judges (Tells v)) (sym memory) tt
+Judges-refused (Err refusal) Tells reply (inl says) = subst (Judges (TellsOf (Err refusal) Tells)) (sym says) refl
+Judges-refused (Err refusal) Tells reply (inr memory) = subst (Judges (TellsOf (Err refusal) Tells)) (sym memory) tt
+
+pub Judges-either : (answer : Answer) (reply : Reply) → (reply ≡ replies.Says answer) ⊎ (reply ≡ replies.Memory) → Judges (λ a. a ≡ answer) reply
+Judges-either answer reply (inl says) = subst (Judges (λ a. a ≡ answer)) (sym says) refl
+Judges-either answer reply (inr memory) = subst (Judges (λ a. a ≡ answer)) (sym memory) tt

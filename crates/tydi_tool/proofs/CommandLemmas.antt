@@ -5,20 +5,21 @@ use Rattle.tydi_io.specs.Store.{Files}
 use Rattle.cycle_trace.specs.TraceText.{trace_of}
 use Rattle.til_parser.specs.Canonical.{canonical}
 use Rattle.tydi_tool.specs.declared.answer.Answer.{Answer}
-use Rattle.tydi_tool.specs.Ask.{SaysBy}
+use Rattle.tydi_tool.specs.Ask.{Ends, SaysBy}
 use Rattle.tydi_tool.specs.Commands.{ask_of}
 use Rattle.tydi_tool.specs.Laws.{AsksAlways, AsksOnce, HasSome}
 use Rattle.tydi_tool.specs.Outcome.{output_answer}
+use Rattle.split_text.specs.Text.{split_text}
 use Rattle.tydi_tool.specs.Words.{Request, Check, Read, Split}
-use Rattle.tydi_tool.proofs.AnswerLemmas.{ReadsProject-once, ReadsTrace-once, Reports-one, SaysBy-one}
-use Rattle.tydi_tool.proofs.PortLemmas.{ReadsSplit-once, ReadsSplit-some}
+use Rattle.tydi_tool.proofs.AnswerLemmas.{ReadsTrace-once, ReadsTree-once, Reports-one, SaysBy-one}
 use Rattle.tydi_tool.proofs.ReadingLemmas.{IsFoundAmong-read}
+use Rattle.tydi_tool.proofs.StepLemmas.{port-always, port-once}
 use Rattle.tydi_tool.proofs.SomeLemmas.{ReadsCoded-some, ReadsReading-some, Reports-some, SaysBy-some}
 
 asks_once : (request : Request) → AsksOnce (ask_of request)
 asks_once (Check trace) = (ReadsTrace-once trace, λ bytes survey reads a b p q. Reports-one survey.heads survey.found a b p q)
-asks_once (Read project) = (ReadsProject-once project, λ bytes ast reads a b p q. p ∙ sym q)
-asks_once (Split project port) = (ReadsSplit-once project port, λ bytes answer reads a b p q. p ∙ sym q)
+asks_once (Read project) = (ReadsTree-once project, λ bytes ast reads a b p q. p ∙ sym q)
+asks_once (Split project port) = port-once project port (λ split. Ends (λ a. a ≡ output_answer (split_text split))) (λ split a b p q. p ∙ sym q)
 
 -- one answer
 pub SaysBy-request : (told : Files) (request : Request) (a b : Answer) → SaysBy (Some told) (ask_of request) a → SaysBy (Some told) (ask_of request) b → a ≡ b
@@ -30,7 +31,7 @@ asks_always (Check trace) = (
   λ bytes survey reads none. let a = Reports-some survey.heads survey.found (IsFoundAmong-read trace bytes survey reads) in none a.0 a.1,
 )
 asks_always (Read project) = (λ bytes. ReadsCoded-some project bytes (is_utf8 bytes) refl, λ bytes ast reads none. none (output_answer (canonical ast)) refl)
-asks_always (Split project port) = (ReadsSplit-some project port, λ bytes answer reads none. none answer refl)
+asks_always (Split project port) = port-always project port (λ split. Ends (λ a. a ≡ output_answer (split_text split))) (λ split none. none (output_answer (split_text split)) refl)
 
 -- some answer
 pub SaysBy-request-some : (told : Files) (request : Request) → HasSome Answer (SaysBy (Some told) (ask_of request))

@@ -24,7 +24,7 @@ use Rattle.tydi_tool.specs.Reading.{RefusesBy, ReadsAs, IsRefusedBy}
 use Rattle.tydi_tool.specs.Refusals.{Refusal, not_utf8, refusal_line, refusal_of_trace}
 use Rattle.tydi_tool.specs.Reports.{IsFoundAmong}
 use Rattle.tydi_tool.specs.Traces.{ReadsReading, ReadsTrace}
-use Rattle.tydi_tool.specs.Projects.{ReadsTokens, ReadsCoded, ReadsProject, refusal_of_parsing}
+use Rattle.tydi_tool.specs.Trees.{ReadsTokens, ReadsCoded, ReadsTree, refusal_of_parsing}
 use Rattle.tydi_tool.proofs.ReportLemmas.{IsFoundAmong-heads}
 
 -- ---- a trace
@@ -49,22 +49,22 @@ IsFoundAmong-read word bytes survey reads = IsFoundAmong-reading word (trace_of 
 -- ---- a project
 
 -- bytes that are UTF-8
-pub ReadsProject-utf8 : (word bytes : List ℕ) (read : Result Ast Reply) → IsUtf8 bytes → ReadsAs (ReadsTokens word bytes (tokens_of bytes)) read → ReadsAs (ReadsProject word bytes) read
-ReadsProject-utf8 word bytes read utf8 reads = subst (λ (coded : Bool). ReadsAs (ReadsCoded word bytes coded) read) (sym (is_utf8-from_IsUtf8 bytes utf8)) reads
+pub ReadsTree-utf8 : (word bytes : List ℕ) (read : Result Ast Reply) → IsUtf8 bytes → ReadsAs (ReadsTokens word bytes (tokens_of bytes)) read → ReadsAs (ReadsTree word bytes) read
+ReadsTree-utf8 word bytes read utf8 reads = subst (λ (coded : Bool). ReadsAs (ReadsCoded word bytes coded) read) (sym (is_utf8-from_IsUtf8 bytes utf8)) reads
 
 not_coded : (bytes : List ℕ) (coded : Bool) → is_utf8 bytes ≡ coded → (IsUtf8 bytes → ⊥) → is_utf8 bytes ≡ false
 not_coded bytes true is other = absurd (other (IsUtf8-from_is_utf8 bytes is))
 not_coded bytes false is other = is
 
 -- bytes that are not
-pub ReadsProject-other : (word bytes : List ℕ) (front : ℕ) (reply : Reply) → (IsUtf8 bytes → ⊥) → front ≡ utf8_valid_len bytes →
-    (reply ≡ replies.Says (answers.Refused (refusal_line (not_utf8 word front)))) ⊎ (reply ≡ replies.Memory) → ReadsAs (ReadsProject word bytes) (Err reply)
-ReadsProject-other word bytes front reply other length (inl says) =
+pub ReadsTree-other : (word bytes : List ℕ) (front : ℕ) (reply : Reply) → (IsUtf8 bytes → ⊥) → front ≡ utf8_valid_len bytes →
+    (reply ≡ replies.Says (answers.Refused (refusal_line (not_utf8 word front)))) ⊎ (reply ≡ replies.Memory) → ReadsAs (ReadsTree word bytes) (Err reply)
+ReadsTree-other word bytes front reply other length (inl says) =
     let line : List ℕ = refusal_line (not_utf8 word front) in
     let reads : ReadsCoded word bytes false (Err line) = ap (λ (n : ℕ). Err (refusal_line (not_utf8 word n))) length in
-    subst (λ (r : Reply). ReadsAs (ReadsProject word bytes) (Err r)) (sym says)
+    subst (λ (r : Reply). ReadsAs (ReadsTree word bytes) (Err r)) (sym says)
     (subst (λ (coded : Bool). ReadsCoded word bytes coded (Err line)) (sym (not_coded bytes (is_utf8 bytes) refl other)) reads)
-ReadsProject-other word bytes front reply other length (inr memory) = subst (λ (r : Reply). ReadsAs (ReadsProject word bytes) (Err r)) (sym memory) tt
+ReadsTree-other word bytes front reply other length (inr memory) = subst (λ (r : Reply). ReadsAs (ReadsTree word bytes) (Err r)) (sym memory) tt
 
 wanted : (word text : List ℕ) (tokens : List Token) (reply : Reply) → reply ≡ replies.Memory → ReadsAs (ReadsTokens word text (Ok tokens)) (Err reply)
 wanted word text tokens reply memory = subst (λ (r : Reply). ReadsAs (ReadsTokens word text (Ok tokens)) (Err r)) (sym memory) tt

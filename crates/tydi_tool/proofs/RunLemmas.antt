@@ -8,9 +8,10 @@ use Rattle.tydi_tool.specs.declared.answer.Reply.TheVariants as replies
 use Rattle.tydi_tool.specs.declared.status.Status.{Status}
 use Rattle.tydi_tool.specs.declared.status.Status.TheVariants as statuses
 use Rattle.tydi_tool.specs.Words.{Request, Check, Read, Split, FileWord, file_words}
-use Rattle.tydi_tool.specs.Outcome.{out_of_answer, out_of, err_of, status_of, usage_line, memory_line, write_fault_line}
+use Rattle.split_text.specs.Text.{split_text}
+use Rattle.tydi_tool.specs.Outcome.{out_of_answer, output_answer, out_of, err_of, status_of, usage_line, memory_line, write_fault_line}
 use Rattle.tydi_tool.specs.Delivery.{Adds, AddsFront, TakesLine, IsLined, IsCut, IsWritten, OutFails, OutWants, Delivers}
-use Rattle.tydi_tool.specs.Ask.{AsksFor, AsksSome, Decides}
+use Rattle.tydi_tool.specs.Ask.{AsksFor, AsksSome, Decides, Ends}
 use Rattle.tydi_tool.specs.Commands.{ask_of, Says}
 use Rattle.tydi_tool.specs.Started.{IsPulledOut, IsGivenOne, NamesStarted, StartsWithin, Leaves}
 use Rattle.tydi_tool.specs.Run.{Runs, EndsAsked, EndsUnasked, EndsInAnswer, IsAnswered, IsComplete, ReportsRead, OutFront, IsRefusal, IsLine, ErrFront, LeavesOut, LeavesErr, StartedAtEnd}
@@ -19,12 +20,13 @@ use Rattle.tydi_tool.proofs.AskLemmas.{SaysBy-decided}
 use Rattle.tydi_tool.proofs.DeliveryLemmas.{AddsFront-all}
 use Rattle.tydi_tool.proofs.FileLemmas.{IsGiven-pulled_out}
 use Rattle.tydi_tool.proofs.StartedLemmas.{Leaves-decided}
+use Rattle.tydi_tool.proofs.StepLemmas.{port-for}
 
 -- the files of each command are those that it asks for
 asks_for : (request : Request) → AsksFor (file_words request) (ask_of request)
 asks_for (Check trace) = (refl, λ x. tt)
 asks_for (Read project) = (refl, λ x. tt)
-asks_for (Split project port) = (refl, λ x. tt)
+asks_for (Split project port) = port-for project port [] (λ split. Ends (λ a. a ≡ output_answer (split_text split))) (λ split. tt)
 
 asks_some : (request : Request) → AsksSome (ask_of request)
 asks_some (Check trace) = tt

@@ -34,12 +34,13 @@ use Rattle.tydi_tool.specs.Refusals.{At, of_file_with, refusal_line, refusal_of_
 use Rattle.tydi_tool.specs.Reading.{RefusesBy}
 use Rattle.tydi_tool.specs.Reports.{Reports, ReportsEnd, IsUnfinished, IsFoundAmong, path_of_stream}
 use Rattle.tydi_tool.specs.Traces.{ReadsReading}
-use Rattle.tydi_tool.specs.Projects.{ReadsTokens, ReadsCoded, place_of, refusal_of_parsing}
+use Rattle.tydi_tool.specs.Trees.{ReadsTokens, ReadsCoded, place_of, refusal_of_parsing}
 use Rattle.tydi_tool.specs.Files.{Lack, lack_line, file_of}
 use Rattle.tydi_tool.specs.Ask.{Ask, Ends, Asks, SaysBy}
 use Rattle.tydi_tool.specs.Laws.{HasSome, AsksAlways}
-use Rattle.tydi_tool.proofs.FaultLemmas.{trace_free, tokens_free}
 use Rattle.tydi_tool.proofs.FirstOfAll.{first_of_all}
+use Rattle.tydi_tool.proofs.TokenFaults.{tokens_free}
+use Rattle.tydi_tool.proofs.TraceFaults.{trace_free}
 
 -- ---- whatever a command asks for
 

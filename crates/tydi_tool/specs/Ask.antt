@@ -6,6 +6,7 @@ use Rattle.tydi_tool.specs.declared.answer.Answer.{Answer}
 use Rattle.tydi_tool.specs.declared.answer.Answer.TheVariants as answers
 use Rattle.tydi_tool.specs.declared.answer.Reply.{Reply}
 use Rattle.tydi_tool.specs.declared.answer.Reply.TheVariants as replies
+use Rattle.tydi_tool.specs.Refusals.{Refusal, refusal_line}
 use Rattle.tydi_tool.specs.Words.{FileWord}
 use Rattle.tydi_tool.specs.Outcome.{read_fault_line}
 use Rattle.tydi_tool.specs.Files.{Lack, lack_line, IsFound, IsPulled, IsGiven}
@@ -15,6 +16,16 @@ use Rattle.tydi_tool.specs.Files.{Lack, lack_line, IsFound, IsPulled, IsGiven}
 pub data Ask : Type 1 where
   Ends : (Answer → Type 0) → Ask
   Asks : FileWord → (X : Type 0) → (List ℕ → Result X (List ℕ) → Type 0) → (X → Ask) → Ask
+
+-- with what a step gives of what was read, a command goes on; or it ends with the refusal
+abbrev pub goes_on : {V : Type 0} → Result V Refusal → (V → Ask) → Ask
+goes_on (Ok v) next = next v
+goes_on (Err refusal) next = Ends (λ a. a ≡ answers.Refused (refusal_line refusal))
+
+-- what is said at the end where a step is the last: by what it gives, or the refusal
+abbrev pub TellsOf : {V : Type 0} → Result V Refusal → (V → Answer → Type 0) → Answer → Type 0
+TellsOf (Ok v) Tells a = Tells v a
+TellsOf (Err refusal) Tells a = a ≡ answers.Refused (refusal_line refusal)
 
 -- ---- what is said
 

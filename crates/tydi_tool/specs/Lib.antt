@@ -7,6 +7,7 @@ pub mod Lines
 pub mod Loading
 pub mod Outcome
 pub mod Output
+pub mod Ports
 pub mod Projects
 pub mod Reading
 pub mod Refusals
@@ -15,5 +16,5 @@ pub mod Run
 pub mod Started
 pub mod TraceFiles
 pub mod Traces
+pub mod Trees
 pub mod Words
-pub mod Ports

@@ -15,6 +15,11 @@ abbrev pub ReadsBy : {X Y : Type 0} → (List ℕ → Result X (List ℕ) → Ty
 ReadsBy {X} Reads Step bytes (Ok y) = (x : X) × (Reads bytes (Ok x) × Step x (Ok y))
 ReadsBy {X} Reads Step bytes (Err line) = Reads bytes (Err line) ⊎ ((x : X) × (Reads bytes (Ok x) × Step x (Err line)))
 
+-- a reading as plain data, of what it gives in code
+abbrev pub Seen : {X V : Type 0} → (X → V) → (Result V (List ℕ) → Type 0) → Result X (List ℕ) → Type 0
+Seen view Reads (Ok x) = Reads (Ok (view x))
+Seen view Reads (Err line) = Reads (Err line)
+
 -- what a reader gives of bytes: what they are read as, or the reply, which has the line that refuses them or is want of memory
 abbrev pub ReadsAs : {X : Type 0} → (Result X (List ℕ) → Type 0) → Result X Reply → Type 0
 ReadsAs Reads (Ok x) = Reads (Ok x)
@@ -26,3 +31,13 @@ ReadsAs Reads (Err reply) = ⊥
 abbrev pub IsRefusedBy : Option Refusal → Reply → Type 0
 IsRefusedBy (Some refusal) reply = (reply ≡ replies.Says (answers.Refused (refusal_line refusal))) ⊎ (reply ≡ replies.Memory)
 IsRefusedBy None reply = reply ≡ replies.Memory
+
+-- the refusal where there is nothing else
+abbrev pub refusal_in : {V : Type 0} → Result V Refusal → Option Refusal
+refusal_in (Ok v) = None
+refusal_in (Err refusal) = Some refusal
+
+-- a step gives what is wanted, seen as plain data, or the reply that refuses as is wanted, or want of memory
+abbrev pub Gives : {X V : Type 0} → (X → V) → Result V Refusal → Result X Reply → Type 0
+Gives view wanted (Ok x) = wanted ≡ Ok (view x)
+Gives view wanted (Err reply) = IsRefusedBy (refusal_in wanted) reply

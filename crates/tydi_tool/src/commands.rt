@@ -1,27 +1,37 @@
 //! The commands. Each asks for its files one after another, and ends with what is said of them.
 
-ghost use Rattle.std.specs.Prelude.{◌≡◌, IsTrue};
+ghost use Rattle.std.specs.Prelude.{◌≡◌, ◌≤◌, IfOk, IsTrue};
 ghost use Rattle.std.specs.List.{AllByRecursion};
 ghost use Rattle.til_parser.specs.Canonical.{canonical};
 ghost use Rattle.tydi_io.specs.Faults.{Rose};
-ghost use Rattle.tydi_tool.specs.Ask.{Decides, Judges};
+ghost use Rattle.split_text.specs.Text.{split_text};
+ghost use Rattle.til_resolve.specs.PlainProject.{HasPortTypes, plain_project};
+ghost use Rattle.type_split.specs.Streams.{IsPortSplit, plain_split};
+ghost use Rattle.tydi_tool.specs.Ask.{Decides, IsAsked, Judges, TellsOf};
 ghost use Rattle.tydi_tool.specs.Commands.{ask_of, check_ask, read_ask, split_ask};
 ghost use Rattle.tydi_tool.specs.Outcome.{output_answer};
+ghost use Rattle.tydi_tool.specs.Ports.{split_at};
+ghost use Rattle.tydi_tool.specs.Projects.{ReadsProject};
+ghost use Rattle.tydi_tool.specs.Reading.{Seen};
 ghost use Rattle.tydi_tool.specs.TraceFiles.{IsNew};
-ghost use Rattle.tydi_tool.specs.Words.{request_from, file_words};
+ghost use Rattle.tydi_tool.specs.Words.{request_from, file_words, project_file};
 
 use crate::answer::Reply;
 use crate::asking::{ask, ask_text};
-use crate::ending::answered;
-use crate::ports::PortText;
+use crate::ending::{OUTPUT_LIMIT, answered, answered_front};
+use crate::ports::split_of_port;
 use crate::projects::ProjectText;
 use crate::reports::report;
 use crate::traces::TraceFile;
+use crate::trees::TreeText;
 use crate::words::Command;
+use split_text::split_text;
 use std::alloc::Global;
 use til_parser::{Ast, print};
+use til_resolve::Project;
 use tydi_base::{Memory, Text};
 use tydi_io::Store;
+use type_split::Split;
 
 /// The most bytes of a trace: 64 MiB.
 const TRACE_LIMIT: usize = 67_108_864;
@@ -73,7 +83,7 @@ fn read<S: Store>(alloc: Global, project: &Text, store: &mut S) -> Reply
     ensures decided { Decides (S.files store.old) (S.started store.old) (S.started store.new) (Rose (S.faults store.old) (S.faults store.new))
         (read_ask project.now) result }
 {
-    let text = ProjectText { word: project };
+    let text = TreeText { word: project };
     match ask_text(alloc, store, project, PROJECT_LIMIT, text) {
         Ok(ast) => canonical_text(alloc, &ast),
         Err(reply) => reply,
@@ -87,18 +97,51 @@ fn canonical_text(alloc: Global, ast: &Ast) -> Reply
     answered(alloc, print(alloc, ast))
 }
 
+/// The project of this word, with which a command begins. The error is the reply where its file is lacking, a call fails or its text
+/// is refused.
+fn ask_project<S: Store>(alloc: Global, project: &Text, store: &mut S) -> Result<Project, Reply>
+    requires { IsTrue (S.allowed store.old project.now) }
+    ensures allowed { S.allowed store.new ≡ S.allowed store.old }
+    ensures files { S.files store.new ≡ S.files store.old }
+    ensures asked { IsAsked (S.files store.old) (project_file project.now) (λ bytes. Seen plain_project (ReadsProject project.now bytes))
+        (S.started store.old) (S.started store.new) (Rose (S.faults store.old) (S.faults store.new)) result }
+    ensures later { S.faults store.old ≤ S.faults store.new }
+    ensures types { IfOk result (λ read. HasPortTypes (plain_project read)) }
+{
+    let text = ProjectText { word: project };
+    ask_text(alloc, store, project, PROJECT_LIMIT, text)
+}
+
 /// `split PROJECT PORT`.
 fn split<S: Store>(alloc: Global, project: &Text, port: &Text, store: &mut S) -> Reply
     requires { IsTrue (S.allowed store.old project.now) }
     ensures decided { Decides (S.files store.old) (S.started store.old) (S.started store.new) (Rose (S.faults store.old) (S.faults store.new))
         (split_ask project.now port.now) result }
 {
-    let text = PortText {
-        project: ProjectText { word: project },
-        port,
-    };
-    match ask_text(alloc, store, project, PROJECT_LIMIT, text) {
-        Ok(answer) => Reply::Says(answer),
+    match ask_project(alloc, project, store) {
+        Ok(read) => split_in(alloc, &read, port),
         Err(reply) => reply,
+    }
+}
+
+/// The physical streams of the port of this word in a project.
+fn split_in(alloc: Global, project: &Project, port: &Text) -> Reply
+    requires { HasPortTypes (plain_project project.now) }
+    ensures { Judges (TellsOf (split_at (plain_project project.now) port.now) (λ split a. a ≡ output_answer (split_text split))) result }
+{
+    match split_of_port(alloc, project, port) {
+        Ok(split) => streams_text(alloc, &split),
+        Err(reply) => reply,
+    }
+}
+
+/// The text of the physical streams of a split.
+fn streams_text(alloc: Global, split: &Split<'_>) -> Reply
+    requires { IsPortSplit (plain_split split.now) }
+    ensures { Judges (λ a. a ≡ output_answer (split_text (plain_split split.now))) result }
+{
+    match split_text(alloc, split, OUTPUT_LIMIT) {
+        Ok(front) => answered_front(alloc, front),
+        Err(Memory) => Reply::Memory,
     }
 }

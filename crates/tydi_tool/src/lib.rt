@@ -19,6 +19,7 @@ mod reports;
 mod running;
 mod status;
 mod traces;
+mod trees;
 mod words;
 
 pub use answer::{Answer, Reply};

@@ -1,19 +1,19 @@
-//! How the text of a project is read: as its tree.
+//! How the text of a project is read as the project.
 
-ghost use Rattle.std.specs.Prelude.{◌≡◌, ◌<◌, ◌-◌, ◌^◌, Ok, length};
-ghost use Rattle.til_lexer.specs.Tokens.{tokens_of};
-ghost use Rattle.til_parser.specs.Faults.{NamesToken};
-ghost use Rattle.tydi_tool.specs.Projects.{ReadsProject, ReadsTokens, refusal_of_parsing};
-ghost use Rattle.tydi_tool.specs.Reading.{IsRefusedBy, ReadsAs};
-ghost use Rattle.tydi_tool.specs.Refusals.{refusal_of_lexing};
+ghost use Rattle.std.specs.Prelude.{◌≡◌, ◌<◌, ◌-◌, ◌^◌, length};
+ghost use Rattle.til_resolve.specs.PlainProject.{plain_project};
+ghost use Rattle.tydi_tool.specs.Projects.{ReadsProject, Resolves};
+ghost use Rattle.tydi_tool.specs.Reading.{IsRefusedBy, ReadsAs, Seen};
+ghost use Rattle.tydi_tool.specs.Refusals.{refusal_of_resolving, type_fault_name};
 
 use crate::answer::Reply;
 use crate::gather::TextReader;
 use crate::refusal::{Detail, refused};
+use crate::trees::read_tree;
+use logical_types::TypeFault;
 use std::alloc::Global;
-use std::str;
-use til_lexer::{LexFault, Token, lex};
-use til_parser::{Ast, ParseFault, parse};
+use til_parser::Ast;
+use til_resolve::{Project, ResolveFault, resolve};
 use tydi_base::Text;
 
 /// Reads the text of the project of this word.
@@ -22,84 +22,59 @@ pub(crate) struct ProjectText<'a> {
     pub(crate) word: &'a Text,
 }
 
-impl<'a> TextReader<Ast> for ProjectText<'a> {
-    ghost reads = { λ project bytes read. ReadsProject project.word.now bytes read };
+impl<'a> TextReader<Project> for ProjectText<'a> {
+    ghost reads = { λ project bytes. Seen plain_project (ReadsProject project.word.now bytes) };
 
-    fn read(&self, alloc: Global, bytes: &[u8]) -> Result<Ast, Reply> {
-        read_project(alloc, self.word, bytes)
+    fn read(&self, alloc: Global, bytes: &[u8]) -> Result<Project, Reply> {
+        let ast = read_tree(alloc, self.word, bytes)?;
+        project_of(alloc, self.word, &ast)
     }
 }
 
-/// The tree of the bytes of a project.
-fn read_project(alloc: Global, word: &Text, bytes: &[u8]) -> Result<Ast, Reply>
-    requires { length bytes.now < 2 ^ 32 - 1 }
-    ensures { ReadsAs (ReadsProject word.now bytes.now) result }
+/// The project of a tree.
+fn project_of(alloc: Global, word: &Text, ast: &Ast) -> Result<Project, Reply>
+    ensures { ReadsAs (Seen plain_project (Resolves word.now ast.now)) result }
 {
-    match str::from_utf8(bytes) {
-        Ok(text) => read_text(alloc, word, text),
-        Err(error) => {
-            let front = Detail::Number(error.valid_up_to() as u64);
-            Err(refused(alloc, "NotUtf8", &[Detail::Word(word), front]))
-        }
+    match resolve(alloc, ast) {
+        Ok(project) => Ok(project),
+        Err(fault) => Err(unresolved(alloc, word, fault)),
     }
 }
 
-/// The tree of the text of a project.
-fn read_text(alloc: Global, word: &Text, text: &str) -> Result<Ast, Reply>
-    requires { length text.now < 2 ^ 32 - 1 }
-    ensures { ReadsAs (ReadsTokens word.now text.now (tokens_of text.now)) result }
-{
-    match lex(alloc, text) {
-        Ok(tokens) => read_tokens(alloc, word, text, tokens.as_slice()),
-        Err(fault) => Err(misspelled(alloc, word, fault)),
-    }
-}
-
-/// The reply to a text with this fault of its tokens.
-fn misspelled(alloc: Global, word: &Text, fault: LexFault) -> Reply
-    ensures { IsRefusedBy (refusal_of_lexing word.now fault) result }
-{
-    let (name, place) = match fault {
-        LexFault::StrayChar(place) => ("StrayChar", place),
-        LexFault::OpenString(place) => ("OpenString", place),
-        LexFault::OpenDoc(place) => ("OpenDoc", place),
-        LexFault::NameNotAscii(place) => ("NameNotAscii", place),
-        LexFault::BadName(place) => ("BadName", place),
-        LexFault::NumberTooLong(place) => ("NumberTooLong", place),
-        LexFault::Memory => return Reply::Memory,
-    };
-    refused(alloc, name, &[Detail::Word(word), Detail::At(place)])
-}
-
-/// The tree of the tokens of a text.
-fn read_tokens(alloc: Global, word: &Text, text: &str, tokens: &[Token]) -> Result<Ast, Reply>
-    requires { tokens_of text.now ≡ Ok tokens.now }
-    ensures { ReadsAs (ReadsTokens word.now text.now (Ok tokens.now)) result }
-{
-    match parse(alloc, text, tokens) {
-        Ok(ast) => Ok(ast),
-        Err(fault) => Err(unparsed(alloc, word, tokens, fault)),
-    }
-}
-
-/// The reply to tokens that spell no tree, with this fault.
-fn unparsed(alloc: Global, word: &Text, tokens: &[Token], fault: ParseFault) -> Reply
-    requires { NamesToken (length tokens.now) fault }
-    ensures { IsRefusedBy (refusal_of_parsing word.now tokens.now fault) result }
+/// The reply to a project whose tree has this fault.
+fn unresolved(alloc: Global, word: &Text, fault: ResolveFault) -> Reply
+    ensures { IsRefusedBy (refusal_of_resolving word.now fault) result }
 {
     let file = Detail::Word(word);
+    let (name, place) = match fault {
+        ResolveFault::DeclaredTwice(place) => ("DeclaredTwice", place),
+        ResolveFault::UnknownName(place) => ("UnknownName", place),
+        ResolveFault::WrongKind(place) => ("WrongKind", place),
+        ResolveFault::CyclicType(place) => ("CyclicType", place),
+        ResolveFault::TypeTooLarge(place) => ("TypeTooLarge", place),
+        ResolveFault::BadType(place, fault) => {
+            let details = [file, Detail::At(place), Detail::Name(type_fault(fault))];
+            return refused(alloc, "BadType", &details);
+        }
+        ResolveFault::PortNotStream(place) => ("PortNotStream", place),
+        ResolveFault::CyclicInstance(place) => ("CyclicInstance", place),
+        ResolveFault::Memory => return Reply::Memory,
+    };
+    refused(alloc, name, &[file, Detail::At(place)])
+}
+
+/// The name of a fault of a type.
+fn type_fault(fault: TypeFault) -> &'static str
+    ensures { result.now ≡ type_fault_name fault }
+{
     match fault {
-        ParseFault::Unexpected(index) => {
-            refused(
-                alloc,
-                "Unexpected",
-                &[file, Detail::At(tokens[index].place)],
-            )
-        }
-        ParseFault::EndOfText => refused(alloc, "EndOfText", &[file]),
-        ParseFault::TooDeep(index) => {
-            refused(alloc, "TooDeep", &[file, Detail::At(tokens[index].place)])
-        }
-        ParseFault::Memory => Reply::Memory,
+        TypeFault::ZeroBits => "ZeroBits",
+        TypeFault::ElementTooWide => "ElementTooWide",
+        TypeFault::BadThroughput => "BadThroughput",
+        TypeFault::TooManyLanes => "TooManyLanes",
+        TypeFault::TooManyDims => "TooManyDims",
+        TypeFault::UserHasStream => "UserHasStream",
+        TypeFault::NameTwice => "NameTwice",
+        TypeFault::EmptyUnion => "EmptyUnion",
     }
 }

@@ -1,11 +1,12 @@
 -- The physical streams of a port's type, and its roots (Tydi specification, physical streams; that two streams of one path clash is
 -- this project's own).
-use Rattle.std.specs.Prelude.{◌≡◌, ℕ, suc, Bool, ◌==◌, if◌then◌else◌, List, [], ◌∷◌, ◌++◌, map, Option, Some, None}
+use Rattle.std.specs.Prelude.{◌≡◌, ◌≤◌, ℕ, suc, Bool, ◌==◌, if◌then◌else◌, List, [], ◌∷◌, ◌++◌, map, Option, Some, None}
 use Rattle.std.specs.Cmp.Lexicographic.{pointwise}
 use Rattle.std.specs.List.{list_any}
 use Rattle.std.specs.Str.{bytes_eq}
+use Rattle.logical_types.specs.Faults.{IsValid}
 use Rattle.logical_types.specs.Tree.{Ltype, plain}
-use Rattle.type_split.specs.Nodes.{StreamNode, nodes_of}
+use Rattle.type_split.specs.Nodes.{StreamNode, nodes_of, number_of_streams}
 use Rattle.type_split.specs.declared.split.Node.{Node}
 use Rattle.type_split.specs.declared.split.Phys.{Phys}
 use Rattle.type_split.specs.declared.split.Split.{Split}
@@ -76,8 +77,23 @@ node_view node = record {
   element = plain node.element.now;
 }
 
--- a split is that of a type
-pub record IsSplitOf (ltype : Ltype) (split : Split) : Type 0 where
-  pub nodes_are : map node_view split.nodes ≡ nodes_of ltype
-  pub streams_are : split.streams ≡ streams_of ltype
-  pub roots_are : split.roots ≡ roots_of ltype
+-- a split as plain data
+pub record PlainSplit : Type 0 where
+  pub nodes : List StreamNode
+  pub streams : List Phys
+  pub roots : List ℕ
+
+abbrev pub plain_split : Split → PlainSplit
+plain_split split = record { nodes = map node_view split.nodes; streams = split.streams; roots = split.roots }
+
+-- the split of a port's type
+abbrev pub split_of : Ltype → PlainSplit
+split_of ltype = record { nodes = nodes_of ltype; streams = streams_of ltype; roots = roots_of ltype }
+
+-- a split as `split_type` gives it: that of a valid type of at most 65,536 Streams, of which no two physical streams clash
+pub record IsPortSplit (split : PlainSplit) : Type 0 where
+  pub ltype : Ltype
+  pub valid : IsValid ltype
+  pub few : number_of_streams ltype ≤ 65536
+  pub apart : clash_of ltype ≡ None
+  pub is : split ≡ split_of ltype

@@ -4,7 +4,7 @@ ghost use Rattle.std.specs.Prelude.{◌≡◌, ◌∷◌, [], ◌++◌, IfOk, On
 ghost use Rattle.logical_types.specs.Tree.{Ltype, Settings, plain, plain_parts, plain_of_stream, settings_of, stream};
 ghost use Rattle.type_split.specs.Carried as spec;
 ghost use Rattle.type_split.specs.Nodes.{is_physical};
-ghost use Rattle.type_split.specs.Streams.{IsSplitOf};
+ghost use Rattle.type_split.specs.Streams.{plain_split, split_of};
 
 use crate::split::Split;
 use logical_types::{LType, Part, StreamType, Sync, saturated_width};
@@ -14,7 +14,7 @@ use tydi_base::{List, Memory, Name, Path, TryClone};
 /// The path of the first node that is not carried: it has no physical stream, and no Sync Stream in its elements is carried. None
 /// exactly where all nodes are carried.
 pub fn uncarried(alloc: Global, split: &Split<'_>) -> Result<Option<Path>, Memory>
-    ensures { (element user : Ltype) (settings : Settings) → IsSplitOf (stream element user settings) split.now
+    ensures { (element user : Ltype) (settings : Settings) → plain_split split.now ≡ split_of (stream element user settings)
         → IfOk result (λ found. found ≡ spec.uncarried_of (stream element user settings)) }
 {
     let [outermost, ..] = split.nodes.as_slice() else {

@@ -4,7 +4,7 @@ ghost use Rattle.std.specs.Prelude.{◌≡◌, ◌≤◌, IfOk, IfErr, None};
 ghost use Rattle.logical_types.specs.Faults.{IsValid, outermost};
 ghost use Rattle.logical_types.specs.Tree.{plain_of_stream};
 ghost use Rattle.type_split.specs.Nodes.{number_of_streams, outermost_place};
-ghost use Rattle.type_split.specs.Streams.{Blames, IsSplitOf, clash_of};
+ghost use Rattle.type_split.specs.Streams.{Blames, clash_of, plain_split, split_of};
 
 use crate::fault::SplitFault;
 use crate::place::Place;
@@ -20,7 +20,7 @@ use tydi_base::TryClone;
 pub fn split_type(alloc: Global, ltype: &StreamType) -> Result<Split<'_>, SplitFault>
     requires valid { IsValid (plain_of_stream ltype.now) }
     requires few { number_of_streams (plain_of_stream ltype.now) ≤ 65536 }
-    ensures split { IfOk result (IsSplitOf (plain_of_stream ltype.now)) }
+    ensures split { IfOk result (λ split. plain_split split ≡ split_of (plain_of_stream ltype.now)) }
     ensures apart { IfOk result (λ _. clash_of (plain_of_stream ltype.now) ≡ None) }
     ensures clash { IfErr result (Blames (clash_of (plain_of_stream ltype.now))) }
 {

@@ -1,10 +1,8 @@
--- Reading a text is never at fault for want of memory.
-use Rattle.std.proofs.Common.{◌≡◌, ℕ, zero, suc, ◌-◌, Bool, true, false, cond, List, [], ◌∷◌, drop, slice_index, Option, Some, None, refl, ap, Result, Ok, Err}
-use Rattle.std.specs.Str.{chars}
+-- A trace text is never at fault for want of memory. Of `cycle_trace` alone, where it belongs.
+use Rattle.std.proofs.Common.{◌≡◌, ℕ, suc, Bool, true, false, cond, List, [], ◌∷◌, refl, ap, Result, Ok, Err}
 use Rattle.tydi_base.specs.Reading.{◌>>=◌}
 use Rattle.tydi_base.specs.Pieces.{lines_of}
 use Rattle.tydi_base.specs.Path.{path_text}
-use Rattle.tydi_base.specs.declared.place.Place.{Place}
 use Rattle.physical_stream.specs.Params.{Parameters}
 use Rattle.physical_stream.specs.Cycles.{Cycle}
 use Rattle.cycle_trace.specs.declared.fault.TraceFault.{TraceFault}
@@ -13,18 +11,6 @@ use Rattle.cycle_trace.specs.HeaderText.{in_header, head_after, is_head_line, he
 use Rattle.cycle_trace.specs.RowText.{row_of, row_at}
 use Rattle.cycle_trace.specs.Trace.{TraceText}
 use Rattle.cycle_trace.specs.TraceText.{rows_from, rows_after, trace_from, trace_of}
-use Rattle.til_lexer.specs.Pieces.{word_token, number_token, number_at, closed_token, symbol_token, symbol_at, mark_at, piece_at}
-use Rattle.til_lexer.specs.Places.{start, place_after}
-use Rattle.til_lexer.specs.Spans.{is_space, begins_comment, until_mark}
-use Rattle.til_lexer.specs.Tokens.{length_of, tokens_in, with_front, tokens_from, tokens_of}
-use Rattle.til_lexer.specs.Words.{starts_word, word_of}
-use Rattle.til_lexer.specs.declared.fault.LexFault.{LexFault}
-use Rattle.til_lexer.specs.declared.fault.LexFault.TheVariants as lexing
-use Rattle.til_lexer.specs.declared.token.Token.{Token}
-use Rattle.til_lexer.specs.declared.token.TokenKind.{TokenKind}
-use Rattle.til_lexer.specs.declared.token.TokenKind.TheVariants as kinds
-
--- ---- traces
 
 bind_free : {A B : Type 0} (r : Result A TraceFault) (f : A → Result B TraceFault) → (r ≡ Err faults.Memory → ⊥) → ((x : A) → f x ≡ Err faults.Memory → ⊥) → (r >>= f) ≡ Err faults.Memory → ⊥
 bind_free (Ok x) f free rest e = rest x e
@@ -111,70 +97,3 @@ trace_from_free header e = if_free _ _ (Err faults.TooManyCycles) (bind_free (ro
 pub trace_free : (text : List ℕ) → trace_of text ≡ Err faults.Memory → ⊥
 unfolding trace_of
 trace_free text e = bind_free (header_start_of (lines_of text)) trace_from (header_start_free (lines_of text)) trace_from_free e
-
--- ---- tokens
-
-lex_bind_free : {A B : Type 0} (r : Result A LexFault) (f : A → Result B LexFault) → (r ≡ Err lexing.Memory → ⊥) → ((x : A) → f x ≡ Err lexing.Memory → ⊥) → (r >>= f) ≡ Err lexing.Memory → ⊥
-lex_bind_free (Ok x) f free rest e = rest x e
-lex_bind_free {A} (Err fault) f free rest e = let same : fault ≡ lexing.Memory = cc in free (ap Err same)
-
-lex_if_free : {A : Type 0} (b : Bool) (x y : Result A LexFault) → (x ≡ Err lexing.Memory → ⊥) → (y ≡ Err lexing.Memory → ⊥) → cond b x y ≡ Err lexing.Memory → ⊥
-lex_if_free true x y p q e = p e
-lex_if_free false x y p q e = q e
-
-lex_ok_free : {A : Type 0} (x : A) → ◌≡◌ {A = Result A LexFault} (Ok x) (Err lexing.Memory) → ⊥
-lex_ok_free x e = cc
-
--- a fault that is not want of memory
-abbrev IsLexFault : LexFault → Type 0
-IsLexFault fault = fault ≡ lexing.Memory → ⊥
-
-lex_err_free : (A : Type 0) (fault : LexFault) → IsLexFault fault → ◌≡◌ {A = Result A LexFault} (Err fault) (Err lexing.Memory) → ⊥
-lex_err_free A fault free e = free cc
-
-word_token_free : (place : Place) (word : List ℕ) → word_token place word ≡ Err lexing.Memory → ⊥
-unfolding word_token
-word_token_free place word e = lex_if_free _ _ (Err (lexing.NameNotAscii place))
-    (lex_if_free _ (Ok _) (Err (lexing.BadName place)) (lex_ok_free _) (lex_err_free _ (lexing.BadName place) (λ h. cc))) (lex_err_free _ (lexing.NameNotAscii place) (λ h. cc)) e
-
-number_token_free : (place : Place) (whole fraction : ℕ) → number_token place whole fraction ≡ Err lexing.Memory → ⊥
-unfolding number_token
-number_token_free place whole fraction e = lex_if_free _ (Err (lexing.NumberTooLong place)) (Ok _) (lex_err_free _ (lexing.NumberTooLong place) (λ h. cc)) (lex_ok_free _) e
-
-closed_token_free : (kind : TokenKind) (fault : LexFault) (inside : Option ℕ) → IsLexFault fault → closed_token kind fault inside ≡ Err lexing.Memory → ⊥
-unfolding closed_token
-closed_token_free kind fault (Some inside) free e = lex_ok_free _ e
-closed_token_free kind fault None free e = lex_err_free _ fault free e
-
-symbol_token_free : (place : Place) (double single : Option TokenKind) → symbol_token place double single ≡ Err lexing.Memory → ⊥
-unfolding symbol_token
-symbol_token_free place (Some kind) single e = lex_ok_free _ e
-symbol_token_free place None (Some kind) e = lex_ok_free _ e
-symbol_token_free place None None e = lex_err_free _ (lexing.StrayChar place) (λ h. cc) e
-
-mark_free : (place : Place) (bytes : List ℕ) → mark_at place bytes ≡ Err lexing.Memory → ⊥
-unfolding mark_at
-mark_free place bytes e = lex_if_free _ (number_at place bytes) _ (number_token_free place _ _)
-    (lex_if_free _ (closed_token kinds.Quoted (lexing.OpenString place) (until_mark 34 (drop 1 bytes))) _ (closed_token_free kinds.Quoted (lexing.OpenString place) _ (λ h. cc))
-    (lex_if_free _ (closed_token kinds.Doc (lexing.OpenDoc place) (until_mark 35 (drop 1 bytes))) (symbol_at place bytes) (closed_token_free kinds.Doc (lexing.OpenDoc place) _ (λ h. cc)) (symbol_token_free place _ _))) e
-
-piece_free : (place : Place) (bytes : List ℕ) → piece_at place bytes ≡ Err lexing.Memory → ⊥
-unfolding piece_at
-piece_free place bytes e = lex_if_free (is_space (slice_index bytes 0)) (Ok _) _ (lex_ok_free _)
-    (lex_if_free (begins_comment bytes) (Ok _) _ (lex_ok_free _)
-    (lex_if_free (starts_word (slice_index (chars bytes) 0)) (word_token place (word_of (chars bytes))) (mark_at place bytes) (word_token_free place _) (mark_free place bytes))) e
-
-with_front_free : (front : List Token) (read : Result (List Token) LexFault) → (read ≡ Err lexing.Memory → ⊥) → with_front front read ≡ Err lexing.Memory → ⊥
-unfolding with_front
-with_front_free front read free e = lex_bind_free read _ free (λ tokens. lex_ok_free _) e
-
-tokens_from_free : (taken : ℕ) (place : Place) (bytes : List ℕ) → tokens_from taken place bytes ≡ Err lexing.Memory → ⊥
-tokens_from_free taken place [] e = lex_ok_free _ e
-tokens_from_free (suc taken) place (byte ∷ bytes) e = tokens_from_free taken (place_after place byte) bytes e
-tokens_from_free zero place (byte ∷ bytes) e =
-    lex_bind_free (piece_at place (byte ∷ bytes)) _ (piece_free place (byte ∷ bytes))
-    (λ piece. with_front_free (tokens_in place piece) (tokens_from (length_of piece - 1) (place_after place byte) bytes) (tokens_from_free (length_of piece - 1) (place_after place byte) bytes)) e
-
--- the tokens of a text are never at fault for want of memory
-pub tokens_free : (text : List ℕ) → tokens_of text ≡ Err lexing.Memory → ⊥
-tokens_free text e = tokens_from_free 0 start text e

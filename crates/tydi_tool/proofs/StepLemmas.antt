@@ -1,0 +1,36 @@
+-- What holds of a command holds of one that comes to it by a step, and of one that begins with the split of a port.
+use Rattle.std.proofs.Common.{ℕ, List, ◌∷◌, sym, ◌∙◌, refl, Result, Ok, Err}
+use Rattle.type_split.specs.Streams.{PlainSplit}
+use Rattle.tydi_tool.specs.declared.answer.Answer.TheVariants as answers
+use Rattle.tydi_tool.specs.Ask.{Ask, AsksFor, goes_on}
+use Rattle.tydi_tool.specs.Commands.{port_ask}
+use Rattle.tydi_tool.specs.Laws.{AsksAlways, AsksOnce}
+use Rattle.tydi_tool.specs.Ports.{split_at}
+use Rattle.tydi_tool.specs.Refusals.{Refusal, refusal_line}
+use Rattle.tydi_tool.specs.Words.{FileWord, project_file}
+use Rattle.tydi_tool.proofs.ProjectLemmas.{ReadsProject-once, ReadsProject-some}
+
+-- ---- a command that goes on with what a step gives
+
+goes-once : {V : Type 0} (wanted : Result V Refusal) (next : V → Ask) → ((v : V) → AsksOnce (next v)) → AsksOnce (goes_on wanted next)
+goes-once (Ok v) next once = once v
+goes-once (Err refusal) next once = λ a b p q. p ∙ sym q
+
+goes-always : {V : Type 0} (wanted : Result V Refusal) (next : V → Ask) → ((v : V) → AsksAlways (next v)) → AsksAlways (goes_on wanted next)
+goes-always (Ok v) next always = always v
+goes-always (Err refusal) next always = λ none. none (answers.Refused (refusal_line refusal)) refl
+
+goes-for : {V : Type 0} (files : List FileWord) (wanted : Result V Refusal) (next : V → Ask) → ((v : V) → AsksFor files (next v)) → AsksFor files (goes_on wanted next)
+goes-for files (Ok v) next for = for v
+goes-for files (Err refusal) next for = tt
+
+-- ---- one that begins with the split of a port
+
+pub port-once : (project port : List ℕ) (next : PlainSplit → Ask) → ((split : PlainSplit) → AsksOnce (next split)) → AsksOnce (port_ask project port next)
+port-once project port next once = (ReadsProject-once project, λ bytes read reads. goes-once (split_at read port) next once)
+
+pub port-always : (project port : List ℕ) (next : PlainSplit → Ask) → ((split : PlainSplit) → AsksAlways (next split)) → AsksAlways (port_ask project port next)
+port-always project port next always = (ReadsProject-some project, λ bytes read reads. goes-always (split_at read port) next always)
+
+pub port-for : (project port : List ℕ) (files : List FileWord) (next : PlainSplit → Ask) → ((split : PlainSplit) → AsksFor files (next split)) → AsksFor (project_file project ∷ files) (port_ask project port next)
+port-for project port files next for = (refl, λ read. goes-for files (split_at read port) next for)
