@@ -31,4 +31,6 @@ mod trees;
 #[cfg(test)]
 mod types;
 #[cfg(test)]
+mod values;
+#[cfg(test)]
 mod words;

@@ -8,7 +8,7 @@ use tydi_base::{Boxed, Frac, Level, List, Memory, Name};
 // A step by which a type is built: one with parts takes the last types as its parts, one for each letter of their names; a Stream
 // takes the last two as its data type and its user type. The arguments of a Stream are its throughput, as two numbers, its
 // dimensions and its synchronicity.
-enum Step {
+pub(crate) enum Step {
     Null,
     Bits(u64),
     Group(&'static str),
@@ -214,7 +214,7 @@ fn stream_of(
     })
 }
 
-fn built(alloc: Global, steps: &[Step]) -> Result<LType, Fail> {
+pub(crate) fn built(alloc: Global, steps: &[Step]) -> Result<LType, Fail> {
     let mut made = Vec::new(alloc);
     for step in steps {
         let ltype = match step {
