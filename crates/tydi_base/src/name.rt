@@ -4,9 +4,9 @@ ghost use Rattle.std.specs.Prelude.{◌≡◌, IsTrue, IfOk, OnErr};
 ghost use Rattle.std.specs.List.{list_all};
 ghost use Rattle.tydi_base.specs.Name as spec;
 
-use crate::list::List;
 use crate::memory::Memory;
 use crate::try_clone::TryClone;
+use smallvec::SmallVec;
 use std::alloc::Global;
 use std::marker::Model;
 
@@ -14,10 +14,11 @@ use std::marker::Model;
 const UNDERSCORE: u8 = b'_';
 
 /// A name (Tydi specification, names): ASCII letters, digits and `_`, with a letter first, no two `_` together, no `_`
-/// last, and not one of the words `Null`, `Bits`, `Group`, `Union` and `Stream`. Contracts see its bytes.
+/// last, and not one of the words `Null`, `Bits`, `Group`, `Union` and `Stream`. Contracts see its bytes. One of up to 16 bytes takes
+/// no memory.
 #[derive(Debug, Drop)]
 pub struct Name {
-    bytes: List<u8>,
+    bytes: SmallVec<u8, 16>,
 }
 
 impl Model for Name {
@@ -26,9 +27,9 @@ impl Model for Name {
 
     ghost Value = { List ℕ };
 
-    ghost view = { λ name. name.bytes };
+    ghost view = { λ name. name.bytes.items };
 
-    ghost invariant = { λ name. IsTrue (is_name name.bytes) };
+    ghost invariant = { λ name. IsTrue (is_name name.bytes.items) };
 }
 
 impl Name {
@@ -40,7 +41,7 @@ impl Name {
         if !is_name(text) {
             return Ok(None);
         }
-        let bytes = List::from_slice(alloc, text)?;
+        let bytes = SmallVec::from_slice(alloc, text)?;
         Ok(Some(Name { bytes }))
     }
 
@@ -56,7 +57,7 @@ impl Name {
 impl TryClone for Name {
     fn try_clone(&self, alloc: Global) -> Result<Name, Memory> {
         Ok(Name {
-            bytes: List::from_slice(alloc, self.bytes.as_slice())?,
+            bytes: SmallVec::from_slice(alloc, self.bytes.as_slice())?,
         })
     }
 }
