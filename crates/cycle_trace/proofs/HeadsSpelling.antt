@@ -1,60 +1,56 @@
 -- The stream lines of a trace text: what is spelled is read, and what is read is spelled so.
-use Rattle.std.proofs.Common.{◌≡◌, ℕ, suc, ◌+◌, ◌<◌, ◌≤◌, Bool, true, false, not, ◌&&◌, ◌||◌, List, [], ◌∷◌, ◌++◌, length, map, Result, Ok, Err, append_assoc, All, refl, sym, ap, ◌∙◌, inl, inr, arith}
-use Rattle.std.specs.List.{list_all, list_any, flat_map, join_with_byte}
+use Rattle.std.proofs.Common.{◌≡◌, ℕ, suc, ◌+◌, ◌<◌, ◌≤◌, true, not, nat_lt, ◌&&◌, List, [], ◌∷◌, ◌++◌, length, map, Result, Ok, Err, append_assoc, All, refl, sym, ap, ◌∙◌, inl, inr, arith}
+use Rattle.std.specs.List.{list_any, flat_map, join_with_byte}
 use Rattle.std.specs.Str.{bytes_eq}
 use Rattle.std.proofs.lemmas.List.Elements.{All-nil, All-cons, All-head, All-tail}
-use Rattle.std.proofs.lemmas.Slice.Eq.{bytes_eq-Decides}
 use Rattle.tydi_base.specs.Path.{path_text}
 use Rattle.tydi_base.specs.Pieces.{lines_of}
 use Rattle.tydi_base.specs.Reading.{◌>>=◌}
 use Rattle.tydi_base.proofs.ReadingLaws.{bind_ok, chosen, ok_is}
+use Rattle.tydi_base.proofs.TestLemmas.{kept}
+use Rattle.std.proofs.lemmas.Bool.Decides.{nat_tests}
 use Rattle.physical_stream.specs.declared.head.Head.{Head}
+use Rattle.tydi_base.proofs.SetLemmas.{are_new, are_new-more}
 use Rattle.cycle_trace.specs.declared.fault.TraceFault.{TraceFault}
 use Rattle.cycle_trace.specs.declared.fault.TraceFault.TheVariants.{BadHeader}
 use Rattle.cycle_trace.specs.HeaderText.{is_head_line, in_header, head_after, heads_from}
-use Rattle.cycle_trace.specs.Spelling.{IsHead, head_words, head_text, words_text}
+use Rattle.physical_stream.specs.StreamLine.{IsHead, head_of, head_text, head_words, words_text}
+use Rattle.physical_stream.proofs.HeadSpelling.{head_of-some, head_of-spelled, head_words-plain}
 use Rattle.cycle_trace.specs.Trace.{all_distinct}
-use Rattle.cycle_trace.proofs.PlainWords.{and_parts, both, lines_of-plain}
-use Rattle.cycle_trace.proofs.HeadSpelling.{head_words-plain, head_after-spelled, head_after-some}
+use Rattle.tydi_base.proofs.PlainWords.{and_parts, both, lines_of-plain, some_line}
 use Rattle.cycle_trace.proofs.HeaderLemmas.{heads_from-head}
-use Rattle.cycle_trace.proofs.RowsLemmas.{some_line}
 
 -- the texts of the paths
 abbrev pub paths_of : List Head → List (List ℕ)
 paths_of heads = map (λ head. path_text head.path) heads
 
--- ---- texts that are not among others
+-- ---- a head after others
 
--- none of the texts is one of these
-abbrev pub are_new : List (List ℕ) → List (List ℕ) → Bool
-are_new known texts = list_all (λ text. not (list_any (bytes_eq text) known)) texts
+pub head_after-spelled : (paths : List (List ℕ)) (head : Head) → IsHead head → length paths < 65536 → not (list_any (bytes_eq (path_text head.path)) paths) ≡ true
+    → head_after paths (words_text (head_words head)) ≡ Ok head
+unfolding head_after
+head_after-spelled paths head h room new =
+    let few : nat_lt (length paths) 65536 ≡ true = grind (arith, nat_tests) in
+    rw (head_of-spelled head h, few, new) refl
 
-pub are_new-none : (texts : List (List ℕ)) → are_new [] texts ≡ true
-are_new-none [] = refl
-are_new-none (text ∷ texts) = are_new-none texts
+-- what was read of a stream line after others
+pub record HeadAfter (paths : List (List ℕ)) (line : List ℕ) (head : Head) : Type 0 where
+  pub spelled : line ≡ words_text (head_words head)
+  pub is_head : IsHead head
+  pub room : length paths < 65536
+  pub new : not (list_any (bytes_eq (path_text head.path)) paths) ≡ true
 
-same_test : (a b : List ℕ) (one other : Bool) → bytes_eq a b ≡ one → bytes_eq b a ≡ other → one ≡ other
-same_test a b true true e f = refl
-same_test a b false false e f = refl
-same_test a b true false e f = sym ((bytes_eq-Decides b a).1 (sym ((bytes_eq-Decides a b).0 e))) ∙ f
-same_test a b false true e f = sym e ∙ (bytes_eq-Decides a b).1 (sym ((bytes_eq-Decides b a).0 f))
-
-bytes_eq-swap : (a b : List ℕ) → bytes_eq a b ≡ bytes_eq b a
-bytes_eq-swap a b = same_test a b (bytes_eq a b) (bytes_eq b a) refl refl
-
-four_tests : (x u y v : Bool) → (not (x || u) && (not y && v)) ≡ (not (x || y) && (not u && v))
-four_tests true u y v = refl
-four_tests false true true v = refl
-four_tests false true false v = refl
-four_tests false false true v = refl
-four_tests false false false v = refl
-
--- one text more
-are_new-more : (known : List (List ℕ)) (path : List ℕ) (texts : List (List ℕ)) → are_new (path ∷ known) texts ≡ (not (list_any (bytes_eq path) texts) && are_new known texts)
-are_new-more known path [] = refl
-are_new-more known path (text ∷ texts) =
-    rw (bytes_eq-swap text path, are_new-more known path texts)
-    (four_tests (bytes_eq path text) (list_any (bytes_eq text) known) (list_any (bytes_eq path) texts) (are_new known texts))
+pub head_after-some : (paths : List (List ℕ)) (line : List ℕ) (head : Head) → head_after paths line ≡ Ok head → HeadAfter paths line head
+unfolding head_after
+head_after-some paths line head e =
+    let found = bind_ok (head_of line) _ head e in
+    let read = head_of-some line found.0 found.1 in
+    let other = not (list_any (bytes_eq (path_text found.0.path)) paths) in
+    let test = kept (nat_lt (length paths) 65536 && other) (Ok found.0) tt head found.2 in
+    let parts = and_parts (nat_lt (length paths) 65536) other test.0 in
+    let few = parts.0 in
+    let same = ok_is found.0 head test.1 in
+    rw (← same) (record { spelled = read.0; is_head = read.1; room = grind (arith, nat_tests); new = parts.1 })
 
 pub in_header-some : {A : Type 0} (number : ℕ) (read : Result A (Unit {0})) (x : A) → in_header number read ≡ Ok x → read ≡ Ok x
 in_header-some number (Ok y) x e = ap Ok (ok_is y x e)
@@ -146,9 +142,9 @@ heads_from-some number paths (line ∷ next ∷ lines) x few some e = elim (chos
           let later = heads_from-some (suc number) (path_text head.0.path ∷ paths) (next ∷ lines) rest.0 (omega arith) (omega arith) rest.1 in
           let same = ok_is {A = List Head × List (List ℕ)} {F = TraceFault} (head.0 ∷ rest.0.0, rest.0.1) x rest.2 in
           rw (← same) (record {
-            spelled = joined line (words_text (head_words head.0)) (join_with_byte 10 (next ∷ lines)) (flat_map head_text rest.0.0) (join_with_byte 10 rest.0.1) first.read.spelled later.spelled;
+            spelled = joined line (words_text (head_words head.0)) (join_with_byte 10 (next ∷ lines)) (flat_map head_text rest.0.0) (join_with_byte 10 rest.0.1) first.spelled later.spelled;
             some = later.some;
-            may = MayFollow-more paths head.0 rest.0.0 first.read.is_head first.new later.may;
+            may = MayFollow-more paths head.0 rest.0.0 first.is_head first.new later.may;
           }))
       | inr h ↦ no_heads paths (line ∷ next ∷ lines) x few some h.1
     ]

@@ -1,5 +1,5 @@
 -- A trace that is kept, row by row.
-use Rattle.std.proofs.Common.{◌≡◌, ◌∙◌, ℕ, take, get_or, ◌+◌, ◌*◌, ◌<◌, ◌≤◌, inl, inr, ◌⊎◌, List, [], ◌∷◌, ◌++◌, length, Option, Some, None, IfSome, Result, Ok, Err, OnOk, refl, sym, ap, subst, arith}
+use Rattle.std.proofs.Common.{◌≡◌, ◌∙◌, ℕ, take, get_or, ◌+◌, ◌*◌, ◌<◌, ◌≤◌, inl, inr, ◌⊎◌, List, [], ◌∷◌, ◌++◌, length, Option, Some, None, IfSome, refl, sym, ap, subst, arith}
 use Rattle.std.specs.List.{slice_get}
 use Rattle.std.specs.Option.{option_map}
 use Rattle.std.proofs.lemmas.Bool.{cases_lt}
@@ -9,18 +9,13 @@ use Rattle.physical_stream.specs.Params.{Parameters}
 use Rattle.physical_stream.specs.Signals.{Shows}
 use Rattle.physical_stream.specs.Cycles.{Cycle}
 use Rattle.physical_stream.specs.declared.transfer.Transfer.{Transfer}
-use Rattle.physical_stream.specs.declared.head.Head.{Head}
 use Rattle.physical_stream.specs.declared.head.Header.{Header}
 use Rattle.cycle_trace.specs.Trace.{TraceText, IsTrace, cycle_of, cycles_of, owed, params_of_heads, text_of}
 use Rattle.cycle_trace.specs.KeepView.{IsBegun}
 use Rattle.cycle_trace.specs.RowSink.{CanTake, with_row}
 use Rattle.cycle_trace.specs.declared.own_row.OwnRow.{OwnRow}
-use Rattle.cycle_trace.proofs.PartsLemmas.{slice_get-front, slice_get-next, slice_get-there}
-use Rattle.cycle_trace.proofs.RowsLemmas.{length-owed}
-
--- how many rows a header asks for
-pub length-owed_heads : (t : TraceText) → length (owed (params_of_heads t.heads) t.cycles) ≡ t.cycles * length t.heads
-length-owed_heads t = length-owed (params_of_heads t.heads) t.cycles ∙ ap (λ (n : ℕ). t.cycles * n) (length-map t.heads (λ (head : Head). head.params))
+use Rattle.tydi_base.proofs.PlaceLemmas.{slice_get-front, slice_get-next, slice_get-there}
+use Rattle.cycle_trace.proofs.RowsLemmas.{length-owed_heads}
 
 pub IsBegun-more : (t : TraceText) (row : Cycle) → IsBegun t → CanTake t row → IsBegun (with_row t row)
 IsBegun-more t row h can = record {
@@ -60,10 +55,6 @@ text-many header rows t same whole = sym (length-map rows cycle_of) ∙ IsTrace-
 
 pub text-whole : (header : Header) (rows : List OwnRow) (t : TraceText) → text_of header rows ≡ t → IsBegun t → length rows ≡ header.cycles * length header.heads → IsTrace (text_of header rows)
 text-whole header rows t same begun all = IsTrace-whole (text_of header rows) (subst IsBegun (sym same) begun) (length-map rows cycle_of ∙ all)
-
-pub on_ok : {A E : Type 0} (r : Result A E) (P Q : Type 0) → (P → Q) → OnOk r P → OnOk r Q
-on_ok (Ok x) P Q f h = f h
-on_ok (Err e) P Q f h = tt
 
 -- ---- a trace, row by row
 

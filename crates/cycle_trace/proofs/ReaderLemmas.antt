@@ -1,5 +1,5 @@
 -- A reader of traces, line by line and piece by piece.
-use Rattle.std.proofs.Common.{◌≡◌, ◌≢◌, ◌∙◌, ◌⊎◌, inl, inr, ℕ, Bool, true, List, [], ◌∷◌, ◌++◌, Option, Some, None, Result, Ok, Err, IfErr, OnOk, is_ok, IsSome, append_assoc, refl, sym, ap, subst, arith}
+use Rattle.std.proofs.Common.{◌≡◌, ◌≢◌, ◌∙◌, ◌⊎◌, inl, inr, ℕ, Bool, true, List, [], ◌∷◌, ◌++◌, Option, Some, None, Result, Ok, Err, IfErr, IsSome, append_assoc, refl, sym, ap, subst, arith}
 use Rattle.std.proofs.lemmas.List.{append-nil}
 use Rattle.std.proofs.lemmas.List.Elements.{All-append, All-head, All-nil}
 use Rattle.std.specs.List.{All}
@@ -17,7 +17,8 @@ use Rattle.cycle_trace.specs.declared.row_form.RowForm.{RowForm}
 use Rattle.cycle_trace.specs.declared.text_read.Stage.{Stage}
 use Rattle.cycle_trace.specs.declared.text_read.Stage.TheVariants as stages
 use Rattle.cycle_trace.specs.declared.text_read.TextRead.{TextRead}
-use Rattle.cycle_trace.proofs.BeginningLemmas.{Fails-more, Opens-more, OpensWith-more, GoesOn-more, past-Cycles, past-Heads, past-Title}
+use Rattle.cycle_trace.proofs.BeginningLemmas.{Fails-more, Opens-more, OpensWith-more, GoesOn-more, none_held, past-Heads}
+use Rattle.cycle_trace.proofs.HeaderLemmas.{header_start_after-one, header_start_of-one}
 
 -- no line is begun
 pub plain-none : Lacks 10 []
@@ -95,10 +96,6 @@ not_long begun h = by_long begun.long h.so_far
 
 -- ---- memory
 
-pub on_ok_is : {A E : Type 0} (r : Result A E) (P : Type 0) → is_ok r ≡ true → OnOk r P → P
-on_ok_is (Ok x) P is h = h
-on_ok_is (Err e) P is h = absurd cc
-
 -- a fault of the text is no want of memory
 pub not_memory : {A : Type 0} (result : Result A TraceFault) → IfErr result (λ e. IsSome (fault_in e)) → result ≡ Err Memory → ⊥
 not_memory (Ok x) calm is = absurd cc
@@ -119,8 +116,8 @@ spent_or_past Memory = inl refl
 -- where the bytes hold a header and a line after it, the header is read
 pub past_header : {K : Type 0} (stands : K → Option TraceText → Type 0) (sink : K) (text : TextRead) (stage : Stage) (line bytes : List ℕ) → StandsAt stands sink text stage line bytes → HoldsHeader bytes
     → (stage ≡ stages.Failed Memory) ⊎ (is_past_header stage ≡ true)
-past_header stands sink text stages.Title line bytes h held = absurd (past-Title bytes line h.1 h.3 held)
-past_header stands sink text stages.Cycles line bytes h held = absurd (past-Cycles bytes line h.1 h.3 held)
+past_header stands sink text stages.Title line bytes h held = absurd (none_held bytes line h.1 header_start_of h.3 (BadHeader 1) (header_start_of-one line) held)
+past_header stands sink text stages.Cycles line bytes h held = absurd (none_held bytes line h.1 header_start_after h.3 (BadHeader 2) (header_start_after-one line) held)
 past_header stands sink text stages.Heads line bytes h held = absurd (past-Heads bytes line h.1 text.cycles text.heads text.paths h.2 held)
 past_header stands sink text stages.Rows line bytes h held = inr refl
 past_header stands sink text (stages.Failed fault) line bytes h held = spent_or_past fault

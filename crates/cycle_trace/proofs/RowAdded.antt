@@ -1,128 +1,24 @@
 -- One row more in a trace: its stream has one cycle more, and the others are as they were.
-use Rattle.std.proofs.Common.{◌≡◌, ◌∙◌, ℕ, zero, suc, ◌+◌, ◌-◌, ◌*◌, ◌<◌, ◌≤◌, inl, inr, ◌⊎◌, List, [], ◌∷◌, ◌++◌, length, take, Option, None, Some, refl, sym, ap, subst, arith}
+use Rattle.std.proofs.Common.{refl, ◌≡◌, ◌∙◌, ℕ, zero, suc, ◌+◌, ◌-◌, ◌*◌, ◌<◌, ◌≤◌, inl, inr, ◌⊎◌, List, [], ◌∷◌, ◌++◌, length, Option, None, Some, sym, ap, subst, arith}
 use Rattle.std.specs.List.{slice_get}
-use Rattle.std.specs.Option.{option_to_list}
+use Rattle.std.specs.Option.{option_map, option_to_list}
 use Rattle.std.proofs.Math.Nat.{mul-le-mul_right, suc-mul}
 use Rattle.std.proofs.lemmas.Bool.{cases_lt}
 use Rattle.std.proofs.lemmas.Nat.{mul-add-lt}
-use Rattle.std.proofs.lemmas.List.{length-append, take-append-le, take_all}
+use Rattle.std.proofs.lemmas.List.{length-append}
 use Rattle.std.proofs.lemmas.Option.{slice_get_within, slice_get_past}
-use Rattle.physical_stream.specs.Params.{Parameters}
 use Rattle.physical_stream.specs.Cycles.{Cycle, StreamTrace}
 use Rattle.physical_stream.specs.Items.{parts_below}
-use Rattle.physical_stream.specs.Breaks.{Breaks, BreaksAfter}
-use Rattle.physical_stream.specs.First.{Offence, IsFirst, IsNotAfter}
-use Rattle.physical_stream.specs.Rules.{number_of_rule}
+use Rattle.physical_stream.specs.Breaks.{BreaksAfter}
+use Rattle.physical_stream.specs.First.{Offence}
 use Rattle.physical_stream.specs.declared.head.Head.{Head}
-use Rattle.physical_stream.specs.declared.rule.Rule.{Rule}
-use Rattle.cycle_trace.specs.Trace.{TraceText, cycles_of_stream, row_in}
+use Rattle.physical_stream.proofs.AddedLemmas.{AddsOffences, HasMore, adds-one}
+use Rattle.cycle_trace.specs.Trace.{TraceText, cycles_of_stream, row_in, streams_of}
 use Rattle.cycle_trace.specs.RowSink.{with_row}
 use Rattle.cycle_trace.specs.Surveying.{offends_in}
-use Rattle.cycle_trace.proofs.PartsLemmas.{slice_get-front, slice_get-next, slice_get-there, same_or_other, parts_below-same, parts_below-tail, length-parts_below}
-use Rattle.cycle_trace.proofs.StreamLemmas.{stream_with, stream_at, head_at}
-
--- ---- lists with one element more
-
-slice_get-other : {A : Type 0} (xs : List A) (x : A) (i : ℕ) → (i ≡ length xs → ⊥) → slice_get (xs ++ x ∷ []) i ≡ slice_get xs i
-slice_get-other [] x zero other = absurd (other refl)
-slice_get-other [] x (suc i) other = refl
-slice_get-other (y ∷ xs) x zero other = refl
-slice_get-other (y ∷ xs) x (suc i) other = slice_get-other xs x i (λ same. other (omega arith))
-
-take-front : {A : Type 0} (xs : List A) (x : A) (n : ℕ) → n ≤ length xs → take n (xs ++ x ∷ []) ≡ take n xs
-take-front xs x n within = take-append-le n xs (x ∷ []) within
-
--- the next row of a stream breaks this rule
-abbrev pub BreaksNext : TraceText → (stream : ℕ) → Parameters → Cycle → Rule → Type 0
-BreaksNext t stream p row rule = BreaksAfter rule p (cycles_of_stream t stream) row
-
--- ---- the first offence where there are more of them
-
--- what offends now is what offended before, and each rule that is broken at this place, after which none of them stands
-pub record AddsOffences (Old New : Offence → Type 0) (cycle at : ℕ) (Broken : Rule → Type 0) : Type 0 where
-  pub stays : (o : Offence) → Old o → New o
-  pub earlier : (o : Offence) → Old o → (o.cycle < cycle) ⊎ ((o.cycle ≡ cycle) × (o.stream < at))
-  pub cases : (o : Offence) → New o → Old o ⊎ ((o.cycle ≡ cycle) × ((o.stream ≡ at) × Broken o.rule))
-  pub here : (rule : Rule) → Broken rule → New (record { cycle = cycle; stream = at; rule = rule })
-
-module _ (Old New : Offence → Type 0) (cycle at : ℕ) (Broken : Rule → Type 0) (h : AddsOffences Old New cycle at Broken) where
-  -- the first offence stays the first
-  pub IsFirst-stays : (first : Offence) → IsFirst Old (Some first) → IsFirst New (Some first)
-  IsFirst-stays first is = (h.stays first is.0, λ o b. by_cases o (h.cases o b) (h.earlier first is.0))
-    where
-      by_cases : (o : Offence) → Old o ⊎ ((o.cycle ≡ cycle) × ((o.stream ≡ at) × Broken o.rule)) → (first.cycle < cycle) ⊎ ((first.cycle ≡ cycle) × (first.stream < at)) → IsNotAfter first o
-      by_cases o (inl before) place = is.1 o before
-      by_cases o (inr now) (inl less) = inl (omega (arith, now.0))
-      by_cases o (inr now) (inr same) = inr (same.0 ∙ sym now.0, inl (omega (arith, same.1, now.1.0)))
-
-  module _ (none : IsFirst Old None) where
-    -- no offence, and none at this place
-    pub IsFirst-none : ((rule : Rule) → Broken rule → ⊥) → IsFirst New None
-    IsFirst-none unbroken o b = by_cases (h.cases o b)
-      where
-        by_cases : Old o ⊎ ((o.cycle ≡ cycle) × ((o.stream ≡ at) × Broken o.rule)) → ⊥
-        by_cases (inl before) = none o before
-        by_cases (inr now) = unbroken o.rule now.1.1
-
-    -- the lowest rule that is broken at this place is the first offence
-    pub IsFirst-here : (lowest : Rule) → Broken lowest → ((rule : Rule) → Broken rule → number_of_rule lowest ≤ number_of_rule rule) → IsFirst New (Some (record { cycle = cycle; stream = at; rule = lowest }))
-    IsFirst-here lowest broken least = (h.here lowest broken, λ o b. by_cases o (h.cases o b))
-      where
-        by_cases : (o : Offence) → Old o ⊎ ((o.cycle ≡ cycle) × ((o.stream ≡ at) × Broken o.rule)) → IsNotAfter (record { cycle = cycle; stream = at; rule = lowest }) o
-        by_cases o (inl before) = absurd (none o before)
-        by_cases o (inr now) = inr (sym now.0, inr (sym now.1.0, least o.rule now.1.1))
-
--- ---- the cycles of one stream
-
--- a cycle of a list with one more breaks a rule in the list as it was, or it is the last one
-Breaks-cases : (rule : Rule) (p : Parameters) (cycles : List Cycle) (row : Cycle) (c : ℕ) → Breaks rule p (cycles ++ row ∷ []) c → Breaks rule p cycles c ⊎ ((c ≡ length cycles) × BreaksAfter rule p cycles row)
-Breaks-cases rule p cycles row c b = by_cases (cases_lt c (length cycles))
-  where
-    by_cases : (c < length cycles) ⊎ (length cycles ≤ c) → Breaks rule p cycles c ⊎ ((c ≡ length cycles) × BreaksAfter rule p cycles row)
-    by_cases (inl less) = inl (record {
-      now = b.now;
-      stands = sym (slice_get-front cycles (row ∷ []) c less) ∙ b.stands;
-      broken = subst (λ (before : List Cycle). BreaksAfter rule p before b.now) (take-front cycles row c (omega arith)) b.broken;
-    })
-    by_cases (inr more) =
-        let last : c ≡ length cycles = omega (arith, slice_get_within (cycles ++ row ∷ []) c b.now b.stands, length-append cycles (row ∷ [])) in
-        let now : b.now ≡ row = let e = sym b.stands ∙ slice_get-next cycles row c last in cc in
-        let before : take c (cycles ++ row ∷ []) ≡ cycles = take-front cycles row c (omega arith) ∙ take_all c cycles (omega arith) in
-        inr (last, subst (λ (x : Cycle). BreaksAfter rule p cycles x) now (subst (λ (xs : List Cycle). BreaksAfter rule p xs b.now) before b.broken))
-
-Breaks-front : (rule : Rule) (p : Parameters) (cycles : List Cycle) (row : Cycle) (c : ℕ) → Breaks rule p cycles c → Breaks rule p (cycles ++ row ∷ []) c
-Breaks-front rule p cycles row c b =
-    let less = slice_get_within cycles c b.now b.stands in
-    record {
-      now = b.now;
-      stands = slice_get-front cycles (row ∷ []) c less ∙ b.stands;
-      broken = subst (λ (before : List Cycle). BreaksAfter rule p before b.now) (sym (take-front cycles row c (omega arith))) b.broken;
-    }
-
-Breaks-last : (rule : Rule) (p : Parameters) (cycles : List Cycle) (row : Cycle) (c : ℕ) → c ≡ length cycles → BreaksAfter rule p cycles row → Breaks rule p (cycles ++ row ∷ []) c
-Breaks-last rule p cycles row c last broken = record {
-  now = row;
-  stands = slice_get-next cycles row c last;
-  broken = subst (λ (before : List Cycle). BreaksAfter rule p before row) (sym (take-front cycles row c (omega arith) ∙ take_all c cycles (omega arith))) broken;
-}
-
--- ---- the offences of a stream
-
--- an offence is one of the cycles of its stream
-pub breaks_in : (t : TraceText) (o : Offence) → offends_in t o → (head : Head) × ((slice_get t.heads o.stream ≡ Some head) × Breaks o.rule head.params (cycles_of_stream t o.stream) o.cycle)
-breaks_in t o b =
-    let found = head_at t 0 t.heads o.stream b.trace b.stands in
-    let here : 0 + o.stream ≡ o.stream = omega arith in
-    (found.0, (found.1, subst (λ (s : StreamTrace). Breaks o.rule s.params s.cycles o.cycle) (found.2 ∙ ap (λ (n : ℕ). stream_with t n found.0) here) b.breaks))
-
-pub offends_by : (t : TraceText) (o : Offence) (head : Head) → slice_get t.heads o.stream ≡ Some head → Breaks o.rule head.params (cycles_of_stream t o.stream) o.cycle → offends_in t o
-offends_by t o head there b =
-    let here : 0 + o.stream ≡ o.stream = omega arith in
-    record {
-      trace = stream_with t o.stream head;
-      stands = stream_at t 0 t.heads o.stream head there ∙ ap (λ (n : ℕ). Some (stream_with t n head)) here;
-      breaks = b;
-    }
+use Rattle.tydi_base.proofs.PlaceLemmas.{slice_get-front, slice_get-next, slice_get-there, slice_get-other}
+use Rattle.physical_stream.proofs.PartsLemmas.{parts_below-same, parts_below-tail, length-parts_below}
+use Rattle.cycle_trace.proofs.StreamLemmas.{head_at, stream_of_head, stream_with}
 
 -- ---- the rows
 
@@ -171,7 +67,7 @@ module _ (t : TraceText) (cycle at : ℕ) (place : length t.rows ≡ cycle * len
   earlier o b = by_cases (few_cycles o.stream) (cases_lt o.cycle cycle)
     where
       less : o.cycle < length (cycles_of_stream t o.stream)
-      less = let found = breaks_in t o b in slice_get_within (cycles_of_stream t o.stream) o.cycle found.1.1.now found.1.1.stands
+      less = rw (head_at t o.stream b.trace b.stands).2 at (slice_get_within b.trace.cycles o.cycle b.breaks.now b.breaks.stands)
 
       by_cases : (length (cycles_of_stream t o.stream) ≤ cycle) ⊎ ((o.stream < at) × (length (cycles_of_stream t o.stream) ≤ cycle + 1)) → (o.cycle < cycle) ⊎ (cycle ≤ o.cycle) → (o.cycle < cycle) ⊎ ((o.cycle ≡ cycle) × (o.stream < at))
       by_cases few (inl before) = inl before
@@ -207,46 +103,17 @@ module _ (t : TraceText) (cycle at : ℕ) (place : length t.rows ≡ cycle * len
             by_cases (inr more) (inr most) = let same_cycle : i ≡ cycle = omega arith in other (omega (arith, place, ap (λ (n : ℕ). n * length t.heads) same_cycle))
 
     module _ (head : Head) (there : slice_get t.heads at ≡ Some head) where
-      cases : (o : Offence) → offends_in (with_row t row) o → offends_in t o ⊎ ((o.cycle ≡ cycle) × ((o.stream ≡ at) × BreaksAfter o.rule head.params (cycles_of_stream t at) row))
-      cases o b = by_stream (same_or_other o.stream at)
+      -- the stream whose turn it is has this row more
+      pub has_more : HasMore (streams_of t) (streams_of (with_row t row)) at (stream_with t at head) row
+      has_more = record {
+        before = stream_of_head t at ∙ ap (option_map (stream_with t at)) there;
+        now = stream_of_head (with_row t row) at ∙ ap (option_map (stream_with (with_row t row) at)) there ∙ ap (λ (cycles : List Cycle). let s : StreamTrace = record { params = head.params; cycles = cycles } in Some s) cycles_of_stream-turn;
+        others = λ i other. stream_of_head (with_row t row) i ∙ same_stream i other (slice_get t.heads i) refl ∙ sym (stream_of_head t i);
+      }
         where
-          found : (h : Head) × ((slice_get t.heads o.stream ≡ Some h) × Breaks o.rule h.params (cycles_of_stream (with_row t row) o.stream) o.cycle)
-          found = breaks_in (with_row t row) o b
+          same_stream : (i : ℕ) → (i ≡ at → ⊥) → (found : Option Head) → slice_get t.heads i ≡ found → option_map (stream_with (with_row t row) i) found ≡ option_map (stream_with t i) found
+          same_stream i other None is = refl
+          same_stream i other (Some h) is = ap (λ (cycles : List Cycle). let s : StreamTrace = record { params = h.params; cycles = cycles } in Some s) (cycles_of_stream-other i (slice_get_within t.heads i h is) other)
 
-          by_row : o.stream ≡ at → Breaks o.rule head.params (cycles_of_stream t at) o.cycle ⊎ ((o.cycle ≡ length (cycles_of_stream t at)) × BreaksAfter o.rule head.params (cycles_of_stream t at) row)
-              → offends_in t o ⊎ ((o.cycle ≡ cycle) × ((o.stream ≡ at) × BreaksAfter o.rule head.params (cycles_of_stream t at) row))
-          by_row same (inl before) = inl (offends_by t o head (ap (slice_get t.heads) same ∙ there) (subst (λ (n : ℕ). Breaks o.rule head.params (cycles_of_stream t n) o.cycle) (sym same) before))
-          by_row same (inr last) = inr (last.0 ∙ length-cycles_here, (same, last.1))
-
-          by_stream : (o.stream ≡ at) ⊎ (o.stream ≡ at → ⊥) → offends_in t o ⊎ ((o.cycle ≡ cycle) × ((o.stream ≡ at) × BreaksAfter o.rule head.params (cycles_of_stream t at) row))
-          by_stream (inr other) = inl (offends_by t o found.0 found.1.0
-              (subst (λ (xs : List Cycle). Breaks o.rule found.0.params xs o.cycle) (cycles_of_stream-other o.stream (slice_get_within t.heads o.stream found.0 found.1.0) other) found.1.1))
-          by_stream (inl same) =
-              let is_head : found.0 ≡ head = let e = sym found.1.0 ∙ ap (slice_get t.heads) same ∙ there in cc in
-              let cycles : cycles_of_stream (with_row t row) o.stream ≡ cycles_of_stream t at ++ row ∷ [] = ap (cycles_of_stream (with_row t row)) same ∙ cycles_of_stream-turn in
-              let broken = subst (λ (xs : List Cycle). Breaks o.rule found.0.params xs o.cycle) cycles found.1.1 in
-              by_row same (Breaks-cases o.rule head.params (cycles_of_stream t at) row o.cycle (subst (λ (h : Head). Breaks o.rule h.params (cycles_of_stream t at ++ row ∷ []) o.cycle) is_head broken))
-
-      -- what offended offends still
-      stays : (o : Offence) → offends_in t o → offends_in (with_row t row) o
-      stays o b = by_stream (same_or_other o.stream at)
-        where
-          found : (h : Head) × ((slice_get t.heads o.stream ≡ Some h) × Breaks o.rule h.params (cycles_of_stream t o.stream) o.cycle)
-          found = breaks_in t o b
-
-          by_stream : (o.stream ≡ at) ⊎ (o.stream ≡ at → ⊥) → offends_in (with_row t row) o
-          by_stream (inr other) =
-              offends_by (with_row t row) o found.0 found.1.0
-              (subst (λ (xs : List Cycle). Breaks o.rule found.0.params xs o.cycle) (sym (cycles_of_stream-other o.stream (slice_get_within t.heads o.stream found.0 found.1.0) other)) found.1.1)
-          by_stream (inl same) =
-              let cycles : cycles_of_stream t o.stream ++ row ∷ [] ≡ cycles_of_stream (with_row t row) o.stream = ap (λ (n : ℕ). cycles_of_stream t n ++ row ∷ []) same ∙ sym cycles_of_stream-turn ∙ ap (cycles_of_stream (with_row t row)) (sym same) in
-              offends_by (with_row t row) o found.0 found.1.0 (subst (λ (xs : List Cycle). Breaks o.rule found.0.params xs o.cycle) cycles (Breaks-front o.rule found.0.params (cycles_of_stream t o.stream) row o.cycle found.1.1))
-
-      -- what the row breaks offends
-      here : (rule : Rule) → BreaksAfter rule head.params (cycles_of_stream t at) row → offends_in (with_row t row) (record { cycle = cycle; stream = at; rule = rule })
-      here rule broken =
-          offends_by (with_row t row) (record { cycle = cycle; stream = at; rule = rule }) head there
-          (subst (λ (xs : List Cycle). Breaks rule head.params xs cycle) (sym cycles_of_stream-turn) (Breaks-last rule head.params (cycles_of_stream t at) row cycle (sym length-cycles_here) broken))
-
-      pub adds : AddsOffences (offends_in t) (offends_in (with_row t row)) cycle at (BreaksNext t at head.params row)
-      adds = record { stays = stays; earlier = earlier; cases = cases; here = here }
+      pub adds : AddsOffences (offends_in t) (offends_in (with_row t row)) cycle at (λ rule. BreaksAfter rule head.params (cycles_of_stream t at) row)
+      adds = rw length-cycles_here at (adds-one (streams_of t) (streams_of (with_row t row)) at (stream_with t at head) row has_more (λ o b. rw length-cycles_here (earlier o b)))

@@ -1,5 +1,5 @@
 -- How far a line has the form of a row, with one byte more.
-use Rattle.std.proofs.Common.{◌≡◌, ℕ, zero, suc, ◌+◌, ◌<◌, ◌≤◌, Bool, true, false, ◌&&◌, ◌||◌, ◌==◌, nat_lt, eqb, if◌then◌else◌, List, [], ◌∷◌, ◌++◌, length, get_or, drop, add-one, IsSome, refl, sym, ap, subst, ◌∙◌, arith}
+use Rattle.std.proofs.Common.{◌≡◌, ℕ, zero, suc, ◌+◌, ◌<◌, ◌≤◌, Bool, true, false, ◌&&◌, ◌||◌, ◌==◌, nat_lt, eqb, if◌then◌else◌, List, [], ◌∷◌, ◌++◌, length, get_or, drop, add-one, refl, sym, ap, subst, ◌∙◌, arith}
 use Rattle.std.specs.List.{count_by, list_any, onto_first}
 use Rattle.std.proofs.lemmas.Bool.Decides.{nat_tests}
 use Rattle.std.proofs.Math.ListN.{drop_of_length-le}
@@ -9,7 +9,6 @@ use Rattle.std.proofs.lemmas.List.{append-nil}
 use Rattle.std.proofs.lemmas.List.Splits.{length-slice_split, slice_split-cons_no, slice_split-cons_yes}
 use Rattle.std.specs.Str.{bytes_eq}
 use Rattle.tydi_base.specs.Pieces.{words_of}
-use Rattle.cycle_trace.specs.Faults.{fault_in}
 use Rattle.cycle_trace.specs.RowForm.{Goes, IsForm, fits, is_spelled, row_keys}
 use Rattle.cycle_trace.specs.RowText.{are_signals, has_form, is_dash, is_payload, is_value, row_fault}
 use Rattle.cycle_trace.specs.declared.fault.TraceFault.TheVariants.{BadRow, WrongSignals}
@@ -163,11 +162,3 @@ whole-Signal next = none_empty (drop next row_keys) []
 pub fault_of : (form : RowForm) (line : List ℕ) (number : ℕ) (whole : Bool) → IsForm form line → whole ≡ fits form ([] ∷ []) → (if whole then WrongSignals number else BadRow number) ≡ row_fault number line
 fault_of form line number whole is same =
     ap (λ (b : Bool). if b then WrongSignals number else BadRow number) (same ∙ is [] ∙ ap (λ (text : List ℕ). has_form (words_of text)) (append-nil line))
-
--- a line that is no row has a fault
-pub row_fault-some : (number : ℕ) (line : List ℕ) → IsSome (fault_in (row_fault number line))
-row_fault-some number line = by_form (has_form (words_of line))
-  where
-    by_form : (form : Bool) → IsSome (fault_in (if form then WrongSignals number else BadRow number))
-    by_form true = refl
-    by_form false = refl

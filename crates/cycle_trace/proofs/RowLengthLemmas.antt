@@ -1,20 +1,18 @@
 -- How long the text of a row is.
-use Rattle.std.proofs.Common.{◌≡◌, ℕ, suc, ◌+◌, ◌*◌, ◌/◌, ◌^◌, ◌<◌, ◌≤◌, Bool, true, false, eqb, if◌then◌else◌, List, [], ◌∷◌, ◌++◌, length, Option, Some, None, Result, Ok, Err, is_some, append-nil, length-append, refl, sym, ap, ◌∙◌, arith}
+use Rattle.std.proofs.Common.{◌≡◌, ℕ, suc, ◌+◌, ◌*◌, ◌/◌, ◌^◌, ◌<◌, ◌≤◌, Bool, true, false, if◌then◌else◌, List, [], ◌∷◌, ◌++◌, length, Option, Some, None, Result, Ok, Err, is_some, append-nil, length-append, refl, sym, ap, ◌∙◌, arith}
 use Rattle.std.specs.Fmt.{decimal}
 use Rattle.std.specs.List.{join_with_byte}
 use Rattle.std.proofs.Math.Pow.{pow_mono}
-use Rattle.std.proofs.lemmas.Bool.{eqb-true, eq-eqb}
 use Rattle.std.proofs.lemmas.Fmt.{length-decimal-le}
 use Rattle.tydi_base.specs.Bits.{bits_of}
-use Rattle.tydi_base.specs.Hex.{hex_of, word_at}
+use Rattle.tydi_base.specs.Hex.{hex_of}
 use Rattle.tydi_base.proofs.BitsLemmas.{length-bits_of}
-use Rattle.tydi_base.proofs.HexBytes.{word_at-length}
-use Rattle.tydi_base.proofs.HexLemmas.{word_at-hex_of}
 use Rattle.physical_stream.specs.Params.{Parameters}
 use Rattle.physical_stream.specs.Signals.{has_content, has_last, has_stai, has_endi, has_strb, has_user, Shows}
 use Rattle.tydi_base.specs.Width.{index_width}
 use Rattle.physical_stream.specs.Cycles.{Cycle}
 use Rattle.physical_stream.specs.declared.transfer.Transfer.{Transfer}
+use Rattle.tydi_base.proofs.HexLemmas.{length-hex_of}
 use Rattle.cycle_trace.specs.RowLayout.{row_room}
 use Rattle.cycle_trace.specs.RowText.{row_at, row_fault, row_of}
 use Rattle.cycle_trace.specs.Spelling.{bit_text, or_dash, payload_words, row_line, signal_words, transfer_words}
@@ -50,16 +48,6 @@ length-row_line p cycle =
     ap length (joined_spaced valid (ready ∷ words)) ∙ length-append valid (32 ∷ (ready ++ spaced words)) ∙ ap (λ (n : ℕ). length valid + suc n) (length-append ready (spaced words)) in
     omega (arith, parts, length-bit_text (is_some cycle.shown), length-bit_text cycle.ready)
 
--- a digit for each four bits
-pub length-hex : (bits : List Bool) → length (hex_of bits) ≡ (length bits + 3) / 4
-length-hex bits = by_test (eqb (length (hex_of bits)) ((length bits + 3) / 4)) refl
-  where
-    by_test : (test : Bool) → eqb (length (hex_of bits)) ((length bits + 3) / 4) ≡ test → length (hex_of bits) ≡ (length bits + 3) / 4
-    by_test true is = eqb-true _ _ is
-    by_test false other =
-        let none : word_at (length bits) (hex_of bits) ≡ None = word_at-length (length bits) (hex_of bits) (λ same. let found = eq-eqb (length (hex_of bits)) ((length bits + 3) / 4) same in cc) in
-        absurd (cc (none, word_at-hex_of bits))
-
 -- ---- no row is longer than there is room for
 
 at_most : (present : Bool) (key n : ℕ) (value : List ℕ) → length value ≤ n → length (spaced (signal_words present key value)) ≤ 3 + n
@@ -93,12 +81,12 @@ module _ (p : Parameters) (few : p.lanes ≤ 128) where
       let endi_words = signal_words (has_endi p) 101 (decimal t.endi) in
       let strb_words = signal_words (has_strb p) 98 (hex_of strb) in
       let user_words = signal_words (has_user p) 117 (hex_of t.user) in
-      let content = at_most (has_content p) 100 ((p.lanes * p.element + 3) / 4) (hex_of t.content) (omega (arith, length-hex t.content, ap (λ (n : ℕ). (n + 3) / 4) s.fits.content)) in
-      let last = at_most (has_last p) 108 ((p.lanes * p.dims + 3) / 4) (hex_of t.last) (omega (arith, length-hex t.last, ap (λ (n : ℕ). (n + 3) / 4) s.fits.last)) in
+      let content = at_most (has_content p) 100 ((p.lanes * p.element + 3) / 4) (hex_of t.content) (omega (arith, length-hex_of t.content, ap (λ (n : ℕ). (n + 3) / 4) s.fits.content)) in
+      let last = at_most (has_last p) 108 ((p.lanes * p.dims + 3) / 4) (hex_of t.last) (omega (arith, length-hex_of t.last, ap (λ (n : ℕ). (n + 3) / 4) s.fits.last)) in
       let stai = at_most (has_stai p) 115 3 (decimal t.stai) (few_digits (index_width p.lanes) t.stai s.fits.stai narrow) in
       let endi = at_most (has_endi p) 101 3 (decimal t.endi) (few_digits (index_width p.lanes) t.endi s.fits.endi narrow) in
-      let bits = at_most (has_strb p) 98 ((p.lanes + 3) / 4) (hex_of strb) (omega (arith, length-hex strb, ap (λ (n : ℕ). (n + 3) / 4) (length-bits_of p.lanes t.strb))) in
-      let user = at_most (has_user p) 117 ((p.user + 3) / 4) (hex_of t.user) (omega (arith, length-hex t.user, ap (λ (n : ℕ). (n + 3) / 4) s.fits.user)) in
+      let bits = at_most (has_strb p) 98 ((p.lanes + 3) / 4) (hex_of strb) (omega (arith, length-hex_of strb, ap (λ (n : ℕ). (n + 3) / 4) (length-bits_of p.lanes t.strb))) in
+      let user = at_most (has_user p) 117 ((p.user + 3) / 4) (hex_of t.user) (omega (arith, length-hex_of t.user, ap (λ (n : ℕ). (n + 3) / 4) s.fits.user)) in
       let together = ap length (signals_together content_words last_words stai_words endi_words strb_words user_words) in
       let sum = simp length-append at together in
       omega (arith, sum, content, last, stai, endi, bits, user)

@@ -1,9 +1,8 @@
 -- A row of a trace text: what is spelled is read, and what is read is spelled so.
-use Rattle.std.proofs.Common.{◌≡◌, ℕ, ◌-◌, ◌*◌, ◌^◌, ◌<◌, ◌≤◌, Bool, true, false, ◌||◌, nat_lt, List, [], ◌∷◌, ◌++◌, Option, Some, None, Result, Ok, Err, cond, append_assoc, refl, sym, ap, ◌∙◌, inl, inr, arith}
+use Rattle.std.proofs.Common.{◌≡◌, ℕ, ◌-◌, ◌*◌, ◌^◌, ◌<◌, ◌≤◌, Bool, true, false, ◌||◌, nat_lt, List, [], ◌∷◌, ◌++◌, Option, Some, None, Result, Ok, Err, append_assoc, refl, sym, ap, ◌∙◌, arith}
 use Rattle.std.specs.List.{join_with_byte}
 use Rattle.std.proofs.Math.Pow.{pow_mono}
 use Rattle.std.specs.Option.{is_some}
-use Rattle.std.specs.Str.{bytes_eq}
 use Rattle.std.proofs.lemmas.Bool.Decides.{nat_tests}
 use Rattle.std.proofs.lemmas.List.{append-nil}
 use Rattle.std.proofs.lemmas.Nat.{pow_pos}
@@ -13,7 +12,8 @@ use Rattle.tydi_base.specs.Hex.{hex_of}
 use Rattle.tydi_base.specs.Pieces.{words_of}
 use Rattle.tydi_base.specs.Reading.{◌>>=◌}
 use Rattle.tydi_base.proofs.PieceLaws.{join-pieces_of}
-use Rattle.tydi_base.proofs.ReadingLaws.{bind_ok, chosen, ok_is}
+use Rattle.tydi_base.proofs.ReadingLaws.{bind_ok, ok_is}
+use Rattle.tydi_base.proofs.TestLemmas.{kept, two-some}
 use Rattle.physical_stream.specs.Params.{Parameters}
 use Rattle.physical_stream.specs.Signals.{has_content, has_last, has_stai, has_endi, has_strb, has_user, Shows}
 use Rattle.physical_stream.specs.Cycles.{Cycle}
@@ -23,7 +23,7 @@ use Rattle.tydi_base.proofs.WidthLaws.{index_width-enough}
 use Rattle.std.specs.Fmt.{decimal}
 use Rattle.cycle_trace.specs.RowText.{word_field, index_field, strobe_field, no_more, transfer_of, has_payload, is_dash, payload_of, shown_of, bit_of, cycle_of_words, row_of, row_at}
 use Rattle.cycle_trace.specs.Spelling.{signal_words, transfer_words, or_dash, payload_words, bit_text, row_line}
-use Rattle.cycle_trace.proofs.PlainWords.{is_plain, are_plain, both, are_plain-append, decimal-plain, hex_of-plain, words_of-plain}
+use Rattle.tydi_base.proofs.PlainWords.{is_plain, are_plain, both, are_plain-append, decimal-plain, hex_of-plain, words_of-plain}
 use Rattle.cycle_trace.proofs.SignalSpelling.{index_width-most, word_field-spelled, word_field-some, index_field-spelled, index_field-some, strobe_field-spelled, strobe_field-some}
 
 -- ---- a transfer
@@ -130,48 +130,35 @@ is_dash-some [] e = absurd cc
 is_dash-some (word ∷ []) e = ap (λ (w : List ℕ). w ∷ []) ((bytes_eq-Decides word (45 ∷ [])).0 e)
 is_dash-some (word ∷ next ∷ words) e = absurd cc
 
-some_words : (a b c d e f : Bool) (u v w x y z : List ℕ) → (a || b || c || d || e || f) ≡ true
-    → or_dash (signal_words a 100 u ++ signal_words b 108 v ++ signal_words c 115 w ++ signal_words d 101 x ++ signal_words e 98 y ++ signal_words f 117 z)
-    ≡ signal_words a 100 u ++ signal_words b 108 v ++ signal_words c 115 w ++ signal_words d 101 x ++ signal_words e 98 y ++ signal_words f 117 z
-some_words true b c d e f u v w x y z some = refl
-some_words false true c d e f u v w x y z some = refl
-some_words false false true d e f u v w x y z some = refl
-some_words false false false true e f u v w x y z some = refl
-some_words false false false false true f u v w x y z some = refl
-some_words false false false false false true u v w x y z some = refl
-some_words false false false false false false u v w x y z some = absurd cc
+-- the words of six signals: some where one is present, else none
+six_words : (a b c d e f : Bool) (u v w x y z : List ℕ) →
+    let words = signal_words a 100 u ++ signal_words b 108 v ++ signal_words c 115 w ++ signal_words d 101 x ++ signal_words e 98 y ++ signal_words f 117 z in
+    ((a || b || c || d || e || f) ≡ true → or_dash words ≡ words) × ((a || b || c || d || e || f) ≡ false → words ≡ [])
+six_words true b c d e f u v w x y z = (λ _. refl, λ none. absurd cc)
+six_words false true c d e f u v w x y z = (λ _. refl, λ none. absurd cc)
+six_words false false true d e f u v w x y z = (λ _. refl, λ none. absurd cc)
+six_words false false false true e f u v w x y z = (λ _. refl, λ none. absurd cc)
+six_words false false false false true f u v w x y z = (λ _. refl, λ none. absurd cc)
+six_words false false false false false true u v w x y z = (λ _. refl, λ none. absurd cc)
+six_words false false false false false false u v w x y z = (λ some. absurd cc, λ _. refl)
 
-no_words : (a b c d e f : Bool) (u v w x y z : List ℕ) → (a || b || c || d || e || f) ≡ false
-    → signal_words a 100 u ++ signal_words b 108 v ++ signal_words c 115 w ++ signal_words d 101 x ++ signal_words e 98 y ++ signal_words f 117 z ≡ []
-no_words true b c d e f u v w x y z none = absurd cc
-no_words false true c d e f u v w x y z none = absurd cc
-no_words false false true d e f u v w x y z none = absurd cc
-no_words false false false true e f u v w x y z none = absurd cc
-no_words false false false false true f u v w x y z none = absurd cc
-no_words false false false false false true u v w x y z none = absurd cc
-no_words false false false false false false u v w x y z none = refl
-
-some_signals : (p : Parameters) (t : Transfer) → has_payload p ≡ true → or_dash (transfer_words p t) ≡ transfer_words p t
-some_signals p t some = some_words (has_content p) (has_last p) (has_stai p) (has_endi p) (has_strb p) (has_user p) _ _ _ _ _ _ some
-
-no_signals : (p : Parameters) (t : Transfer) → has_payload p ≡ false → transfer_words p t ≡ []
-no_signals p t none = no_words (has_content p) (has_last p) (has_stai p) (has_endi p) (has_strb p) (has_user p) _ _ _ _ _ _ none
+signals : (p : Parameters) (t : Transfer) → (has_payload p ≡ true → or_dash (transfer_words p t) ≡ transfer_words p t) × (has_payload p ≡ false → transfer_words p t ≡ [])
+signals p t = six_words (has_content p) (has_last p) (has_stai p) (has_endi p) (has_strb p) (has_user p) _ _ _ _ _ _
 
 payload_of-by : (p : Parameters) (t : Transfer) (payload : Bool) → has_payload p ≡ payload → payload_of p (or_dash (transfer_words p t)) ≡ Ok (transfer_words p t)
 unfolding payload_of
-payload_of-by p t true some = rw (some, some_signals p t some) refl
-payload_of-by p t false none = rw (none, no_signals p t none) refl
+payload_of-by p t true some = rw (some, (signals p t).0 some) refl
+payload_of-by p t false none = rw (none, (signals p t).1 none) refl
 
 payload_of-none : (p : Parameters) (words found : List (List ℕ)) (t : Transfer) (payload : Bool) → has_payload p ≡ payload → payload_of p words ≡ Ok found → found ≡ transfer_words p t
     → words ≡ or_dash (transfer_words p t)
 unfolding payload_of
 payload_of-none p words found t true some e is =
     let same : words ≡ found = ok_is words found (rw some at e) in
-    same ∙ is ∙ sym (some_signals p t some)
-payload_of-none p words found t false none e is = elim (chosen (is_dash words) (Ok []) (Err tt) (Ok found) (rw none at e)) [
-  | inl h ↦ is_dash-some words h.0 ∙ ap or_dash (sym (no_signals p t none))
-  | inr h ↦ absurd (cc (h.1))
-]
+    same ∙ is ∙ sym ((signals p t).0 some)
+payload_of-none p words found t false none e is =
+    let dash = kept (is_dash words) (Ok []) tt found (rw none at e) in
+    is_dash-some words dash.0 ∙ ap or_dash (sym ((signals p t).1 none))
 
 -- ---- what a cycle shows
 
@@ -188,10 +175,10 @@ pub record ShownRead (p : Parameters) (valid : Bool) (words : List (List ℕ)) (
 
 pub shown_of-some : (p : Parameters) (valid : Bool) (words : List (List ℕ)) (shown : Option Transfer) → shown_of p valid words ≡ Ok shown → ShownRead p valid words shown
 unfolding shown_of
-shown_of-some p false words shown e = elim (chosen (is_dash words) (Ok None) (Err tt) (Ok shown) e) [
-  | inl h ↦ (let same = ok_is None shown h.1 in rw (← same) (record { spelled = is_dash-some words h.0; valid_is = refl; shows = λ t none. absurd cc }))
-  | inr h ↦ absurd (cc (h.1))
-]
+shown_of-some p false words shown e =
+    let dash = kept (is_dash words) (Ok None) tt shown e in
+    let same = ok_is None shown dash.1 in
+    rw (← same) (record { spelled = is_dash-some words dash.0; valid_is = refl; shows = λ t none. absurd cc })
 shown_of-some p true words shown e =
     let payload = bind_ok (payload_of p words) _ shown e in
     let read = bind_ok (transfer_of p payload.0) _ shown payload.2 in
@@ -212,13 +199,7 @@ bit_of-spelled false = refl
 
 bit_of-some : (word : List ℕ) (bit : Bool) → bit_of word ≡ Ok bit → word ≡ bit_text bit
 unfolding bit_of
-bit_of-some word bit e = elim (chosen (bytes_eq word (49 ∷ [])) (Ok true) (cond (bytes_eq word (48 ∷ [])) (Ok false) (Err tt)) (Ok bit) e) [
-  | inl h ↦ (let same = ok_is true bit h.1 in rw (← same) ((bytes_eq-Decides word (49 ∷ [])).0 h.0))
-  | inr h ↦ elim (chosen (bytes_eq word (48 ∷ [])) (Ok false) (Err tt) (Ok bit) (h.1)) [
-    | inl k ↦ (let same = ok_is false bit k.1 in rw (← same) ((bytes_eq-Decides word (48 ∷ [])).0 k.0))
-    | inr k ↦ absurd (cc (k.1))
-  ]
-]
+bit_of-some word bit e = two-some bit_text true tt word bit e
 
 -- the words of a row
 abbrev pub row_words : Parameters → Cycle → List (List ℕ)

@@ -1,16 +1,18 @@
 -- All rows of a trace text, read in their order.
-use Rattle.std.proofs.Common.{◌≡◌, ℕ, zero, suc, ◌+◌, ◌*◌, ◌<◌, ◌≤◌, Bool, true, false, ◌↔◌, IsTrue, List, [], ◌∷◌, length, get_or, eqb, Ok, Err, length-append, refl, sym, ◌∙◌, arith}
+use Rattle.std.proofs.Common.{◌≡◌, ℕ, zero, suc, ◌+◌, ◌*◌, ◌<◌, ◌≤◌, List, [], ◌∷◌, length, ◌++◌, Some, Ok, Err, length-append, refl, sym, ap, ◌∙◌, arith}
 use Rattle.std.proofs.Math.Nat.{suc-mul, zero-mul, mul-le-mul_right, lt_of_not-le}
-use Rattle.std.proofs.lemmas.Bool.Decides.{nat_tests}
-use Rattle.std.proofs.lemmas.List.{get_or_append_left, get_or-append-add}
-use Rattle.std.proofs.lemmas.List.Splits.{length-slice_split}
+use Rattle.std.specs.List.{slice_get}
+use Rattle.std.specs.Option.{option_map}
+use Rattle.std.proofs.lemmas.List.{length-map}
+use Rattle.std.proofs.lemmas.Option.{slice_get_within, slice_get-map}
+use Rattle.tydi_base.proofs.PlaceLemmas.{slice_get-front}
 use Rattle.tydi_base.specs.Reading.{◌>>=◌}
-use Rattle.tydi_base.specs.Pieces.{lines_of}
 use Rattle.physical_stream.specs.Params.{Parameters}
 use Rattle.cycle_trace.specs.declared.fault.TraceFault.TheVariants.{RowsLeft}
 use Rattle.cycle_trace.specs.RowText.{row_at}
 use Rattle.cycle_trace.specs.RowsText.{cut_row}
-use Rattle.cycle_trace.specs.Trace.{owed}
+use Rattle.physical_stream.specs.declared.head.Head.{Head}
+use Rattle.cycle_trace.specs.Trace.{TraceText, owed, params_of_heads}
 use Rattle.cycle_trace.specs.TraceText.{rows_from}
 
 -- ---- the streams of the rows
@@ -19,21 +21,29 @@ pub length-owed : (streams : List Parameters) (cycles : ℕ) → length (owed st
 length-owed streams zero = sym (zero-mul (length streams))
 length-owed streams (suc cycles) = omega (arith, length-append streams (owed streams cycles), length-owed streams cycles, suc-mul cycles (length streams))
 
+-- how many rows a header asks for
+pub length-owed_heads : (t : TraceText) → length (owed (params_of_heads t.heads) t.cycles) ≡ t.cycles * length t.heads
+length-owed_heads t = length-owed (params_of_heads t.heads) t.cycles ∙ ap (λ (n : ℕ). t.cycles * n) (length-map t.heads (λ (head : Head). head.params))
+
+slice_get-back : {A : Type 0} (a b : List A) (i : ℕ) → slice_get (a ++ b) (length a + i) ≡ slice_get b i
+slice_get-back [] b i = let here : 0 + i ≡ i = omega arith in ap (slice_get b) here
+slice_get-back (x ∷ a) b i = let next : length (x ∷ a) + i ≡ suc (length a + i) = omega arith in ap (slice_get (x ∷ (a ++ b))) next ∙ slice_get-back a b i
+
 -- the row of a stream in a cycle is of that stream
-pub get_or-owed : (streams : List Parameters) (cycles turn stream : ℕ) (p : Parameters) → stream < length streams → turn < cycles → get_or (owed streams cycles) (turn * length streams + stream) p ≡ get_or streams stream p
-get_or-owed streams zero turn stream p within some = absurd (omega arith)
-get_or-owed streams (suc cycles) zero stream p within some =
-    let place : zero * length streams + stream ≡ stream = omega (arith, zero-mul (length streams)) in
-    rw place (get_or_append_left streams (owed streams cycles) p stream within)
-get_or-owed streams (suc cycles) (suc turn) stream p within some =
-    let place : suc turn * length streams + stream ≡ length streams + (turn * length streams + stream) = omega (arith, suc-mul turn (length streams)) in
-    rw place (get_or-append-add streams (owed streams cycles) (turn * length streams + stream) p ∙ get_or-owed streams cycles turn stream p within (omega arith))
+pub owed_at : (heads : List Head) (cycles turn stream : ℕ) (head : Head) → slice_get heads stream ≡ Some head → turn < cycles
+    → slice_get (owed (params_of_heads heads) cycles) (turn * length heads + stream) ≡ Some head.params
+owed_at heads zero turn stream head is some = absurd (omega arith)
+owed_at heads (suc cycles) zero stream head is some =
+    let streams = params_of_heads heads in
+    let place : zero * length heads + stream ≡ stream = omega (arith, zero-mul (length heads)) in
+    let within : stream < length streams = omega (arith, slice_get_within heads stream head is, length-map heads (λ (h : Head). h.params)) in
+    rw place (slice_get-front streams (owed streams cycles) stream within ∙ slice_get-map (λ (h : Head). h.params) heads stream ∙ ap (option_map (λ (h : Head). h.params)) is)
+owed_at heads (suc cycles) (suc turn) stream head is some =
+    let streams = params_of_heads heads in
+    let place : suc turn * length heads + stream ≡ length streams + (turn * length heads + stream) = omega (arith, suc-mul turn (length heads), length-map heads (λ (h : Head). h.params)) in
+    rw place (slice_get-back streams (owed streams cycles) (turn * length heads + stream) ∙ owed_at heads cycles turn stream head is (omega arith))
 
 -- ---- the rows of a text
-
--- a text has one line at least
-pub some_line : (text : List ℕ) → 0 < length (lines_of text)
-some_line text = omega (arith, length-slice_split (λ byte. eqb byte 10) text)
 
 -- the first row, and the rows after it
 pub rows_from-cons : (want got number : ℕ) (p : Parameters) (streams : List Parameters) (line : List ℕ) (lines : List (List ℕ)) → 0 < length lines
@@ -59,15 +69,3 @@ some_stream cycles (suc count) got lt = omega arith
 
 pub turn_below : (cycles count turn stream got : ℕ) → got ≡ turn * count + stream → got < cycles * count → turn < cycles
 turn_below cycles count turn stream got place lt = lt_of_not-le (λ (large : cycles ≤ turn). let more : cycles * count ≤ turn * count = mul-le-mul_right count large in omega arith)
-
-pub empty_is : (text : List ℕ) → true ≡ eqb (length text) 0 → text ≡ []
-empty_is [] same = refl
-empty_is (byte ∷ text) same = absurd (grind (arith, nat_tests))
-
-pub some_is_not : (text : List ℕ) → false ≡ eqb (length text) 0 → text ≡ [] → ⊥
-some_is_not [] same none = cc
-some_is_not (byte ∷ text) same none = cc
-
-pub empty_iff : (text : List ℕ) (is_empty : Bool) → is_empty ≡ eqb (length text) 0 → IsTrue is_empty ↔ (text ≡ [])
-empty_iff text true is = (λ _. empty_is text is, λ _. refl)
-empty_iff text false is = (λ no. absurd cc, λ none. absurd (some_is_not text is none))

@@ -7,7 +7,7 @@ use Rattle.std.proofs.Math.Nat.{le-max_left, le-max_right}
 use Rattle.std.proofs.Math.Numerals.{add-one}
 use Rattle.std.proofs.Math.Seq.{drop-cons}
 use Rattle.std.proofs.lemmas.List.{length-append, length-map}
-use Rattle.std.proofs.lemmas.Option.{slice_get_within, slice_get-map, slice_get-get_or}
+use Rattle.std.proofs.lemmas.Option.{slice_get_within, slice_get-map}
 use Rattle.tydi_base.specs.Reading.{Gives}
 use Rattle.physical_stream.specs.Params.{Parameters}
 use Rattle.physical_stream.specs.Cycles.{Cycle}
@@ -26,12 +26,13 @@ use Rattle.cycle_trace.specs.Beginnings.{Fails, GoesOnLine}
 use Rattle.cycle_trace.specs.RowLayout.{row_room, rows_room}
 use Rattle.cycle_trace.specs.RowText.{row_at, row_fault}
 use Rattle.cycle_trace.specs.Trace.{TraceText, owed, params_of_heads}
-use Rattle.cycle_trace.proofs.KeepLemmas.{length-owed_heads}
+use Rattle.cycle_trace.proofs.RowsLemmas.{length-owed_heads}
 use Rattle.cycle_trace.proofs.RowSpelling.{row_at-some}
-use Rattle.cycle_trace.proofs.BeginningLemmas.{IsFault-row, row-fails}
-use Rattle.cycle_trace.proofs.PartsLemmas.{slice_get-there}
+use Rattle.cycle_trace.proofs.BeginningLemmas.{IsFault-told, row-fails, row_fault-told}
+use Rattle.tydi_base.proofs.PlaceLemmas.{slice_get-there}
 use Rattle.cycle_trace.proofs.RowLengthLemmas.{row_at-long}
-use Rattle.cycle_trace.proofs.SurveyorLemmas.{has_turn, next_row, slice_get-set_same}
+use Rattle.cycle_trace.proofs.SurveyorLemmas.{has_turn, next_row}
+use Rattle.tydi_base.proofs.PlaceLemmas.{slice_get-set_same}
 
 -- the parameters stay where a row is read
 abbrev pub params_of_rows : List StreamRows → List Parameters
@@ -53,15 +54,16 @@ module _ (rows : RowsRead) (t : TraceText) (h : ReadsRows rows t) where
   pub less_of : (rows.got ≡ rows.want → ⊥) → rows.got < rows.want
   less_of other = let ne : rows.got ≢ rows.want = other in omega (arith, h.got, h.want, h.within)
 
+  pub all_read : rows.got ≡ rows.want → t.cycles * length t.heads ≤ length t.rows
+  all_read whole = omega (arith, whole, h.got, h.want)
+
   pub wants : (row : Cycle) → CanTake t row → rows.got < rows.want
   wants row can = omega (arith, h.got, h.want, length-owed_heads t, slice_get_within (owed (params_of_heads t.heads) t.cycles) (length t.rows) can.params can.turn)
 
   -- a row is wanted of some stream
   pub turn_params : rows.got < rows.want → (p : Parameters) × (slice_get (owed (params_of_heads t.heads) t.cycles) (length t.rows) ≡ Some p)
   turn_params less =
-      let none : Parameters = record { lanes = 0; dims = 0; level = 0; element = 0; user = 0 } in
-      let within : length t.rows < length (owed (params_of_heads t.heads) t.cycles) = omega (arith, h.got, h.want, length-owed_heads t) in
-      (get_or (owed (params_of_heads t.heads) t.cycles) (length t.rows) none, slice_get-get_or (owed (params_of_heads t.heads) t.cycles) (length t.rows) none within)
+      slice_get-there (owed (params_of_heads t.heads) t.cycles) (length t.rows) (omega (arith, h.got, h.want, length-owed_heads t))
 
   pub stream_in : rows.got < rows.want → rows.stream < length rows.streams.items
   stream_in less =
@@ -167,7 +169,7 @@ long-fails rows t h less bytes line goes long =
     let few : turn.0.lanes ≤ 128 = subst (λ (p : Parameters). p.lanes ≤ 128) same old.0.layout.laid.narrow in
     let room : row_room turn.0 ≤ rows.room = subst (λ (n : ℕ). row_room turn.0 ≤ n) (sym h.room) (subst (λ (p : Parameters). row_room p ≤ rows_room t.heads) has.params (rows_room-each t.heads rows.stream has.head has.there)) in
     let number = 3 + length t.heads + length t.rows in
-    row-fails t turn.0 turn.1 bytes line (row_fault number line) goes (IsFault-row (row_at number turn.0 line) number line (row_at-long turn.0 few number line (omega arith)))
+    row-fails t turn.0 turn.1 bytes line (row_fault number line) goes (IsFault-told (row_at number turn.0 line) (row_fault number line) (row_fault number line) (row_fault-told number line) (row_at-long turn.0 few number line (omega arith)))
 
 -- a test that fails
 pub not_whole : (p : Type 0) → IsTrue false ↔ p → p → ⊥

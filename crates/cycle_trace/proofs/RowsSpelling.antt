@@ -14,8 +14,8 @@ use Rattle.cycle_trace.specs.Trace.{AreShown, owed}
 use Rattle.cycle_trace.specs.RowText.{row_at}
 use Rattle.cycle_trace.specs.Spelling.{row_line, rows_text}
 use Rattle.cycle_trace.specs.TraceText.{rows_from}
-use Rattle.cycle_trace.proofs.PlainWords.{and_parts, both, lines_of-plain}
-use Rattle.cycle_trace.proofs.RowsLemmas.{rows_from-cons, some_line}
+use Rattle.tydi_base.proofs.PlainWords.{and_parts, both, lines_of-plain, some_line}
+use Rattle.cycle_trace.proofs.RowsLemmas.{rows_from-cons}
 use Rattle.cycle_trace.proofs.RowSpelling.{row_words, row_words-plain, row_at-spelled, row_at-some}
 
 -- no stream has more lanes than a stream may have

@@ -1,5 +1,5 @@
 -- The signals of a row: what is spelled is read, and what is read is spelled so.
-use Rattle.std.proofs.Common.{◌≡◌, ℕ, ◌+◌, ◌-◌, ◌^◌, ◌<◌, ◌≤◌, Bool, true, false, ◌&&◌, eqb, nat_le, nat_lt, List, [], ◌∷◌, ◌++◌, length, Some, Result, Ok, Err, cond, refl, sym, ap, ◌∙◌, inl, inr, arith}
+use Rattle.std.proofs.Common.{◌≡◌, ℕ, ◌+◌, ◌-◌, ◌^◌, ◌<◌, ◌≤◌, Bool, true, false, ◌&&◌, eqb, nat_le, nat_lt, List, [], ◌∷◌, ◌++◌, length, Result, Ok, Err, cond, refl, sym, ap, ◌∙◌, arith}
 use Rattle.std.specs.Fmt.{decimal}
 use Rattle.std.proofs.Math.Pow.{pow_mono}
 use Rattle.std.proofs.lemmas.Bool.{eqb-true, eq-eqb}
@@ -7,30 +7,23 @@ use Rattle.std.proofs.lemmas.Bool.Decides.{nat_tests}
 use Rattle.std.proofs.lemmas.Fmt.{length-decimal-le}
 use Rattle.std.proofs.lemmas.List.{append-nil, length-replicate}
 use Rattle.std.proofs.lemmas.Nat.{pow_pos}
-use Rattle.std.proofs.lemmas.Option.{cond_some}
-use Rattle.std.proofs.lemmas.Str.Parse.{digits_value_short}
 use Rattle.tydi_base.specs.Bits.{bits_of, number_of_bits, zero_bits}
-use Rattle.tydi_base.specs.Decimal.{read_on, is_decimal, decimal_of}
+use Rattle.tydi_base.specs.Decimal.{decimal_of}
 use Rattle.tydi_base.specs.Hex.{hex_of, word_at}
 use Rattle.tydi_base.specs.Reading.{◌>>=◌, or_fault}
 use Rattle.tydi_base.specs.Width.{index_width}
 use Rattle.tydi_base.proofs.BitsLemmas.{length-bits_of, number_of_bits-bits_of, bits_of-number_of_bits, number_of_bits-below}
-use Rattle.tydi_base.proofs.DecimalLaws.{own, is_decimal-to, decimal_of-decimal, decimal_of-some}
+use Rattle.tydi_base.proofs.DecimalLaws.{decimal_of-decimal, decimal_of-some}
 use Rattle.tydi_base.proofs.HexLemmas.{word_at-hex_of, hex_of-word_at}
-use Rattle.tydi_base.proofs.ReadingLaws.{bind_ok, or_fault_ok, chosen, ok_is}
+use Rattle.tydi_base.proofs.ReadingLaws.{bind_ok, or_fault_ok, ok_is}
+use Rattle.tydi_base.proofs.TestLemmas.{kept}
 use Rattle.tydi_base.proofs.WidthLaws.{index_width-least}
+use Rattle.tydi_base.proofs.LengthLemmas.{decimal_of-below}
 use Rattle.cycle_trace.specs.RowText.{value_of, word_field, index_of, index_field, strobe_field}
 use Rattle.cycle_trace.specs.Spelling.{signal_words}
-use Rattle.cycle_trace.proofs.PlainWords.{and_parts}
+use Rattle.tydi_base.proofs.PlainWords.{and_parts}
 
 -- ---- numbers of few digits
-
-pub decimal_of-below : (digits : List ℕ) (n k : ℕ) → length digits ≤ k → decimal_of digits ≡ Some n → n < 10 ^ k
-decimal_of-below digits n k short e =
-    let parts = cond_some (is_decimal digits) (read_on 0 digits) n e in
-    let h = is_decimal-to digits parts.0 in
-    let lt : read_on 0 digits < 10 ^ k = digits_value_short own digits k h.each short in
-    rw (← parts.1) lt
 
 -- seven bits number the lanes of a stream
 pub index_width-most : (lanes : ℕ) → lanes ≤ 128 → index_width lanes ≤ 7
@@ -47,13 +40,11 @@ unfolding value_of
 value_of-some key [] x e = absurd cc
 value_of-some key ([] ∷ words) x e = absurd cc
 value_of-some key ((k ∷ []) ∷ words) x e = absurd cc
-value_of-some key ((k ∷ sign ∷ value) ∷ words) x e = elim (chosen (eqb k key && eqb sign 61) (Ok (value, words)) (Err tt) (Ok x) e) [
-  | inl h ↦ (
-      let parts = and_parts (eqb k key) (eqb sign 61) h.0 in
-      let same = ok_is (value, words) x h.1 in
-      rw (← same, eqb-true k key parts.0, eqb-true sign 61 parts.1) refl)
-  | inr h ↦ absurd (cc (h.1))
-]
+value_of-some key ((k ∷ sign ∷ value) ∷ words) x e =
+    let test = kept (eqb k key && eqb sign 61) (Ok (value, words)) tt x e in
+    let parts = and_parts (eqb k key) (eqb sign 61) test.0 in
+    let same = ok_is (value, words) x test.1 in
+    rw (← same, eqb-true k key parts.0, eqb-true sign 61 parts.1) refl
 
 -- ---- words of bits
 
@@ -98,27 +89,19 @@ index_of-spelled width n below few =
     let fits : nat_lt n (2 ^ width) ≡ true = grind (arith, nat_tests) in
     rw (short, decimal_of-decimal n (omega arith), fits) refl
 
--- a number below a limit
-abbrev where_below : ℕ → ℕ → Result ℕ (Unit {0})
-where_below limit m = cond (nat_lt m limit) (Ok m) (Err tt)
-
-where_below-some : (limit m n : ℕ) (digits : List ℕ) → digits ≡ decimal m → where_below limit m ≡ Ok n → (digits ≡ decimal n) × (n < limit)
-where_below-some limit m n digits spelled e = elim (chosen (nat_lt m limit) (Ok m) (Err tt) (Ok n) e) [
-  | inl h ↦ (let same = ok_is m n h.1 in rw (← same) (spelled, grind (arith, nat_tests)))
-  | inr h ↦ absurd (cc (h.1))
-]
-
 index_of-some : (width n : ℕ) (digits : List ℕ) → index_of width digits ≡ Ok n → (digits ≡ decimal n) × (n < 2 ^ width)
 unfolding index_of
-index_of-some width n digits e = elim (chosen (nat_le (length digits) 5) (or_fault tt (decimal_of digits) >>= where_below (2 ^ width)) (Err tt) (Ok n) e) [
-  | inl h ↦ (
-      let read = bind_ok (or_fault tt (decimal_of digits)) (where_below (2 ^ width)) n h.1 in
-      let is = or_fault_ok tt (decimal_of digits) read.0 read.1 in
-      let short : length digits ≤ 5 = grind (arith, nat_tests) in
-      let lt : read.0 < 10 ^ 5 = decimal_of-below digits read.0 5 short is in
-      where_below-some (2 ^ width) read.0 n digits (decimal_of-some digits read.0 (omega arith) is) read.2)
-  | inr h ↦ absurd (cc (h.1))
-]
+index_of-some width n digits e =
+    let where_below = λ (m : ℕ). cond {A = Result ℕ (Unit {0})} (nat_lt m (2 ^ width)) (Ok m) (Err tt) in
+    let short = kept (nat_le (length digits) 5) (or_fault tt (decimal_of digits) >>= where_below) tt n e in
+    let few = short.0 in
+    let read = bind_ok (or_fault tt (decimal_of digits)) where_below n short.1 in
+    let is = or_fault_ok tt (decimal_of digits) read.0 read.1 in
+    let lt : read.0 < 10 ^ 5 = decimal_of-below digits read.0 5 (grind (arith, nat_tests)) is in
+    let below = kept (nat_lt read.0 (2 ^ width)) (Ok read.0) tt n read.2 in
+    let fits = below.0 in
+    let same = ok_is read.0 n below.1 in
+    rw (← same) (decimal_of-some digits read.0 (omega arith) is, grind (arith, nat_tests))
 
 pub index_field-spelled : (present : Bool) (key width default n : ℕ) (words rest : List (List ℕ)) → n < 2 ^ width → width ≤ 7 → (present ≡ false → n ≡ default)
     → words ≡ signal_words present key (decimal n) ++ rest → index_field present key width default words ≡ Ok (n, rest)
@@ -126,14 +109,14 @@ unfolding index_field
 index_field-spelled false key width default n words rest below few absent e = rw (e, absent refl) refl
 index_field-spelled true key width default n words rest below few absent e = rw (e, value_of-spelled key (decimal n) rest, index_of-spelled width n below few) refl
 
--- what was read of a number of a lane
-pub record IndexRead (present : Bool) (key width default : ℕ) (words : List (List ℕ)) (x : ℕ × List (List ℕ)) : Type 0 where
-  pub spelled : words ≡ signal_words present key (decimal x.0) ++ x.1
+-- what was read of a number that is spelled so
+pub record NumberRead (text : ℕ → List ℕ) (present : Bool) (key width default : ℕ) (words : List (List ℕ)) (x : ℕ × List (List ℕ)) : Type 0 where
+  pub spelled : words ≡ signal_words present key (text x.0) ++ x.1
   pub below : x.0 < 2 ^ width
   pub absent : present ≡ false → x.0 ≡ default
 
 pub index_field-some : (present : Bool) (key width default : ℕ) (words : List (List ℕ)) (x : ℕ × List (List ℕ)) → default < 2 ^ width → index_field present key width default words ≡ Ok x
-    → IndexRead present key width default words x
+    → NumberRead decimal present key width default words x
 unfolding index_field
 index_field-some false key width default words x fits e =
     let same = ok_is (default, words) x e in
@@ -164,13 +147,7 @@ strobe_bits lanes bits wide =
     let none : length bits + 0 ≡ lanes = omega arith in
     ap (λ (count : ℕ). bits_of count (number_of_bits bits)) (sym none) ∙ bits_of-number_of_bits bits 0 ∙ append-nil bits
 
--- what was read of strobe bits
-pub record StrobeRead (present : Bool) (lanes : ℕ) (words : List (List ℕ)) (x : ℕ × List (List ℕ)) : Type 0 where
-  pub spelled : words ≡ signal_words present 98 (hex_of (bits_of lanes x.0)) ++ x.1
-  pub below : x.0 < 2 ^ lanes
-  pub absent : present ≡ false → x.0 ≡ 2 ^ lanes - 1
-
-pub strobe_field-some : (present : Bool) (lanes : ℕ) (words : List (List ℕ)) (x : ℕ × List (List ℕ)) → strobe_field present lanes words ≡ Ok x → StrobeRead present lanes words x
+pub strobe_field-some : (present : Bool) (lanes : ℕ) (words : List (List ℕ)) (x : ℕ × List (List ℕ)) → strobe_field present lanes words ≡ Ok x → NumberRead (λ n. hex_of (bits_of lanes n)) present 98 lanes (2 ^ lanes - 1) words x
 unfolding strobe_field
 strobe_field-some false lanes words x e =
     let same = ok_is (2 ^ lanes - 1, words) x e in

@@ -1,10 +1,7 @@
 -- How long the texts of a trace are.
-use Rattle.std.proofs.Common.{◌≡◌, ℕ, ◌+◌, ◌/◌, ◌%◌, ◌^◌, ◌<◌, ◌≤◌, Bool, true, false, if◌then◌else◌, is_some, List, [], ◌∷◌, ◌++◌, length, take, get_or, append-nil, length-append, refl, sym, ap, ◌∙◌, arith}
+use Rattle.std.proofs.Common.{◌≡◌, ℕ, ◌+◌, ◌<◌, Bool, true, false, if◌then◌else◌, is_some, List, [], ◌∷◌, ◌++◌, length, length-append, refl, ap, ◌∙◌, arith}
 use Rattle.std.specs.Fmt.{decimal}
-use Rattle.std.specs.List.{flat_map, join_with_byte}
-use Rattle.std.proofs.lemmas.Fmt.{decimal_digit, decimal_step}
-use Rattle.std.proofs.lemmas.List.{take_more}
-use Rattle.std.proofs.lemmas.List.Concat.{flat_map-append}
+use Rattle.std.specs.List.{flat_map}
 use Rattle.tydi_base.specs.Bits.{bits_of}
 use Rattle.tydi_base.specs.Hex.{hex_of}
 use Rattle.tydi_base.specs.Path.{path_text}
@@ -13,40 +10,11 @@ use Rattle.physical_stream.specs.Cycles.{Cycle}
 use Rattle.physical_stream.specs.declared.head.Head.{Head}
 use Rattle.physical_stream.specs.declared.transfer.Transfer.{Transfer}
 use Rattle.signal_layout.specs.declared.layout.Signals.{Signals}
-use Rattle.cycle_trace.specs.Spelling.{direction_text, head_text, header_text, or_dash, payload_words, row_line, row_text, signal_words, transfer_words}
+use Rattle.physical_stream.specs.StreamLine.{direction_text, head_text}
+use Rattle.cycle_trace.specs.Spelling.{header_text, or_dash, payload_words, row_line, row_text, signal_words, transfer_words}
 use Rattle.cycle_trace.specs.Writing.{AreSignalsOf, spaced}
 use Rattle.cycle_trace.proofs.RowLengthLemmas.{length-row_line, length-signal}
 use Rattle.cycle_trace.proofs.WritingLemmas.{signals_written}
-
--- ---- decimal numbers
-
-pub length-decimal_one : (n : ℕ) → n < 10 → length (decimal n) ≡ 1
-length-decimal_one n few = ap length (decimal_digit n few)
-
-pub length-decimal_more : (n : ℕ) → 10 ≤ n → n < 2 ^ 64 → length (decimal n) ≡ length (decimal (n / 10)) + 1
-length-decimal_more n more below = ap length (decimal_step n more below) ∙ length-append (decimal (n / 10)) ((48 + n % 10) ∷ [])
-
--- ---- lists of parts
-
--- one part more
-pub length-parts_more : {A : Type 0} (part : A → List ℕ) (xs : List A) (i : ℕ) (x : A) → i < length xs → x ≡ get_or xs i x → length (flat_map part (take (i + 1) xs)) ≡ length (flat_map part (take i xs)) + length (part x)
-length-parts_more part xs i x within is =
-    let parts : take (i + 1) xs ≡ take i xs ++ x ∷ [] = take_more xs i x within ∙ ap (λ y. take i xs ++ y ∷ []) (sym is) in
-    ap (λ ys. length (flat_map part ys)) parts ∙ ap length (flat_map-append part (take i xs) (x ∷ []))
-    ∙ length-append (flat_map part (take i xs)) (part x ++ []) ∙ ap (λ (text : List ℕ). length (flat_map part (take i xs)) + length text) (append-nil (part x))
-
--- ---- paths
-
--- a name after a point
-abbrev pub pointed : List ℕ → List ℕ
-pointed name = 46 ∷ name
-
-joined : (name : List ℕ) (names : List (List ℕ)) → join_with_byte 46 (name ∷ names) ≡ name ++ flat_map pointed names
-joined name [] = sym (append-nil name)
-joined name (next ∷ names) = ap (λ (rest : List ℕ). name ++ 46 ∷ rest) (joined next names)
-
-pub length-path_text : (name : List ℕ) (names : List (List ℕ)) → length (path_text (name ∷ names)) ≡ length name + length (flat_map pointed names)
-length-path_text name names = ap length (joined name names) ∙ length-append name (flat_map pointed names)
 
 -- ---- heads and headers
 

@@ -1,5 +1,5 @@
 -- The text of a trace: what is spelled is read, and what is read is spelled so.
-use Rattle.std.proofs.Common.{◌≡◌, ℕ, ◌+◌, ◌*◌, ◌^◌, ◌<◌, ◌≤◌, Bool, true, false, nat_le, nat_eq, List, [], ◌∷◌, ◌++◌, length, drop, Result, Ok, Err, append_assoc, All, refl, sym, ap, ◌∙◌, inl, inr, arith}
+use Rattle.std.proofs.Common.{◌≡◌, ℕ, ◌+◌, ◌*◌, ◌^◌, ◌<◌, ◌≤◌, Bool, true, false, nat_le, nat_eq, List, [], ◌∷◌, ◌++◌, length, drop, Result, Ok, append_assoc, All, refl, sym, ap, ◌∙◌, arith}
 use Rattle.std.specs.Prelude.{codes}
 use Rattle.std.specs.Fmt.{decimal}
 use Rattle.std.specs.List.{flat_map, join_with_byte, starts_with}
@@ -11,22 +11,25 @@ use Rattle.std.proofs.lemmas.Slice.Eq.{bytes_eq-Decides, starts_is}
 use Rattle.tydi_base.specs.Pieces.{lines_of}
 use Rattle.tydi_base.specs.Reading.{◌>>=◌}
 use Rattle.tydi_base.proofs.PieceLaws.{join-pieces_of}
-use Rattle.tydi_base.proofs.ReadingLaws.{bind_ok, chosen, ok_is}
+use Rattle.tydi_base.proofs.ReadingLaws.{bind_ok, ok_is}
+use Rattle.tydi_base.proofs.TestLemmas.{kept}
 use Rattle.physical_stream.specs.Params.{Parameters}
 use Rattle.physical_stream.specs.Cycles.{Cycle}
 use Rattle.physical_stream.specs.declared.head.Head.{Head}
+use Rattle.tydi_base.proofs.SetLemmas.{are_new-none}
 use Rattle.cycle_trace.specs.declared.fault.TraceFault.{TraceFault}
 use Rattle.cycle_trace.specs.declared.fault.TraceFault.TheVariants.{TooManyCycles}
-use Rattle.cycle_trace.specs.HeaderText.{header_number, is_head_line, in_header, heads_from, count_of_cycles, HeaderStart, title_of, header_start_after, header_start_of}
-use Rattle.cycle_trace.specs.Spelling.{IsHead, head_text, header_text, bit_text, row_line, rows_text, TracesAreReadAsSpelled, TracesAreSpelledAsRead}
-use Rattle.cycle_trace.specs.Trace.{TraceText, AreShown, all_distinct, are_heads, most_cycles, params_of_heads, owed}
+use Rattle.physical_stream.specs.StreamLine.{header_number}
+use Rattle.cycle_trace.specs.HeaderText.{is_head_line, in_header, heads_from, count_of_cycles, HeaderStart, title_of, header_start_after, header_start_of}
+use Rattle.physical_stream.specs.StreamLine.{IsHead, head_text}
+use Rattle.cycle_trace.specs.Spelling.{trace_text, header_text, bit_text, row_line, rows_text, TracesAreReadAsSpelled, TracesAreSpelledAsRead}
+use Rattle.cycle_trace.specs.Trace.{TraceText, IsTrace, AreShown, all_distinct, are_heads, most_cycles, params_of_heads, owed}
 use Rattle.cycle_trace.specs.TraceText.{rows_after, trace_from, trace_of}
-use Rattle.cycle_trace.proofs.PlainWords.{and_parts, both, decimal-plain, lines_of-plain}
+use Rattle.tydi_base.proofs.PlainWords.{are_plain, and_parts, both, decimal-plain, lines_of-plain, some_line}
 use Rattle.cycle_trace.proofs.HeaderLemmas.{heads_from-other}
-use Rattle.cycle_trace.proofs.RowsLemmas.{some_line}
 use Rattle.cycle_trace.proofs.RowsSpelling.{have_lanes, have_lanes-first, have_lanes-owed, rows_text-lines, AreShown-first, rows_from-spelled, rows_from-some}
-use Rattle.cycle_trace.proofs.HeadSpelling.{header_number-spelled, header_number-some}
-use Rattle.cycle_trace.proofs.HeadsSpelling.{paths_of, are_new-none, in_header-some, EndsHeads, MayFollow, heads_from-spelled, heads_from-some}
+use Rattle.physical_stream.proofs.HeadSpelling.{header_number-spelled, header_number-some}
+use Rattle.cycle_trace.proofs.HeadsSpelling.{paths_of, in_header-some, EndsHeads, MayFollow, heads_from-spelled, heads_from-some}
 
 -- ---- rows are no stream lines
 
@@ -51,17 +54,13 @@ count_of_cycles-spelled cycles below = header_number-spelled cycles below
 
 count_of_cycles-some : (line : List ℕ) (cycles : ℕ) → count_of_cycles line ≡ Ok cycles → line ≡ codes "cycles " ++ decimal cycles
 unfolding count_of_cycles
-count_of_cycles-some line cycles e = elim (chosen (starts_with nat_eq line (codes "cycles ")) (header_number (drop 7 line)) (Err tt) (Ok cycles) e) [
-  | inl h ↦ (starts_is Decides-eqb line (codes "cycles ") (starts_with nat_eq line (codes "cycles ")) refl).0 h.0 ∙ ap (λ (digits : List ℕ). codes "cycles " ++ digits) (header_number-some (drop 7 line) cycles h.1)
-  | inr h ↦ absurd (cc (h.1))
-]
+count_of_cycles-some line cycles e =
+    let test = kept (starts_with nat_eq line (codes "cycles ")) (header_number (drop 7 line)) tt cycles e in
+    (starts_is Decides-eqb line (codes "cycles ") (starts_with nat_eq line (codes "cycles ")) refl).0 test.0 ∙ ap (λ (digits : List ℕ). codes "cycles " ++ digits) (header_number-some (drop 7 line) cycles test.1)
 
 title_of-some : (line : List ℕ) (fine : Unit {0}) → title_of line ≡ Ok fine → line ≡ codes "tydi-trace 1"
 unfolding title_of
-title_of-some line fine e = elim (chosen (bytes_eq line (codes "tydi-trace 1")) (Ok tt) (Err tt) (Ok fine) e) [
-  | inl h ↦ (bytes_eq-Decides line (codes "tydi-trace 1")).0 h.0
-  | inr h ↦ absurd (cc (h.1))
-]
+title_of-some line fine e = (bytes_eq-Decides line (codes "tydi-trace 1")).0 (kept (bytes_eq line (codes "tydi-trace 1")) (Ok tt) tt fine e).0
 
 header_start_of-cons : (lines : List (List ℕ)) (cycles : ℕ) (found : List Head × List (List ℕ)) → cycles < 10 ^ 10 → 0 < length lines → heads_from 3 [] lines ≡ Ok found
     → header_start_of (codes "tydi-trace 1" ∷ (codes "cycles " ++ decimal cycles) ∷ lines) ≡ Ok (record { cycles = cycles; heads = found.0; lines = found.1 })
@@ -78,15 +77,13 @@ record HeaderStartRead (lines : List (List ℕ)) (start : HeaderStart) : Type 0 
 joined : (title line : List ℕ) (lines rest : List (List ℕ)) (cycles : ℕ) (heads : List Head) → title ≡ codes "tydi-trace 1" → line ≡ codes "cycles " ++ decimal cycles
     → join_with_byte 10 lines ≡ flat_map head_text heads ++ join_with_byte 10 rest
     → title ++ 10 ∷ (line ++ 10 ∷ join_with_byte 10 lines) ≡ header_text cycles heads ++ join_with_byte 10 rest
-joined title line lines rest cycles heads p q r = rw (p, q, r, append_assoc (decimal cycles) (10 ∷ flat_map head_text heads) (join_with_byte 10 rest)) refl
+joined title line lines rest cycles heads p q r = rw (p, q, r, append_assoc (decimal cycles) (10 ∷ flat_map head_text heads) (join_with_byte 10 rest))
 
 header_start_of-some : (lines : List (List ℕ)) (start : HeaderStart) → header_start_of lines ≡ Ok start → HeaderStartRead lines start
 unfolding header_start_of header_start_after
 header_start_of-some [] start e = absurd cc
 header_start_of-some (title ∷ []) start e = absurd cc
-header_start_of-some (title ∷ line ∷ []) start e =
-    let fine = bind_ok (in_header 1 (title_of title)) _ start e in
-    absurd (cc (fine.2))
+header_start_of-some (title ∷ line ∷ []) start e = absurd (cc ((bind_ok (in_header 1 (title_of title)) _ start e).2))
 header_start_of-some (title ∷ line ∷ next ∷ lines) start e =
     let fine = bind_ok (in_header 1 (title_of title)) _ start e in
     let cycles = bind_ok (in_header 2 (count_of_cycles line)) _ start fine.2 in
@@ -126,19 +123,14 @@ are_heads-from heads h =
 pub header_start_of-are_heads : (lines : List (List ℕ)) (start : HeaderStart) → header_start_of lines ≡ Ok start → are_heads start.heads ≡ true
 header_start_of-are_heads lines start e = are_heads-from start.heads (header_start_of-some lines start e).may
 
-title_line : (rest : List ℕ) → lines_of (codes "tydi-trace 1" ++ 10 ∷ rest) ≡ codes "tydi-trace 1" ∷ lines_of rest
-title_line rest = lines_of-plain (codes "tydi-trace" ∷ codes "1" ∷ []) rest refl
-
-cycles_line : (cycles : ℕ) (rest : List ℕ) → cycles < 2 ^ 64 → lines_of ((codes "cycles " ++ decimal cycles) ++ 10 ∷ rest) ≡ (codes "cycles " ++ decimal cycles) ∷ lines_of rest
-cycles_line cycles rest below = lines_of-plain (codes "cycles" ∷ decimal cycles ∷ []) rest (rw (decimal-plain cycles below) refl)
-
 header_lines : (cycles : ℕ) (heads : List Head) (rest : List ℕ) → cycles < 2 ^ 64
     → lines_of (header_text cycles heads ++ rest) ≡ codes "tydi-trace 1" ∷ (codes "cycles " ++ decimal cycles) ∷ lines_of (flat_map head_text heads ++ rest)
 header_lines cycles heads rest below =
     let after = flat_map head_text heads ++ rest in
+    let plain : are_plain (codes "cycles" ∷ decimal cycles ∷ []) ≡ true = rw (decimal-plain cycles below) refl in
     ap (λ (text : List ℕ). lines_of (codes "tydi-trace 1" ++ 10 ∷ (codes "cycles " ++ text))) (append_assoc (decimal cycles) (10 ∷ flat_map head_text heads) rest)
-    ∙ title_line ((codes "cycles " ++ decimal cycles) ++ 10 ∷ after)
-    ∙ ap (λ (lines : List (List ℕ)). codes "tydi-trace 1" ∷ lines) (cycles_line cycles after below)
+    ∙ lines_of-plain (codes "tydi-trace" ∷ codes "1" ∷ []) ((codes "cycles " ++ decimal cycles) ++ 10 ∷ after) refl
+    ∙ ap (λ (lines : List (List ℕ)). codes "tydi-trace 1" ∷ lines) (lines_of-plain (codes "cycles" ∷ decimal cycles ∷ []) after plain)
 
 trace_from-spelled : (t : TraceText) (lines : List (List ℕ)) → t.cycles ≤ most_cycles → rows_after t.cycles t.heads lines ≡ Ok t.rows
     → trace_from (record { cycles = t.cycles; heads = t.heads; lines = lines }) ≡ Ok t
@@ -162,52 +154,21 @@ trace_of-spelled t h each =
     ∙ ap (λ (read : Result HeaderStart TraceFault). read >>= trace_from) start
     ∙ trace_from-spelled t (lines_of rows) few read
 
--- what was read after that header
-record FromRead (start : HeaderStart) (t : TraceText) : Type 0 where
-  few : start.cycles ≤ most_cycles
-  rows : rows_after start.cycles start.heads start.lines ≡ Ok t.rows
-  cycles_are : start.cycles ≡ t.cycles
-  heads_are : start.heads ≡ t.heads
-
-trace_from-some : (start : HeaderStart) (t : TraceText) → trace_from start ≡ Ok t → FromRead start t
+-- what is read after that header
+trace_from-some : (start : HeaderStart) (text : List ℕ) (t : TraceText) → HeaderStartRead (lines_of text) start → trace_from start ≡ Ok t → IsTrace t × (text ≡ trace_text t) × All IsHead t.heads
 unfolding trace_from
-trace_from-some start t e = elim (chosen (nat_le start.cycles most_cycles)
-    (rows_after start.cycles start.heads start.lines >>= λ rows. Ok (record { cycles = start.cycles; heads = start.heads; rows = rows })) (Err TooManyCycles) (Ok t) e) [
-      | inl h ↦ (
-          let test = h.0 in
-          let rows = bind_ok (rows_after start.cycles start.heads start.lines) _ t h.1 in
-          let same = ok_is (record { cycles = start.cycles; heads = start.heads; rows = rows.0 }) t rows.2 in
-          rw (← same) (record { few = grind (arith, nat_tests); rows = rows.1; cycles_are = refl; heads_are = refl }))
-      | inr h ↦ absurd (cc (h.1))
-    ]
-
--- what a text reads as
-record TraceRead (text : List ℕ) (cycles : ℕ) (heads : List Head) (rows : List Cycle) : Type 0 where
-  spelled : text ≡ header_text cycles heads ++ rows_text (owed (params_of_heads heads) cycles) rows
-  shown : AreShown (owed (params_of_heads heads) cycles) rows
-
-rows_after-some : (start : HeaderStart) (text : List ℕ) (rows : List Cycle) → HeaderStartRead (lines_of text) start → rows_after start.cycles start.heads start.lines ≡ Ok rows
-    → TraceRead text start.cycles start.heads rows
-rows_after-some start text rows h e =
+trace_from-some start text t h e =
     let streams = owed (params_of_heads start.heads) start.cycles in
-    let read = rows_from-some (start.cycles * length start.heads) 0 (3 + length start.heads) streams start.lines rows h.some e in
-    record {
-      spelled = sym (join-pieces_of 10 text) ∙ h.spelled ∙ ap (λ (rest : List ℕ). header_text start.cycles start.heads ++ rest) read.spelled;
-      shown = read.shown;
-    }
+    let test = kept (nat_le start.cycles most_cycles) (rows_after start.cycles start.heads start.lines >>= λ rows. Ok (record { cycles = start.cycles; heads = start.heads; rows = rows })) TooManyCycles t e in
+    let few = test.0 in
+    let rows = bind_ok (rows_after start.cycles start.heads start.lines) _ t test.1 in
+    let same = ok_is (record { cycles = start.cycles; heads = start.heads; rows = rows.0 }) t rows.2 in
+    let read = rows_from-some (start.cycles * length start.heads) 0 (3 + length start.heads) streams start.lines rows.0 h.some rows.1 in
+    let spelled = sym (join-pieces_of 10 text) ∙ h.spelled ∙ ap (λ (rest : List ℕ). header_text start.cycles start.heads ++ rest) read.spelled in
+    rw (← same) (record { few_cycles = grind (arith, nat_tests); streams = are_heads-from start.heads h.may; shown = read.shown }, spelled, h.may.each)
 
 pub trace_of-some : TracesAreSpelledAsRead
 unfolding trace_of
 trace_of-some text t e =
     let start = bind_ok (header_start_of (lines_of text)) trace_from t e in
-    let header = header_start_of-some (lines_of text) start.0 start.1 in
-    let from = trace_from-some start.0 t start.2 in
-    let read = rows_after-some start.0 text t.rows header from.rows in
-    let few = from.few in
-    let cycles_are = from.cycles_are in
-    let whole : TraceRead text t.cycles t.heads t.rows = rw (from.cycles_are, from.heads_are) at read in
-    let may : MayFollow [] t.heads = rw (from.heads_are) at (header.may) in (
-      record { few_cycles = omega arith; streams = are_heads-from t.heads may; shown = whole.shown },
-      whole.spelled,
-      may.each,
-    )
+    trace_from-some start.0 text t (header_start_of-some (lines_of text) start.0 start.1) start.2

@@ -4,22 +4,20 @@ use Rattle.std.specs.List.{slice_get}
 use Rattle.std.specs.Option.{option_map, option_to_list}
 use Rattle.std.proofs.lemmas.List.{length-map}
 use Rattle.std.proofs.lemmas.Nat.{mul-add-lt}
-use Rattle.std.proofs.lemmas.Option.{slice_get-get_or, slice_get-map, get_or_from_slice_get}
+use Rattle.std.proofs.lemmas.Option.{slice_get-get_or, slice_get-map}
 use Rattle.physical_stream.specs.Signals.{Shows}
 use Rattle.physical_stream.specs.declared.head.Head.{Head}
 use Rattle.physical_stream.specs.declared.head.Header.{Header}
 use Rattle.physical_stream.specs.declared.transfer.Transfer.{Transfer}
 use Rattle.cycle_trace.specs.declared.own_row.OwnRow.{OwnRow}
-use Rattle.cycle_trace.specs.Trace.{IsTrace, cycle_of, cycles_of, owed, params_of_heads, row_in, text_of}
+use Rattle.cycle_trace.specs.Trace.{IsTrace, cycle_of, cycles_of, row_in, text_of}
 use Rattle.cycle_trace.specs.TraceView.{IsShownIn}
-use Rattle.cycle_trace.proofs.RowsLemmas.{length-owed, get_or-owed}
+use Rattle.cycle_trace.proofs.RowsLemmas.{length-owed_heads, owed_at}
 
 module _ (header : Header) (rows : List OwnRow) (whole : IsTrace (text_of header rows)) where
   -- there is a row for each cycle and stream
   pub length-rows : length rows ≡ header.cycles * length header.heads
-  length-rows =
-      let streams : length (params_of_heads header.heads) ≡ length header.heads = length-map header.heads (λ (head : Head). head.params) in
-      sym (length-map rows cycle_of) ∙ whole.shown.many ∙ length-owed (params_of_heads header.heads) header.cycles ∙ ap (λ (n : ℕ). header.cycles * n) streams
+  length-rows = sym (length-map rows cycle_of) ∙ whole.shown.many ∙ length-owed_heads (text_of header rows)
 
   module _ (cycle stream : ℕ) (cycle_in : cycle < header.cycles) (stream_in : stream < length header.heads) where
     pub row_within : cycle * length header.heads + stream < length rows
@@ -34,22 +32,9 @@ module _ (header : Header) (rows : List OwnRow) (whole : IsTrace (text_of header
       pub row_in-row : row_in (text_of header rows) stream cycle ≡ cycle_of row ∷ []
       row_in-row = ap option_to_list row_there
 
-      stream_there : (head : Head) → slice_get header.heads stream ≡ Some head → slice_get (owed (params_of_heads header.heads) header.cycles) (cycle * length header.heads + stream) ≡ Some head.params
-      stream_there head e =
-          let streams = params_of_heads header.heads in
-          let p = head.params in
-          let counted : length streams ≡ length header.heads = length-map header.heads (λ (h : Head). h.params) in
-          let place : cycle * length streams + stream ≡ cycle * length header.heads + stream = ap (λ (n : ℕ). cycle * n + stream) counted in
-          let within : cycle * length header.heads + stream < length (owed streams header.cycles) = omega (arith, row_within, length-rows, length-owed streams header.cycles, ap (λ (n : ℕ). header.cycles * n) counted) in
-          let inside : stream < length streams = omega (arith, counted) in
-          let here : slice_get streams stream ≡ Some p = slice_get-map (λ (h : Head). h.params) header.heads stream ∙ ap (option_map (λ (h : Head). h.params)) e in
-          let same : get_or (owed streams header.cycles) (cycle * length header.heads + stream) p ≡ p =
-          ap (λ (i : ℕ). get_or (owed streams header.cycles) i p) (sym place) ∙ get_or-owed streams header.cycles cycle stream p inside cycle_in ∙ get_or_from_slice_get streams stream p p here in
-          slice_get-get_or (owed streams header.cycles) (cycle * length header.heads + stream) p within ∙ ap Some same
-
       shown_by : (t : Transfer) → row.shown ≡ Some t → (found : Option Head) → slice_get header.heads stream ≡ found → IfSome found (λ head. Shows head.params t)
       shown_by t shown None e = tt
-      shown_by t shown (Some head) e = whole.shown.each (cycle * length header.heads + stream) head.params (cycle_of row) t (stream_there head e) row_there shown
+      shown_by t shown (Some head) e = whole.shown.each (cycle * length header.heads + stream) head.params (cycle_of row) t (owed_at header.heads header.cycles cycle stream head e cycle_in) row_there shown
 
       any_shown : (shown : Option Transfer) → row.shown ≡ shown → IfSome shown (λ t. IfSome (slice_get header.heads stream) (λ head. Shows head.params t))
       any_shown None e = tt

@@ -1,18 +1,18 @@
 -- Words of bits in a row, read by their size.
-use Rattle.std.proofs.Common.{◌≡◌, ℕ, ◌+◌, ◌/◌, Bool, true, false, eqb, List, ◌∷◌, length, Some, None, Result, Ok, Err, refl, arith}
+use Rattle.std.proofs.Common.{◌≡◌, ℕ, ◌+◌, ◌/◌, Bool, true, false, eqb, List, ◌∷◌, length, Some, None, Result, Ok, Err, refl}
 use Rattle.std.proofs.lemmas.Bool.{eqb-true, eq-eqb}
 use Rattle.tydi_base.specs.Hex.{word_at}
 use Rattle.tydi_base.specs.Pieces.{Lacks}
 use Rattle.tydi_base.proofs.HexBytes.{word_at-length}
 use Rattle.tydi_base.proofs.HexLemmas.{hex_of-word_at}
 use Rattle.cycle_trace.specs.RowText.{value_of, word_field}
-use Rattle.cycle_trace.specs.SizedValues.{HasNoSized, IsSized}
-use Rattle.cycle_trace.proofs.PlainWords.{hex_of-plain, plain-lacks}
+use Rattle.tydi_base.specs.WordsLeft.{HasNoSized, IsSized}
+use Rattle.tydi_base.proofs.PlainWords.{hex_of-plain, plain-lacks}
 use Rattle.cycle_trace.proofs.SignalSpelling.{value_of-some, value_of-spelled}
 
 -- digits of a word have no space in them
 pub word_at-lacks : (width : ℕ) (digits : List ℕ) (bits : List Bool) → word_at width digits ≡ Some bits → Lacks 32 digits
-word_at-lacks width digits bits is = rw (hex_of-word_at width digits bits is).0 (plain-lacks 32 _ (omega arith) (hex_of-plain bits))
+word_at-lacks width digits bits is = rw (hex_of-word_at width digits bits is).0 (plain-lacks _ (hex_of-plain bits))
 
 module _ (key width : ℕ) (words : List (List ℕ)) where
   -- a field of which no value spells a word

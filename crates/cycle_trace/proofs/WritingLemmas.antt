@@ -1,5 +1,5 @@
 -- Texts as they are written, part after part.
-use Rattle.std.proofs.Common.{◌≡◌, ℕ, ◌^◌, ◌<◌, Bool, true, false, ltb, List, ◌∷◌, ◌++◌, Option, Some, None, append_assoc, refl, sym, ap, ◌∙◌, arith}
+use Rattle.std.proofs.Common.{◌≡◌, ℕ, ◌^◌, ◌<◌, Bool, true, ltb, List, ◌∷◌, ◌++◌, Option, Some, None, append_assoc, refl, sym, ◌∙◌, arith}
 use Rattle.std.specs.Fmt.{decimal}
 use Rattle.std.specs.Option.{is_some}
 use Rattle.std.proofs.lemmas.Bool.Decides.{nat_tests}
@@ -7,25 +7,16 @@ use Rattle.std.proofs.lemmas.List.Concat.{flat_map-append}
 use Rattle.tydi_base.specs.Bits.{bits_of}
 use Rattle.tydi_base.specs.Hex.{hex_of}
 use Rattle.tydi_base.specs.Numbers.{word_of_number}
-use Rattle.signal_layout.specs.Layout.{is_present, where_present, bits_of_signal, width_in}
 use Rattle.signal_layout.specs.declared.layout.Signals.{Signals}
-use Rattle.signal_layout.specs.declared.signal.Signal.{Signal}
 use Rattle.signal_layout.specs.declared.signal.Signal.TheVariants as signals
 use Rattle.physical_stream.specs.Params.{Parameters}
 use Rattle.physical_stream.specs.Signals.{has_content, has_last, has_stai, has_endi, has_strb, has_user}
 use Rattle.physical_stream.specs.declared.transfer.Transfer.{Transfer}
 use Rattle.cycle_trace.specs.Spelling.{signal_words, words_of_signals}
+use Rattle.cycle_trace.proofs.LayoutLemmas.{there}
 use Rattle.cycle_trace.specs.Writing.{AreSignalsOf, spaced}
 
 -- ---- the signals of a transfer
-
--- a stream has a signal where it gives it a width
-is_some-width : (layout : Signals) (p : Parameters) (s : Signal) → AreSignalsOf layout p → is_some (width_in layout s) ≡ is_present p s
-is_some-width layout p s h = ap is_some (h s) ∙ has_width (is_present p s) (bits_of_signal p s)
-  where
-    has_width : (present : Bool) (bits : ℕ) → is_some (where_present present bits) ≡ present
-    has_width true bits = refl
-    has_width false bits = refl
 
 pub signals_together : (a b c d e f : List (List ℕ)) → spaced (a ++ b ++ c ++ d ++ e ++ f) ≡ spaced a ++ (spaced b ++ (spaced c ++ (spaced d ++ (spaced e ++ spaced f))))
 signals_together a b c d e f =
@@ -40,12 +31,12 @@ pub signals_written : (layout : Signals) (p : Parameters) (t : Transfer) (strb :
     ++ (spaced (signal_words (is_some layout.strb) 98 (hex_of strb)) ++ spaced (signal_words (is_some layout.user) 117 (hex_of t.user))))))
 signals_written layout p t strb h =
     rw (
-      is_some-width layout p signals.Content h,
-      is_some-width layout p signals.Last h,
-      is_some-width layout p signals.Stai h,
-      is_some-width layout p signals.Endi h,
-      is_some-width layout p signals.Strb h,
-      is_some-width layout p signals.User h,
+      there p layout h signals.Content,
+      there p layout h signals.Last,
+      there p layout h signals.Stai,
+      there p layout h signals.Endi,
+      there p layout h signals.Strb,
+      there p layout h signals.User,
     ) (signals_together (signal_words (has_content p) 100 (hex_of t.content)) (signal_words (has_last p) 108 (hex_of t.last)) (signal_words (has_stai p) 115 (decimal t.stai))
     (signal_words (has_endi p) 101 (decimal t.endi)) (signal_words (has_strb p) 98 (hex_of strb)) (signal_words (has_user p) 117 (hex_of t.user)))
 

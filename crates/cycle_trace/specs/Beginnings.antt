@@ -10,7 +10,7 @@ use Rattle.cycle_trace.specs.Faults.{fault_in}
 use Rattle.cycle_trace.specs.HeaderText.{HeaderStart, heads_from, header_start_of}
 use Rattle.cycle_trace.specs.Trace.{TraceText, owed, params_of_heads}
 use Rattle.cycle_trace.specs.TraceText.{rows_from, trace_of}
-use Rattle.cycle_trace.specs.TextSet.{HasTexts}
+use Rattle.tydi_base.specs.TextSet.{HasTexts}
 use Rattle.cycle_trace.specs.declared.fault.TraceFault.{TraceFault}
 
 -- the fault is the one that reading gives, unless memory ran out

@@ -2,9 +2,6 @@
 use Rattle.std.specs.Prelude.{ℕ, Option, Some, None}
 use Rattle.cycle_trace.specs.declared.fault.TraceFault.{TraceFault}
 use Rattle.cycle_trace.specs.declared.fault.TraceFault.TheVariants as faults
-use Rattle.cycle_trace.specs.declared.fault.Misspelling.{Misspelling}
-use Rattle.cycle_trace.specs.declared.fault.Misspelling.TheVariants as misspellings
-use Rattle.cycle_trace.specs.declared.fault.NotForm.{NotForm}
 
 -- the fault that an error stands for; want of memory is none
 abbrev pub fault_in : TraceFault → Option TraceFault
@@ -15,15 +12,6 @@ fault_in (faults.WrongSignals line) = Some (faults.WrongSignals line)
 fault_in (faults.RowsMissing want got) = Some (faults.RowsMissing want got)
 fault_in (faults.RowsLeft line) = Some (faults.RowsLeft line)
 fault_in faults.Memory = None
-
--- that words are not of their form; want of memory is none
-abbrev pub misspelling_in : Misspelling → Option (Unit {0})
-misspelling_in misspellings.NotForm = Some tt
-misspelling_in misspellings.Memory = None
-
--- that words are not of their form
-abbrev pub not_form_in : NotForm → Option (Unit {0})
-not_form_in e = Some tt
 
 -- the fault of the header line of this number, where there is one
 abbrev pub header_fault : ℕ → Option (Unit {0}) → Option TraceFault

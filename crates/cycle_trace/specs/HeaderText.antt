@@ -1,61 +1,14 @@
--- The header of a trace text, version 1 (this project's own): the line `tydi-trace 1`, the line `cycles N`, and a line
--- `stream PATH lanes N dims D level C element E user U forward` or `.. reverse` for each stream. Lines are numbered from 1.
-use Rattle.std.specs.Prelude.{ℕ, suc, Bool, true, false, not, ◌==◌, ◌&&◌, nat_le, nat_lt, nat_eq, if◌then◌else◌, List, [], ◌∷◌, length, drop, Result, Ok, Err, codes}
-use Rattle.std.specs.List.{slice_index_or, starts_with, list_any}
+-- The header of a trace text, version 1 (this project's own): the line `tydi-trace 1`, the line `cycles N`, and the line of
+-- each stream. Lines are numbered from 1.
+use Rattle.std.specs.Prelude.{ℕ, suc, Bool, not, ◌&&◌, nat_lt, nat_eq, if◌then◌else◌, List, [], ◌∷◌, length, drop, Result, Ok, Err, codes}
+use Rattle.std.specs.List.{starts_with, list_any}
 use Rattle.std.specs.Str.{bytes_eq}
-use Rattle.tydi_base.specs.Reading.{◌>>=◌, or_fault}
-use Rattle.tydi_base.specs.Decimal.{decimal_of}
-use Rattle.tydi_base.specs.Pieces.{words_of}
-use Rattle.tydi_base.specs.Path.{path_of, path_text}
-use Rattle.physical_stream.specs.Params.{Parameters}
+use Rattle.tydi_base.specs.Reading.{◌>>=◌}
+use Rattle.tydi_base.specs.Path.{path_text}
+use Rattle.physical_stream.specs.StreamLine.{head_of, header_number}
 use Rattle.physical_stream.specs.declared.head.Head.{Head}
 use Rattle.cycle_trace.specs.declared.fault.TraceFault.{TraceFault}
 use Rattle.cycle_trace.specs.declared.fault.TraceFault.TheVariants.{BadHeader}
-
--- a number of a header: a decimal of at most ten digits
-unfoldable pub header_number : List ℕ → Result ℕ (Unit {0})
-header_number digits = if nat_le (length digits) 10 then or_fault tt (decimal_of digits) else Err tt
-
--- the numbers are parameters that a stream may have
-abbrev pub are_parameters : ℕ → ℕ → ℕ → ℕ → ℕ → Bool
-are_parameters lanes dims level element user =
-    nat_le 1 lanes && nat_le lanes 128 && nat_le dims 32 && nat_le 1 level && nat_le level 8 && nat_le element 4096 && nat_le user 4096
-
--- the parameters that five words spell
-unfoldable pub params_of : (lanes dims level element user : List ℕ) → Result Parameters (Unit {0})
-params_of lanes dims level element user = do
-  n ← header_number lanes
-  d ← header_number dims
-  c ← header_number level
-  e ← header_number element
-  u ← header_number user
-  if are_parameters n d c e u then Ok (record { lanes = n; dims = d; level = c; element = e; user = u }) else Err tt
-
--- whether a stream is reversed
-unfoldable pub direction_of : List ℕ → Result Bool (Unit {0})
-direction_of word = if bytes_eq word (codes "forward") then Ok false else (if bytes_eq word (codes "reverse") then Ok true else Err tt)
-
--- the word of this number, from 0
-abbrev pub nth : List (List ℕ) → ℕ → List ℕ
-nth words i = slice_index_or words i []
-
--- the words of a stream line stand in their places
-abbrev pub has_keys : List (List ℕ) → Bool
-has_keys words =
-    (length words == 13) && bytes_eq (nth words 0) (codes "stream") && bytes_eq (nth words 2) (codes "lanes") && bytes_eq (nth words 4) (codes "dims")
-    && bytes_eq (nth words 6) (codes "level") && bytes_eq (nth words 8) (codes "element") && bytes_eq (nth words 10) (codes "user")
-
--- the head that the words of a stream line spell
-unfoldable pub head_of_words : List (List ℕ) → Result Head (Unit {0})
-head_of_words words = do
-  path ← or_fault tt (path_of (nth words 1))
-  params ← params_of (nth words 3) (nth words 5) (nth words 7) (nth words 9) (nth words 11)
-  reversed ← direction_of (nth words 12)
-  Ok (record { path = path; params = params; reversed = reversed })
-
--- the head that a stream line spells
-unfoldable pub head_of : List ℕ → Result Head (Unit {0})
-head_of line = if has_keys (words_of line) then head_of_words (words_of line) else Err tt
 
 -- the head that a stream line spells after stream lines of these paths: not one of these, and not one too many
 unfoldable pub head_after : List (List ℕ) → List ℕ → Result Head (Unit {0})

@@ -1,16 +1,16 @@
 -- What a reader of traces stands for: the bytes that it was fed (this project's own).
-use Rattle.std.specs.Prelude.{◌≡◌, ℕ, ◌*◌, ◌<◌, ◌≤◌, Bool, true, false, is_some, List, [], ◌∷◌, ◌++◌, length, map, slice_get, if◌then◌else◌, Option, Some, None, Result, Ok, Err}
+use Rattle.std.specs.Prelude.{◌≡◌, ◌⊎◌, ℕ, ◌*◌, ◌<◌, ◌≤◌, Bool, true, false, is_some, List, [], ◌∷◌, ◌++◌, length, map, slice_get, if◌then◌else◌, Option, Some, None, Result, Ok, Err}
 use Rattle.std.specs.Option.{option_map}
 use Rattle.tydi_base.specs.Pieces.{Lacks, lines_of}
 use Rattle.physical_stream.specs.Cycles.{Cycle}
 use Rattle.physical_stream.specs.declared.transfer.Transfer.{Transfer}
-use Rattle.cycle_trace.specs.Beginnings.{Fails, GoesOn, IsFault, Opens, OpensWith}
+use Rattle.cycle_trace.specs.Beginnings.{Fails, GoesOn, IsFault, Opens, OpensWith, begun}
 use Rattle.cycle_trace.specs.Faults.{fault_in}
 use Rattle.cycle_trace.specs.HeaderText.{HeaderStart, header_start_of, header_start_after}
 use Rattle.cycle_trace.specs.LineBegun.{Begins}
 use Rattle.cycle_trace.specs.RowLayout.{rows_room}
 use Rattle.cycle_trace.specs.Surveying.{IsNextRow}
-use Rattle.cycle_trace.specs.TextSet.{HasTexts}
+use Rattle.tydi_base.specs.TextSet.{HasTexts}
 use Rattle.cycle_trace.specs.Trace.{TraceText, most_cycles, params_of_heads}
 use Rattle.cycle_trace.specs.declared.fault.TraceFault.{TraceFault}
 use Rattle.cycle_trace.specs.declared.line_begun.LineBegun.{LineBegun}
@@ -48,11 +48,19 @@ pub record HasNoHeads (text : TextRead) : Type 0 where
   pub heads : text.heads ≡ []
   pub paths : HasTexts text.paths []
 
+-- the header of every text that begins so has the heads that are read first, and goes on with the line that is begun
+abbrev pub OpensText : TextRead → (line bytes : List ℕ) → Type 0
+OpensText text line bytes = OpensWith bytes line text.cycles text.heads text.paths
+
+-- a trace with the header that is read, and no rows
+abbrev pub header_read : TextRead → TraceText
+header_read text = begun text.cycles text.heads
+
 -- what is known where the line that is begun is this
 abbrev pub StandsAt : {K : Type 0} → (K → Option TraceText → Type 0) → K → TextRead → Stage → (line bytes : List ℕ) → Type 0
 StandsAt stands sink text stages.Title line bytes = stands sink None × Lacks 10 line × HasNoHeads text × Opens bytes line header_start_of
 StandsAt stands sink text stages.Cycles line bytes = stands sink None × Lacks 10 line × HasNoHeads text × Opens bytes line header_start_after
-StandsAt stands sink text stages.Heads line bytes = stands sink None × Lacks 10 line × OpensWith bytes line text.cycles text.heads text.paths
+StandsAt stands sink text stages.Heads line bytes = stands sink None × Lacks 10 line × OpensText text line bytes
 StandsAt stands sink text stages.Rows line bytes = (t : TraceText) × (stands sink (Some t) × Lacks 10 line × ReadsRows text.rows t × GoesOn bytes line t)
 StandsAt stands sink text (stages.Failed fault) line bytes = Fails bytes fault
 
@@ -111,6 +119,10 @@ pub record EndsInHeader (bytes : List ℕ) : Type 0 where
   pub read : header_start_of (lines_of bytes) ≡ Ok start
   pub ends : start.lines ≡ [] ∷ []
   pub no_rows : start.cycles * length start.heads ≡ 0
+
+-- memory may be wanting: it ran out before, or the text ends with a header that asks for no rows
+abbrev pub MayLackMemory : TextRead → List ℕ → Type 0
+MayLackMemory text bytes = (text.stage ≡ stages.Failed Memory) ⊎ EndsInHeader bytes
 
 -- after a line: what is known where the next one begins, or the fault of every text that begins so
 abbrev pub AfterLine : {K : Type 0} → (K → Option TraceText → Type 0) → K → TextRead → List ℕ → Result (Unit {0}) TraceFault → Type 0

@@ -1,37 +1,16 @@
 -- The one text of a trace, version 1 (this project's own), and the laws that tie it to the reading.
-use Rattle.std.specs.Prelude.{◌≡◌, ℕ, Bool, if◌then◌else◌, List, [], ◌∷◌, ◌++◌, Option, Some, None, Ok, is_some, codes, decimal, IsTrue, All}
-use Rattle.std.specs.List.{flat_map, join_with_byte}
+use Rattle.std.specs.Prelude.{◌≡◌, ℕ, Bool, if◌then◌else◌, List, [], ◌∷◌, ◌++◌, Option, Some, None, Ok, is_some, codes, decimal, All}
+use Rattle.std.specs.List.{flat_map}
 use Rattle.tydi_base.specs.Bits.{bits_of}
 use Rattle.tydi_base.specs.Hex.{hex_of}
-use Rattle.tydi_base.specs.Path.{path_text}
-use Rattle.tydi_base.specs.Level.{IsLevel, number_of}
-use Rattle.tydi_base.specs.Name.{is_name}
-use Rattle.physical_stream.specs.Params.{Parameters, AreInRange}
+use Rattle.physical_stream.specs.Params.{Parameters}
+use Rattle.physical_stream.specs.StreamLine.{IsHead, LF, head_text, words_text}
 use Rattle.physical_stream.specs.Signals.{has_content, has_last, has_stai, has_endi, has_strb, has_user}
 use Rattle.physical_stream.specs.Cycles.{Cycle}
 use Rattle.physical_stream.specs.declared.transfer.Transfer.{Transfer}
 use Rattle.physical_stream.specs.declared.head.Head.{Head}
 use Rattle.cycle_trace.specs.Trace.{TraceText, IsTrace, params_of_heads, owed}
 use Rattle.cycle_trace.specs.TraceText.{trace_of}
-
-abbrev pub LF : ℕ
-LF = 10
-
--- words with one space between each two
-abbrev pub words_text : List (List ℕ) → List ℕ
-words_text words = join_with_byte 32 words
-
-abbrev pub direction_text : Bool → List ℕ
-direction_text reversed = if reversed then codes "reverse" else codes "forward"
-
--- the words of a stream line
-abbrev pub head_words : Head → List (List ℕ)
-head_words head =
-    codes "stream" ∷ path_text head.path ∷ codes "lanes" ∷ decimal head.params.lanes ∷ codes "dims" ∷ decimal head.params.dims ∷ codes "level" ∷ decimal (number_of head.params.level)
-    ∷ codes "element" ∷ decimal head.params.element ∷ codes "user" ∷ decimal head.params.user ∷ direction_text head.reversed ∷ []
-
-abbrev pub head_text : Head → List ℕ
-head_text head = words_text (head_words head) ++ LF ∷ []
 
 -- the text of a header of so many cycles and of these heads
 abbrev pub header_text : ℕ → List Head → List ℕ
@@ -79,12 +58,6 @@ rows_text streams cycles = []
 -- the text of a trace
 abbrev pub trace_text : TraceText → List ℕ
 trace_text t = header_text t.cycles t.heads ++ rows_text (owed (params_of_heads t.heads) t.cycles) t.rows
-
--- a head that a stream may have: names in its path, and parameters in their ranges. Each value of the type `Head` is one.
-pub record IsHead (head : Head) : Type 0 where
-  pub names : All (λ name. IsTrue (is_name name)) head.path
-  pub level : IsLevel head.params.level
-  pub range : AreInRange head.params.lanes head.params.dims head.params.element head.params.user
 
 -- what spells a trace is read as that trace
 abbrev pub TracesAreReadAsSpelled : Type 0

@@ -1,11 +1,12 @@
 -- The survey of a trace, row by row (this project's own).
 use Rattle.std.specs.Prelude.{◌≡◌, ℕ, ◌+◌, ◌*◌, ◌<◌, ◌≤◌, List, [], length, Option, Some, None, slice_get}
+use Rattle.physical_stream.specs.Cycles.{StreamTrace}
 use Rattle.physical_stream.specs.First.{Offence, Offends, IsFirst}
 use Rattle.physical_stream.specs.declared.head.Head.{Head}
 use Rattle.physical_stream.specs.declared.head.Header.{Header}
 use Rattle.complexity_rules.specs.Checking.{StandsFor, params_in}
 use Rattle.complexity_rules.specs.declared.checker.Checker.{Checker}
-use Rattle.cycle_trace.specs.Trace.{TraceText, cycles_of_stream, most_cycles, streams_of}
+use Rattle.cycle_trace.specs.Trace.{TraceText, most_cycles, streams_of}
 use Rattle.cycle_trace.specs.Survey.{UnfinishedStream}
 use Rattle.cycle_trace.specs.declared.survey_outcome.FoundOffence.{FoundOffence}
 use Rattle.cycle_trace.specs.declared.survey_outcome.FoundUnfinished.{FoundUnfinished}
@@ -16,20 +17,19 @@ offence_of found = record { cycle = found.cycle; stream = found.stream; rule = f
 abbrev pub unfinished_of : FoundUnfinished → UnfinishedStream
 unfinished_of found = record { stream = found.stream; end = found.end }
 
--- a checker of this stream stands for the cycles of it so far
-pub record IsChecked (t : TraceText) (stream : ℕ) (checker : Checker) (head : Head) : Type 0 where
-  pub params : params_in checker ≡ head.params
-  pub stands : StandsFor checker (cycles_of_stream t stream)
+-- a checker stands for the cycles of this stream so far
+pub record IsChecked (s : StreamTrace) (checker : Checker) : Type 0 where
+  pub params : params_in checker ≡ s.params
+  pub stands : StandsFor checker s.cycles
 
 -- there is such a checker for each stream
-pub record AreChecked (t : TraceText) (checkers : List Checker) : Type 0 where
-  pub many : length checkers ≡ length t.heads
-  pub each : (stream : ℕ) (checker : Checker) (head : Head) → slice_get checkers stream ≡ Some checker → slice_get t.heads stream ≡ Some head → IsChecked t stream checker head
+pub record AreChecked (streams : List StreamTrace) (checkers : List Checker) : Type 0 where
+  pub many : length checkers ≡ length streams
+  pub each : (i : ℕ) (s : StreamTrace) (checker : Checker) → slice_get streams i ≡ Some s → slice_get checkers i ≡ Some checker → IsChecked s checker
 
--- the first heads, this many, have a checker each, which has seen nothing
-pub record HaveCheckers (heads : List Head) (n : ℕ) (checkers : List Checker) : Type 0 where
-  pub many : length checkers ≡ n
-  pub each : (stream : ℕ) (checker : Checker) (head : Head) → slice_get checkers stream ≡ Some checker → slice_get heads stream ≡ Some head → (params_in checker ≡ head.params) × StandsFor checker []
+-- the stream of a head, of which no cycle has come
+abbrev pub unseen : Head → StreamTrace
+unseen head = record { params = head.params; cycles = [] }
 
 -- the offences of a trace by rules 1 to 10
 abbrev pub offends_in : TraceText → Offence → Type 0
@@ -37,7 +37,7 @@ offends_in t = Offends (streams_of t)
 
 -- what the rows so far say, by what offends: nothing does, and the checkers stand for the rows; or this is the first offence
 abbrev pub RowsSay : (Offence → Type 0) → TraceText → List Checker → Option FoundOffence → Type 0
-RowsSay Offends t checkers None = AreChecked t checkers × IsFirst Offends None
+RowsSay Offends t checkers None = AreChecked (streams_of t) checkers × IsFirst Offends None
 RowsSay Offends t checkers (Some found) = IsFirst Offends (Some (offence_of found))
 
 -- the next row is that of this stream in this cycle

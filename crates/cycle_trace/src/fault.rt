@@ -1,6 +1,5 @@
 ghost use Rattle.std.specs.Prelude.{◌≡◌};
 ghost use Rattle.cycle_trace.specs.declared.fault.TraceFault.TheVariants as faults;
-ghost use Rattle.cycle_trace.specs.declared.fault.Misspelling.TheVariants as misspellings;
 
 use tydi_base::Memory;
 
@@ -29,34 +28,5 @@ impl From<Memory> for TraceFault {
 
     fn from(_error: Memory) -> TraceFault {
         TraceFault::Memory
-    }
-}
-
-/// Why words were not read.
-#[derive(Clone, Copy, Debug, PartialEq, Eq)]
-pub(crate) enum Misspelling {
-    /// They are not of their form.
-    NotForm,
-    /// There was no memory.
-    Memory,
-}
-
-impl From<Memory> for Misspelling {
-    ghost from_gives = { λ _ e. e ≡ misspellings.Memory };
-
-    fn from(_error: Memory) -> Misspelling {
-        Misspelling::Memory
-    }
-}
-
-/// That words are not of their form.
-#[derive(Clone, Copy, Debug, PartialEq, Eq)]
-pub(crate) struct NotForm;
-
-impl From<NotForm> for Misspelling {
-    ghost from_gives = { λ _ e. e ≡ misspellings.NotForm };
-
-    fn from(_error: NotForm) -> Misspelling {
-        Misspelling::NotForm
     }
 }

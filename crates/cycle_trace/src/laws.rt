@@ -1,5 +1,6 @@
 ghost use Rattle.std.specs.List.{All};
-ghost use Rattle.cycle_trace.specs.Spelling.{IsHead, TracesAreReadAsSpelled, TracesAreSpelledAsRead};
+ghost use Rattle.physical_stream.specs.StreamLine.{IsHead};
+ghost use Rattle.cycle_trace.specs.Spelling.{TracesAreReadAsSpelled, TracesAreSpelledAsRead};
 
 use physical_stream::Head;
 

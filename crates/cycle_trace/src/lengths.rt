@@ -1,17 +1,17 @@
 //! How long the texts of a trace are, by their parts: nothing is written for it.
 
-ghost use Rattle.std.specs.Prelude.{◌≡◌, ◌+◌, ◌/◌, ◌^◌, ◌<◌, ◌≤◌, length, min, decimal, is_some, if◌then◌else◌, IfSome, IsTrue, Some};
-ghost use Rattle.tydi_base.specs.Path.{path_text};
+ghost use Rattle.std.specs.Prelude.{◌≡◌, ◌+◌, ◌^◌, ◌<◌, ◌≤◌, length, min, is_some, if◌then◌else◌, IfSome, IsTrue, Some};
 ghost use Rattle.physical_stream.specs.Cycles.{cycle_in};
 ghost use Rattle.physical_stream.specs.Signals.{Shows};
-ghost use Rattle.cycle_trace.specs.Lengths.{most_bytes};
-ghost use Rattle.cycle_trace.specs.Spelling.{head_text, header_text, payload_words, row_text, transfer_words};
+ghost use Rattle.tydi_base.specs.Lengths.{most_bytes};
+ghost use Rattle.physical_stream.specs.StreamLine.{head_text};
+ghost use Rattle.cycle_trace.specs.Spelling.{header_text, payload_words, row_text, transfer_words};
 ghost use Rattle.cycle_trace.specs.Trace.{are_heads, most_cycles};
 ghost use Rattle.cycle_trace.specs.Writing.{spaced};
 
 use physical_stream::{Head, Header, Params, Row, Transfer};
 use signal_layout::Signals;
-use tydi_base::Path;
+use tydi_base::{decimal_length, hex_length};
 
 /// How many bytes `write_header` adds; `u64::MAX` where they are more, which no memory holds.
 pub fn header_length(header: &Header) -> u64
@@ -36,36 +36,9 @@ fn head_length(head: &Head) -> u64
     let level = decimal_length(u64::from(p.level.number()));
     let element = decimal_length(u64::from(p.element));
     let user = decimal_length(u64::from(p.user));
-    path_length(&head.path).saturating_add(51 + lanes + dims + level + element + user)
-}
-
-/// How many bytes the text of a path has.
-fn path_length(path: &Path) -> u64
-    ensures { result ≡ min (length (path_text path.now)) most_bytes }
-{
-    let Some((first, others)) = path.names().split_first() else {
-        return 1;
-    };
-    let mut length = first.as_bytes().len() as u64;
-    'names: for name in others {
-        length = length.saturating_add(1);
-        length = length.saturating_add(name.as_bytes().len() as u64);
-    }
-    length
-}
-
-/// How many digits a number has.
-fn decimal_length(number: u64) -> u64
-    ensures digits { result ≡ length (decimal number) }
-    ensures few { result ≤ 20 }
-{
-    let mut left = number;
-    let mut digits = 1;
-    'digits: while left >= 10 {
-        left /= 10;
-        digits += 1;
-    }
-    digits
+    head.path
+        .dotted_length()
+        .saturating_add(51 + lanes + dims + level + element + user)
 }
 
 /// How many bytes `write_row` adds.
@@ -111,12 +84,4 @@ fn signal_length(width: Option<u32>, digits: u64) -> u64
     ensures { result ≡ (if is_some width then 3 + digits else 0) }
 {
     if width.is_some() { 3 + digits } else { 0 }
-}
-
-/// How many hexadecimal digits a word of this width has.
-fn hex_length(width: usize) -> u64
-    ensures digits { result ≡ (width + 3) / 4 }
-    ensures few { result ≤ 2 ^ 62 }
-{
-    width.div_ceil(4) as u64
 }

@@ -31,7 +31,6 @@ mod trace;
 mod trace_reader;
 mod trace_rows;
 mod turn;
-mod words_left;
 mod writing;
 
 pub use counts::{Counts, SurveyFault};
@@ -47,4 +46,4 @@ pub use surveyed::Surveyed;
 pub use surveyor::Surveyor;
 pub use trace::Trace;
 pub use trace_reader::TraceReader;
-pub use writing::{StreamLine, write_header, write_row};
+pub use writing::{write_header, write_row};

@@ -1,13 +1,14 @@
 //! One line more of a trace text.
 
-ghost use Rattle.std.specs.Prelude.{◌≡◌, ◌↔◌, ◌⊎◌, ◌++◌, ◌∷◌, [], ◌<◌, ◌≤◌, length, ℕ, List, true, false, IfErr, IsSome, IsTrue, OnOk, Some, None, Err};
+ghost use Rattle.std.specs.Prelude.{◌≡◌, ◌↔◌, ◌++◌, ◌∷◌, [], ◌<◌, ◌≤◌, length, ℕ, List, true, false, IfErr, IsSome, IsTrue, OnOk, Some, None, Err};
 ghost use Rattle.tydi_base.specs.Pieces.{Lacks};
+ghost use Rattle.tydi_base.specs.declared.pieces.TheConstants.{LINE_FEED};
 ghost use Rattle.tydi_base.specs.Reading.{Gives};
-ghost use Rattle.cycle_trace.specs.Beginnings.{EndsIn, Fails, GoesOnLine, OpensWith, begun};
+ghost use Rattle.cycle_trace.specs.Beginnings.{EndsIn, Fails, GoesOnLine};
 ghost use Rattle.cycle_trace.specs.Faults.{fault_in};
 ghost use Rattle.cycle_trace.specs.HeaderText.{is_head_line};
 ghost use Rattle.cycle_trace.specs.LineBegun.{IsLong};
-ghost use Rattle.cycle_trace.specs.ReaderView.{AfterLine, AfterRow, EndsInHeader, Finishes, Holds, ReadsRows, Stands, StaysCalm, StaysFailed, is_past_header};
+ghost use Rattle.cycle_trace.specs.ReaderView.{AfterLine, AfterRow, EndsInHeader, Finishes, Holds, MayLackMemory, OpensText, ReadsRows, Stands, StaysCalm, StaysFailed, header_read, is_past_header};
 ghost use Rattle.cycle_trace.specs.RowForm.{IsForm};
 ghost use Rattle.cycle_trace.specs.RowsText.{cut_row};
 ghost use Rattle.cycle_trace.specs.Trace.{TraceText, are_heads, most_cycles};
@@ -36,7 +37,7 @@ const MOST_CYCLES: u64 = 1_000_000;
 #[inline(always)]
 pub(crate) fn take_line<K: RowSink>(alloc: Global, sink: &mut K, text: &mut TextRead, line: &[u8])
     requires { (bytes : List ℕ) × Stands K.stands_for sink.old text.old line.now bytes }
-    ensures stands { (bytes : List ℕ) → Stands K.stands_for sink.old text.old line.now bytes → Stands K.stands_for sink.new text.new [] (bytes ++ 10 ∷ []) }
+    ensures stands { (bytes : List ℕ) → Stands K.stands_for sink.old text.old line.now bytes → Stands K.stands_for sink.new text.new [] (bytes ++ LINE_FEED ∷ []) }
     ensures failed { StaysFailed text.old.stage text.new.stage }
     ensures room { text.old.stage ≡ stages.Rows → text.new.rows.room ≡ text.old.rows.room }
     ensures fixed { K.fixed sink.new ≡ K.fixed sink.old }
@@ -114,7 +115,7 @@ fn start_rows<K: RowSink>(alloc: Global, sink: &mut K, text: &mut TextRead) -> R
     requires fresh { K.stands_for sink.old None }
     requires few { text.old.cycles ≤ most_cycles }
     requires streams { are_heads text.old.heads ≡ true }
-    ensures ok { OnOk result ((text.new.stage ≡ stages.Rows) × ReadsRows text.new.rows (begun text.old.cycles text.old.heads) × K.stands_for sink.new (Some (begun text.old.cycles text.old.heads))) }
+    ensures ok { OnOk result ((text.new.stage ≡ stages.Rows) × ReadsRows text.new.rows (header_read text.old) × K.stands_for sink.new (Some (header_read text.old))) }
     ensures fixed { K.fixed sink.new ≡ K.fixed sink.old }
 {
     let header = Header {
@@ -161,7 +162,7 @@ pub(crate) fn take_begun<K: RowSink>(
 )
     requires rows { text.old.stage ≡ stages.Rows }
     requires stands { (bytes : List ℕ) × ((line : List ℕ) × (Holds text.old begun.now line × Stands K.stands_for sink.old text.old line bytes)) }
-    ensures stands { (bytes line : List ℕ) → Holds text.old begun.now line → Stands K.stands_for sink.old text.old line bytes → Stands K.stands_for sink.new text.new [] (bytes ++ 10 ∷ []) }
+    ensures stands { (bytes line : List ℕ) → Holds text.old begun.now line → Stands K.stands_for sink.old text.old line bytes → Stands K.stands_for sink.new text.new [] (bytes ++ LINE_FEED ∷ []) }
     ensures room { text.new.rows.room ≡ text.old.rows.room }
     ensures fixed { K.fixed sink.new ≡ K.fixed sink.old }
     ensures calm { StaysCalm (K.fixed sink.old) text.old.stage text.new.stage }
@@ -175,7 +176,7 @@ pub(crate) fn take_begun<K: RowSink>(
 /// The fault of a line that is longer than any row and has this form.
 fn long_fault(rows: &RowsRead, form: RowForm) -> TraceFault
     requires { (t : TraceText) × ReadsRows rows.now t }
-    ensures fails { (t : TraceText) (bytes line : List ℕ) → ReadsRows rows.now t → GoesOnLine bytes line t → IsLong form rows.now.room line → Fails (bytes ++ 10 ∷ []) result }
+    ensures fails { (t : TraceText) (bytes line : List ℕ) → ReadsRows rows.now t → GoesOnLine bytes line t → IsLong form rows.now.room line → Fails (bytes ++ LINE_FEED ∷ []) result }
     ensures calm { (line : List ℕ) → IsForm form line → IsSome (fault_in result) }
 {
     let number = rows.line_number();
@@ -196,7 +197,7 @@ pub(crate) fn finish_text<K: RowSink>(
     requires { (bytes : List ℕ) × ((line_of : List ℕ) × (Holds text line.now line_of × Stands K.stands_for sink text line_of bytes)) }
     ensures finishes { (bytes line_of : List ℕ) → Holds text line.now line_of → Stands K.stands_for sink text line_of bytes → Finishes K.stands_for (trace_of bytes) result }
     ensures failed { (fault : TraceFault) → text.stage ≡ stages.Failed fault → result ≡ Err fault }
-    ensures memory { (bytes line_of : List ℕ) → Holds text line.now line_of → Stands K.stands_for sink text line_of bytes → result ≡ Err faults.Memory → (text.stage ≡ stages.Failed faults.Memory) ⊎ EndsInHeader bytes }
+    ensures memory { (bytes line_of : List ℕ) → Holds text line.now line_of → Stands K.stands_for sink text line_of bytes → result ≡ Err faults.Memory → MayLackMemory text bytes }
 {
     match text.stage {
         Stage::Title => Err(TraceFault::BadHeader(1)),
@@ -215,10 +216,10 @@ fn finish_header<K: RowSink>(
     line: &[u8],
 ) -> Result<K, TraceFault>
     requires fresh { K.stands_for sink None }
-    requires opens { (bytes : List ℕ) × OpensWith bytes line.now text.cycles text.heads text.paths }
-    requires plain { Lacks 10 line.now }
-    ensures finishes { (bytes : List ℕ) → OpensWith bytes line.now text.cycles text.heads text.paths → Finishes K.stands_for (trace_of bytes) result }
-    ensures memory { (bytes : List ℕ) → OpensWith bytes line.now text.cycles text.heads text.paths → result ≡ Err faults.Memory → EndsInHeader bytes }
+    requires opens { (bytes : List ℕ) × OpensText text line.now bytes }
+    requires plain { Lacks LINE_FEED line.now }
+    ensures finishes { (bytes : List ℕ) → OpensText text line.now bytes → Finishes K.stands_for (trace_of bytes) result }
+    ensures memory { (bytes : List ℕ) → OpensText text line.now bytes → result ≡ Err faults.Memory → EndsInHeader bytes }
 {
     end_of_header(&text, line)?;
     start_rows(alloc, &mut sink, &mut text)?;
@@ -229,11 +230,11 @@ fn finish_header<K: RowSink>(
 /// is empty, it has none.
 fn end_of_header(text: &TextRead, line: &[u8]) -> Result<(), TraceFault>
     requires few { length text.now.heads ≤ MOST_STREAMS }
-    requires plain { Lacks 10 line.now }
-    ensures gives { (bytes : List ℕ) → OpensWith bytes line.now text.now.cycles text.now.heads text.now.paths → Gives fault_in (λ _. begun text.now.cycles text.now.heads) result (trace_of bytes) }
+    requires plain { Lacks LINE_FEED line.now }
+    ensures gives { (bytes : List ℕ) → OpensText text.now line.now bytes → Gives fault_in (λ _. header_read text.now) result (trace_of bytes) }
     ensures few { OnOk result (text.now.cycles ≤ most_cycles) }
     ensures other { OnOk result (is_head_line line.now ≡ false) }
-    ensures ends { OnOk result ((bytes : List ℕ) → OpensWith bytes line.now text.now.cycles text.now.heads text.now.paths → EndsInHeader bytes) }
+    ensures ends { OnOk result ((bytes : List ℕ) → OpensText text.now line.now bytes → EndsInHeader bytes) }
     ensures calm { IfErr result (λ e. IsSome (fault_in e)) }
 {
     let number = 3 + text.heads.len() as u64;

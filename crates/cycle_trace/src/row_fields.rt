@@ -1,23 +1,21 @@
 //! The rows of a trace text.
 
-ghost use Rattle.std.specs.Prelude.{◌≡◌, ◌≢◌, ◌≤◌, ◌<◌, ◌+◌, ◌/◌, ◌^◌, ℕ, length, [], ◌∷◌, Ok, option_map, false, IfErr, IfSome, IsSome};
-ghost use Rattle.tydi_base.specs.Bits.{number_of_bits};
-ghost use Rattle.tydi_base.specs.Hex.{bits_of_digits};
+ghost use Rattle.std.specs.Prelude.{◌≡◌, ◌≢◌, ◌≤◌, ◌+◌, ◌/◌, ◌^◌, ℕ, length, [], ◌∷◌, Ok, false, IfErr, IfSome, IsSome};
 ghost use Rattle.tydi_base.specs.Pieces.{words_of};
 ghost use Rattle.tydi_base.specs.Reading.{Gives};
-ghost use Rattle.cycle_trace.specs.Faults.{fault_in, not_form_in};
+ghost use Rattle.tydi_base.specs.WordsLeft.{words_left};
+ghost use Rattle.physical_stream.specs.StreamLine.{not_form_in};
+ghost use Rattle.cycle_trace.specs.Faults.{fault_in};
 ghost use Rattle.cycle_trace.specs.RowStart.{row_start};
 ghost use Rattle.cycle_trace.specs.RowText as spec;
 ghost use Rattle.cycle_trace.specs.RowKept.{cycle_in, shown_in};
 ghost use Rattle.cycle_trace.specs.Widths.{HasWidths};
-ghost use Rattle.cycle_trace.specs.WordsLeft.{words_left};
 
-use crate::fault::{NotForm, TraceFault};
+use crate::fault::TraceFault;
 use crate::row_form::row_fault;
 use crate::row_layout::{RowLayout, WordSignal};
-use crate::words_left::WordsLeft;
-use physical_stream::Transfer;
-use tydi_base::{Bits, digit_value, read_decimal};
+use physical_stream::{NotForm, Transfer};
+use tydi_base::{Bits, WordsLeft, hex_number, read_decimal};
 
 /// The value of the first word, which is this key, `=` and the value; and the words after it.
 #[cold]
@@ -110,47 +108,6 @@ fn index_field<'a>(
     Ok((index_of(limit, digits)?, rest))
 }
 
-/// The number that at most sixteen hexadecimal digits spell, the highest first.
-#[inline(always)]
-fn number_of_few(digits: &[u8]) -> Option<u64>
-    requires { length digits.now ≤ 16 }
-    ensures { result ≡ option_map number_of_bits (bits_of_digits digits.now) }
-{
-    let mut number: u64 = 0;
-    'digits: for digit in digits {
-        number = 16 * number + u64::from(digit_value(*digit)?);
-    }
-    Some(number)
-}
-
-/// The same of more digits, in two parts.
-#[inline(never)]
-fn number_of_many(digits: &[u8]) -> Option<u128>
-    requires many { 16 < length digits.now }
-    requires most { length digits.now ≤ 32 }
-    ensures { result ≡ option_map number_of_bits (bits_of_digits digits.now) }
-{
-    let place = digits.len() - 16;
-    let high = number_of_few(&digits[..place])?;
-    let low = number_of_few(&digits[place..])?;
-    Some((u128::from(high) << 64) + u128::from(low))
-}
-
-/// The number that hexadecimal digits spell, the highest first. Most strobes have one digit.
-#[inline(always)]
-fn number_of_digits(digits: &[u8]) -> Option<u128>
-    requires { length digits.now ≤ 32 }
-    ensures { result ≡ option_map number_of_bits (bits_of_digits digits.now) }
-{
-    if digits.len() == 1 {
-        return Some(u128::from(digit_value(digits[0])?));
-    }
-    if digits.len() > 16 {
-        return number_of_many(digits);
-    }
-    Some(u128::from(number_of_few(digits)?))
-}
-
 /// The strobe bits: all ones where the signal is absent.
 #[inline(always)]
 #[tactic(auto, unfolding(crate::specs::RowText::strobe_field))]
@@ -166,7 +123,7 @@ fn strobe_field<'a>(
     let Some((digits, rest)) = words.sized_value(b'b', layout.strb.digits) else {
         return Err(NotForm);
     };
-    let Some(number) = number_of_digits(digits) else {
+    let Some(number) = hex_number(digits) else {
         return Err(NotForm);
     };
     if number > layout.all_lanes {

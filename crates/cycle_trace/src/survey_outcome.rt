@@ -1,10 +1,11 @@
 //! What a survey keeps of a trace: a checker for each stream, and the first offence.
 
-ghost use Rattle.std.specs.Prelude.{◌≡◌, length, option_map, IfOk, None};
+ghost use Rattle.std.specs.Prelude.{◌≡◌, List, map, option_map, IfOk, None};
+ghost use Rattle.physical_stream.specs.Cycles.{StreamTrace};
 ghost use Rattle.physical_stream.specs.First.{IsFirst};
 ghost use Rattle.cycle_trace.specs.Survey.{Answers, counts_of, first_unfinished};
 ghost use Rattle.cycle_trace.specs.declared.counts.SurveyFault.TheVariants as faults;
-ghost use Rattle.cycle_trace.specs.Surveying.{AreChecked, HaveCheckers, RowsSay, offends_in, unfinished_of};
+ghost use Rattle.cycle_trace.specs.Surveying.{AreChecked, RowsSay, offends_in, unfinished_of, unseen};
 ghost use Rattle.cycle_trace.specs.Trace.{TraceText, streams_of};
 
 use crate::counts::{Counts, SurveyFault};
@@ -43,7 +44,7 @@ pub(crate) struct FoundUnfinished {
 
 /// A checker for each stream, which has seen no row.
 pub(crate) fn checkers_of(alloc: Global, heads: &[Head]) -> Result<Vec<Checker>, Memory>
-    ensures { IfOk result (λ checkers. HaveCheckers heads.now (length heads.now) checkers.items) }
+    ensures { IfOk result (λ checkers. AreChecked (map unseen heads.now) checkers.items) }
 {
     let mut checkers = Vec::with_capacity(alloc, heads.len())?;
     'heads: for head in heads {
@@ -68,7 +69,7 @@ pub(crate) fn outcome_of(
 
 /// The counts of all streams, or the first one that does not end whole, where no row breaks a rule.
 fn count(alloc: Global, checkers: &[Checker]) -> Result<Counts, SurveyFault>
-    ensures { (t : TraceText) → AreChecked t checkers.now → IsFirst (offends_in t) None → Answers (offends_in t) (streams_of t) result }
+    ensures { (t : TraceText) → AreChecked (streams_of t) checkers.now → IsFirst (offends_in t) None → Answers (offends_in t) (streams_of t) result }
 {
     match unfinished(checkers) {
         Some(FoundUnfinished { stream, end }) => Err(SurveyFault::Unfinished { stream, end }),
@@ -78,7 +79,7 @@ fn count(alloc: Global, checkers: &[Checker]) -> Result<Counts, SurveyFault>
 
 /// The first stream that does not end whole.
 fn unfinished(checkers: &[Checker]) -> Option<FoundUnfinished>
-    ensures { (t : TraceText) → AreChecked t checkers.now → option_map unfinished_of result ≡ first_unfinished 0 (streams_of t) }
+    ensures { (streams : List StreamTrace) → AreChecked streams checkers.now → option_map unfinished_of result ≡ first_unfinished 0 streams }
 {
     'checkers: for (stream, checker) in checkers.iter().enumerate() {
         match checker.end() {
@@ -91,7 +92,7 @@ fn unfinished(checkers: &[Checker]) -> Option<FoundUnfinished>
 
 /// The transfers and the packets that each stream has done.
 fn counts_of(alloc: Global, checkers: &[Checker]) -> Result<Counts, Memory>
-    ensures { IfOk result (λ counts. (t : TraceText) → AreChecked t checkers.now → counts ≡ counts_of (streams_of t)) }
+    ensures { IfOk result (λ counts. (streams : List StreamTrace) → AreChecked streams checkers.now → counts ≡ counts_of streams) }
 {
     let mut streams = List::new(alloc);
     'checkers: for checker in checkers {

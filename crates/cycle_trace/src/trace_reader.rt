@@ -2,6 +2,7 @@
 
 ghost use Rattle.std.specs.Prelude.{◌≡◌, ◌⊎◌, ◌++◌, ◌∷◌, [], ℕ, List, true, IfOk, IsErr, ◌↔◌, Err, None};
 ghost use Rattle.tydi_base.specs.Pieces.{Lacks};
+ghost use Rattle.tydi_base.specs.declared.pieces.TheConstants.{LINE_FEED};
 ghost use Rattle.cycle_trace.specs.ReaderView.{EndsInHeader, Finishes, HoldsHeader, IsInHeader, IsSpent, StandsFor, StaysCalm, StaysFailed, is_past_header};
 ghost use Rattle.cycle_trace.specs.TraceText.{trace_of};
 ghost use Rattle.cycle_trace.specs.declared.fault.TraceFault.TheVariants as faults;
@@ -73,8 +74,8 @@ impl<K: RowSink> TraceReader<K> {
     #[inline(always)]
     fn end_line(&mut self, alloc: Global, front: &[u8])
         requires stands { (bytes : List ℕ) × StandsFor K.stands_for self.old bytes }
-        requires plain { Lacks 10 front.now }
-        ensures stands { (bytes : List ℕ) → StandsFor K.stands_for self.old bytes → StandsFor K.stands_for self.new (bytes ++ front.now ++ 10 ∷ []) }
+        requires plain { Lacks LINE_FEED front.now }
+        ensures stands { (bytes : List ℕ) → StandsFor K.stands_for self.old bytes → StandsFor K.stands_for self.new (bytes ++ front.now ++ LINE_FEED ∷ []) }
         ensures failed { StaysFailed self.old.text.stage self.new.text.stage }
         ensures fixed { K.fixed self.new.sink ≡ K.fixed self.old.sink }
         ensures calm { StaysCalm (K.fixed self.old.sink) self.old.text.stage self.new.text.stage }
@@ -90,9 +91,9 @@ impl<K: RowSink> TraceReader<K> {
     #[inline(never)]
     fn end_header_line(&mut self, alloc: Global, front: &[u8])
         requires stands { (bytes : List ℕ) × StandsFor K.stands_for self.old bytes }
-        requires plain { Lacks 10 front.now }
+        requires plain { Lacks LINE_FEED front.now }
         requires header { IsInHeader self.old.text.stage }
-        ensures stands { (bytes : List ℕ) → StandsFor K.stands_for self.old bytes → StandsFor K.stands_for self.new (bytes ++ front.now ++ 10 ∷ []) }
+        ensures stands { (bytes : List ℕ) → StandsFor K.stands_for self.old bytes → StandsFor K.stands_for self.new (bytes ++ front.now ++ LINE_FEED ∷ []) }
         ensures fixed { K.fixed self.new.sink ≡ K.fixed self.old.sink }
     {
         if self.line.extend(front).is_err() {
@@ -117,9 +118,9 @@ impl<K: RowSink> TraceReader<K> {
     #[inline(always)]
     fn end_row(&mut self, alloc: Global, front: &[u8])
         requires stands { (bytes : List ℕ) × StandsFor K.stands_for self.old bytes }
-        requires plain { Lacks 10 front.now }
+        requires plain { Lacks LINE_FEED front.now }
         requires rows { self.old.text.stage ≡ stages.Rows }
-        ensures stands { (bytes : List ℕ) → StandsFor K.stands_for self.old bytes → StandsFor K.stands_for self.new (bytes ++ front.now ++ 10 ∷ []) }
+        ensures stands { (bytes : List ℕ) → StandsFor K.stands_for self.old bytes → StandsFor K.stands_for self.new (bytes ++ front.now ++ LINE_FEED ∷ []) }
         ensures fixed { K.fixed self.new.sink ≡ K.fixed self.old.sink }
         ensures calm { StaysCalm (K.fixed self.old.sink) self.old.text.stage self.new.text.stage }
     {
@@ -135,7 +136,7 @@ impl<K: RowSink> TraceReader<K> {
     /// The line that is begun goes on with these bytes.
     fn begin_line(&mut self, rest: &[u8])
         requires stands { (bytes : List ℕ) × StandsFor K.stands_for self.old bytes }
-        requires plain { Lacks 10 rest.now }
+        requires plain { Lacks LINE_FEED rest.now }
         ensures stands { (bytes : List ℕ) → StandsFor K.stands_for self.old bytes → StandsFor K.stands_for self.new (bytes ++ rest.now) }
         ensures failed { StaysFailed self.old.text.stage self.new.text.stage }
         ensures fixed { K.fixed self.new.sink ≡ K.fixed self.old.sink }
@@ -150,7 +151,7 @@ impl<K: RowSink> TraceReader<K> {
 
     /// The line of the header that is begun goes on with these bytes.
     fn begin_header_line(&mut self, rest: &[u8])
-        requires plain { Lacks 10 rest.now }
+        requires plain { Lacks LINE_FEED rest.now }
         requires header { IsInHeader self.old.text.stage }
         requires stands { (bytes : List ℕ) × StandsFor K.stands_for self.old bytes }
         ensures stands { (bytes : List ℕ) → StandsFor K.stands_for self.old bytes → StandsFor K.stands_for self.new (bytes ++ rest.now) }
@@ -163,7 +164,7 @@ impl<K: RowSink> TraceReader<K> {
 
     /// The line of the row that is begun goes on with these bytes. It takes no memory.
     fn begin_row(&mut self, rest: &[u8])
-        requires plain { Lacks 10 rest.now }
+        requires plain { Lacks LINE_FEED rest.now }
         requires rows { self.old.text.stage ≡ stages.Rows }
         requires stands { (bytes : List ℕ) × StandsFor K.stands_for self.old bytes }
         ensures stands { (bytes : List ℕ) → StandsFor K.stands_for self.old bytes → StandsFor K.stands_for self.new (bytes ++ rest.now) }

@@ -7,14 +7,15 @@ ghost use Rattle.tydi_base.specs.Bits.{bits_of};
 ghost use Rattle.tydi_base.specs.Writing.{StandsInFront};
 ghost use Rattle.physical_stream.specs.Cycles.{cycle_in};
 ghost use Rattle.physical_stream.specs.Signals.{Shows};
-ghost use Rattle.cycle_trace.specs.Spelling.{bit_text, direction_text, head_text, header_text, or_dash, row_text, signal_words, words_of_signals};
+ghost use Rattle.physical_stream.specs.StreamLine.{head_text};
+ghost use Rattle.cycle_trace.specs.Spelling.{bit_text, header_text, or_dash, row_text, signal_words, words_of_signals};
 ghost use Rattle.cycle_trace.specs.Trace.{are_heads, most_cycles};
 ghost use Rattle.cycle_trace.specs.Writing.{spaced};
 
-use physical_stream::{Head, Header, Params, Row, Transfer};
+use physical_stream::{Head, Header, Params, Row, StreamLine, Transfer};
 use signal_layout::Signals;
 use std::alloc::Global;
-use tydi_base::{Bits, Hex, List, Memory, Path, Written, emit};
+use tydi_base::{Bits, Hex, List, Memory, Written, emit};
 
 /// Adds the text of a header at the end. After `Memory` the list is as before.
 pub fn write_header(_alloc: Global, out: &mut List<u8>, header: &Header) -> Result<(), Memory>
@@ -43,38 +44,6 @@ impl Written for StreamLines<'_> {
         }
         Ok(())
     }
-}
-
-/// The line of a stream, as headers have it.
-#[derive(Clone, Copy)]
-pub struct StreamLine<'a> {
-    pub path: &'a Path,
-    pub params: &'a Params,
-    /// Whether its transfers go against the direction of the port.
-    pub reversed: bool,
-}
-
-impl Written for StreamLine<'_> {
-    ghost text = { λ line. head_text (record { path = line.path.now; params = line.params.now; reversed = line.reversed }) };
-
-    fn write_to(&self, out: &mut List<u8>) -> Result<(), Memory> {
-        let StreamLine {
-            path,
-            params,
-            reversed,
-        } = *self;
-        emit!(
-            out;
-            "stream ", path, " lanes ", params.lanes, " dims ", params.dims, " level ", params.level.number(),
-            " element ", params.element, " user ", params.user, " ", direction(reversed), "\n",
-        )
-    }
-}
-
-fn direction(reversed: bool) -> &'static str
-    ensures { result.now ≡ direction_text reversed }
-{
-    if reversed { "reverse" } else { "forward" }
 }
 
 /// Adds the line of a row of this stream at the end. After `Memory` the list is as before.

@@ -9,3 +9,4 @@ pub mod Params
 pub mod Rules
 pub mod Shape
 pub mod Signals
+pub mod StreamLine

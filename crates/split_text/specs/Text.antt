@@ -10,7 +10,7 @@ use Rattle.signal_layout.specs.Layout.{width_of}
 use Rattle.signal_layout.specs.declared.fields.Field.{Field}
 use Rattle.signal_layout.specs.declared.signal.Signal.{Signal}
 use Rattle.signal_layout.specs.declared.signal.Signal.TheVariants as signals
-use Rattle.cycle_trace.specs.Spelling.{head_text}
+use Rattle.physical_stream.specs.StreamLine.{head_text}
 use Rattle.type_split.specs.Nodes.{StreamNode}
 use Rattle.type_split.specs.Streams.{PlainSplit}
 use Rattle.type_split.specs.declared.split.Phys.{Phys}

@@ -8,7 +8,7 @@ ghost use Rattle.split_text.specs.Text as spec;
 ghost use Rattle.split_text.specs.Text.{IsUpTo, field_lines, root_line, stream_text};
 
 use crate::lines::{FieldLines, SignalLines};
-use cycle_trace::StreamLine;
+use physical_stream::StreamLine;
 use signal_layout::{Signals, fields_of};
 use std::alloc::Global;
 use tydi_base::{List, Memory, emit};

@@ -35,7 +35,7 @@ zeros_from_no_ones (true ∷ bits) none = cc
 
 -- ---- spelling and digits
 
-length-hex_of : (bits : List Bool) → length (hex_of bits) ≡ (length bits + 3) / 4
+pub length-hex_of : (bits : List Bool) → length (hex_of bits) ≡ (length bits + 3) / 4
 unfolding hex_of
 length-hex_of [] = refl
 length-hex_of (a ∷ []) = refl

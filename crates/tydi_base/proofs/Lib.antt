@@ -19,3 +19,10 @@ pub mod PartLemmas
 pub mod SliceLemmas
 pub mod WritingLemmas
 pub mod WidthLaws
+pub mod PlainWords
+pub mod SetLemmas
+pub mod LengthLemmas
+pub mod PlaceLemmas
+pub mod DigitNumbers
+pub mod SizedLemmas
+pub mod TestLemmas

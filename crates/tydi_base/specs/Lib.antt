@@ -11,4 +11,7 @@ pub mod Path
 pub mod Frac
 pub mod Writing
 pub mod Width
+pub mod Lengths
+pub mod TextSet
+pub mod WordsLeft
 pub mod formers

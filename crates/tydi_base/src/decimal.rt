@@ -1,6 +1,6 @@
 //! Decimal numbers in texts, with no sign and no leading zero.
 
-ghost use Rattle.std.specs.Prelude.{◌≡◌, ◌+◌, ◌*◌, ◌^◌, ◌++◌, [], ◌∷◌, Some, IsTrue, decimal, OnOk, OnErr};
+ghost use Rattle.std.specs.Prelude.{◌≡◌, ◌≤◌, ◌+◌, ◌*◌, ◌^◌, ◌++◌, [], ◌∷◌, length, Some, IsTrue, decimal, OnOk, OnErr};
 ghost use Rattle.std.specs.List.{list_all};
 ghost use Rattle.std.specs.Char as chars;
 ghost use Rattle.tydi_base.specs.Decimal as spec;
@@ -102,6 +102,20 @@ pub fn write_decimal(n: u64, out: &mut List<u8>) -> Result<(), Memory>
 {
     let mut buffer = Buffer::new();
     out.extend_from_slice(buffer.format(n).as_bytes())
+}
+
+/// How many digits a number has.
+pub fn decimal_length(number: u64) -> u64
+    ensures digits { result ≡ length (decimal number) }
+    ensures few { result ≤ 20 }
+{
+    let mut left = number;
+    let mut digits = 1;
+    'digits: while left >= 10 {
+        left /= 10;
+        digits += 1;
+    }
+    digits
 }
 
 /// The law of reading and spelling: each number that fits has one spelling, and is read from nothing else.

@@ -1,4 +1,4 @@
-ghost use Rattle.std.specs.Prelude.{◌≡◌, ◌+◌, ◌-◌, ◌*◌, ◌/◌, ◌<◌, ◌≤◌, ◌++◌, take, [], ℕ, List, Bool, Some, None, length, IfSome, OnOk, OnErr};
+ghost use Rattle.std.specs.Prelude.{◌≡◌, ◌+◌, ◌-◌, ◌*◌, ◌/◌, ◌^◌, ◌<◌, ◌≤◌, ◌++◌, take, [], ℕ, List, Bool, Some, None, length, IfSome, OnOk, OnErr};
 ghost use Rattle.tydi_base.specs.Bits.{bits_of, unpack};
 ghost use Rattle.tydi_base.specs.Hex.{hex_digit, hex_of, digit_of, byte_of_digits, word_at};
 ghost use Rattle.tydi_base.specs.Writing.{StandsInFront};
@@ -81,4 +81,12 @@ pub(crate) fn write_digits(bytes: &[u8], count: usize, out: &mut List<u8>) -> Re
         out.push(hex_digit(four_bits(bytes, at)))?;
     }
     Ok(())
+}
+
+/// How many hexadecimal digits a word of this width has.
+pub fn hex_length(width: usize) -> u64
+    ensures digits { result ≡ (width + 3) / 4 }
+    ensures few { result ≤ 2 ^ 62 }
+{
+    width.div_ceil(4) as u64
 }

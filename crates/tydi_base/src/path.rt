@@ -16,8 +16,10 @@ ghost use Rattle.std.specs.Prelude.{
   All,
   take,
   length,
+  min,
 };
 ghost use Rattle.std.specs.List.{list_all};
+ghost use Rattle.tydi_base.specs.Lengths.{most_bytes};
 ghost use Rattle.tydi_base.specs.Name.{is_name};
 ghost use Rattle.tydi_base.specs.Path as spec;
 
@@ -133,6 +135,21 @@ impl Path {
         ensures each { All (λ name. IsTrue (is_name name)) self.now }
     {
         self.names.as_slice()
+    }
+
+    /// How many bytes its text with `.` between the names has; `u64::MAX` where they are more, which no memory holds.
+    pub fn dotted_length(&self) -> u64
+        ensures { result ≡ min (length (spec.path_text self.now)) most_bytes }
+    {
+        let Some((first, others)) = self.names().split_first() else {
+            return 1;
+        };
+        let mut length = first.as_bytes().len() as u64;
+        'names: for name in others {
+            length = length.saturating_add(1);
+            length = length.saturating_add(name.as_bytes().len() as u64);
+        }
+        length
     }
 }
 

@@ -4,35 +4,13 @@ use Rattle.std.proofs.lemmas.List.{drop_more}
 use Rattle.std.specs.List.{list_any}
 use Rattle.std.specs.declared.cmp.Ordering.{Ordering}
 use Rattle.std.specs.declared.cmp.Ordering.TheVariants as orderings
-use Rattle.std.specs.Ordering.{is_eq, eq_by_cmp, match_ordering, nat_cmp}
+use Rattle.std.specs.Ordering.{is_eq, eq_by_cmp, nat_cmp}
 use Rattle.std.specs.Cmp.{IsEquivalence, eq_by_cmp_equiv}
 use Rattle.std.specs.Cmp.Lexicographic.{slice_cmp, lists_total, lists_ties, texts_ties, nat_list_cmp_total}
 use Rattle.std.specs.BTreeSet.{insert_key}
+use Rattle.tydi_base.proofs.SetLemmas.{insert_key-any}
 use Rattle.type_split.specs.Streams.{is_same_path, clash_from}
 use Rattle.type_split.specs.declared.split.Phys.{Phys}
-
--- ---- a key that is inserted
-
-or_twice : (a b : Bool) → (a || b) ≡ (a || (a || b))
-or_twice true b = refl
-or_twice false b = refl
-
-or_swap : (a b c : Bool) → (a || (b || c)) ≡ (b || (a || c))
-or_swap true true c = refl
-or_swap true false c = refl
-or_swap false b c = refl
-
--- a test that tells equal keys alike holds of a key that is inserted, or of one that was there
-pub insert_key-any : {K : Type 0} (cmp : K → K → Ordering) (test : K → Bool) → ((one other : K) → cmp one other ≡ orderings.Equal → test one ≡ test other) → (keys : List K) (key : K)
-    → list_any test (insert_key cmp keys key) ≡ (test key || list_any test keys)
-insert_key-any cmp test alike [] key = refl
-insert_key-any cmp test alike (first ∷ keys) key = by_order (insert_key-any cmp test alike keys key) (cmp key first) refl
-  where
-    by_order : list_any test (insert_key cmp keys key) ≡ (test key || list_any test keys) → (order : Ordering) → cmp key first ≡ order
-        → list_any test (match_ordering order (key ∷ first ∷ keys) (first ∷ keys) (first ∷ insert_key cmp keys key)) ≡ (test key || (test first || list_any test keys))
-    by_order behind orderings.Less is = refl
-    by_order behind orderings.Equal is = or_twice (test first) (list_any test keys) ∙ ap (λ b. b || (test first || list_any test keys)) (sym (alike key first is))
-    by_order behind orderings.Greater is = ap (λ b. test first || b) behind ∙ or_swap (test first) (test key) (list_any test keys)
 
 -- ---- paths
 

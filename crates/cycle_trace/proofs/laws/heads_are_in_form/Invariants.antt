@@ -1,6 +1,6 @@
 use Rattle.std.proofs.Common.{ℕ, ◌<◌, get_or}
 use Rattle.physical_stream.specs.declared.head.Head.{Head}
-use Rattle.cycle_trace.specs.Spelling.{IsHead}
+use Rattle.physical_stream.specs.StreamLine.{IsHead}
 use Rattle.cycle_trace.proofs.laws.heads_are_in_form.Given as goal
 
 abbrev pub invariant-heads : goal.invariant-heads

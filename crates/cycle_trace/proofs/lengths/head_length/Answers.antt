@@ -1,7 +1,7 @@
 use Rattle.std.proofs.Common.{◌≡◌, ◌∙◌, ℕ, length, min, sym, ap, subst, arith}
 use Rattle.std.specs.Fmt.{decimal}
 use Rattle.physical_stream.specs.Params.{Parameters}
-use Rattle.cycle_trace.specs.Lengths.{most_bytes}
+use Rattle.tydi_base.specs.Lengths.{most_bytes}
 use Rattle.cycle_trace.proofs.TextLengthLemmas.{length-head_text}
 use Rattle.cycle_trace.proofs.lengths.head_length.Goals as goal
 
@@ -12,7 +12,7 @@ returns c =
     (omega (
       arith,
       c.saturating_add.ensures,
-      c.path_length.ensures,
+      c.dotted_length.ensures,
       c.decimal_length-lanes.ensures.digits ∙ ap digits (c.from.ensures ∙ ap (λ (q : Parameters). q.lanes) c.p.view_is),
       c.decimal_length-dims.ensures.digits ∙ ap digits (c.from-2.ensures ∙ ap (λ (q : Parameters). q.dims) c.p.view_is),
       c.decimal_length-level.ensures.digits ∙ ap digits (c.from-3.ensures ∙ c.number.ensures.value ∙ ap (λ (q : Parameters). q.level) c.p.view_is),

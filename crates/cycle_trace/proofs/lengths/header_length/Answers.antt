@@ -3,9 +3,10 @@ use Rattle.std.specs.Fmt.{decimal}
 use Rattle.std.specs.List.{flat_map}
 use Rattle.std.proofs.lemmas.List.{take_all}
 use Rattle.physical_stream.specs.declared.head.Head.{Head}
-use Rattle.cycle_trace.specs.Lengths.{most_bytes}
-use Rattle.cycle_trace.specs.Spelling.{head_text}
-use Rattle.cycle_trace.proofs.TextLengthLemmas.{length-header_text, length-parts_more}
+use Rattle.tydi_base.specs.Lengths.{most_bytes}
+use Rattle.physical_stream.specs.StreamLine.{head_text}
+use Rattle.cycle_trace.proofs.TextLengthLemmas.{length-header_text}
+use Rattle.tydi_base.proofs.LengthLemmas.{length-parts_more}
 use Rattle.cycle_trace.proofs.lengths.header_length.Goals as goal
 
 pub heads-init : goal.heads-init

@@ -1,8 +1,8 @@
 use Rattle.std.proofs.Common.{◌≡◌, ◌+◌, length, min, take}
 use Rattle.std.specs.Fmt.{decimal}
 use Rattle.std.specs.List.{flat_map}
-use Rattle.cycle_trace.specs.Lengths.{most_bytes}
-use Rattle.cycle_trace.specs.Spelling.{head_text}
+use Rattle.tydi_base.specs.Lengths.{most_bytes}
+use Rattle.physical_stream.specs.StreamLine.{head_text}
 use Rattle.cycle_trace.proofs.lengths.header_length.Given as goal
 
 abbrev pub invariant-heads : goal.invariant-heads

@@ -1,11 +1,12 @@
-use Rattle.std.proofs.Common.{◌∙◌, ◌+◌, ◌<◌, ◌++◌, ◌∷◌, [], List, length, sym, subst, arith}
+use Rattle.std.proofs.Common.{◌∙◌, ◌+◌, ◌++◌, ◌∷◌, [], List, length, sym, subst, arith}
 use Rattle.std.proofs.lemmas.Result.{err_from_is_err_and}
 use Rattle.physical_stream.specs.declared.head.Head.{Head}
 use Rattle.cycle_trace.specs.Beginnings.{OpensWith, begun}
 use Rattle.cycle_trace.specs.ReaderView.{StandsAt}
 use Rattle.cycle_trace.specs.declared.text_read.Stage.{Stage}
 use Rattle.cycle_trace.proofs.BeginningLemmas.{head-fails, head-ok, header-many, header-ok, heads-stand}
-use Rattle.cycle_trace.proofs.HeaderLemmas.{head_after-fits}
+use Rattle.cycle_trace.specs.HeaderText.{head_after}
+use Rattle.cycle_trace.proofs.HeadsSpelling.{head_after-some, in_header-some}
 use Rattle.cycle_trace.proofs.ReaderLemmas.{after_row-line, plain-none}
 use Rattle.cycle_trace.proofs.line_taking.after_head.Goals as goal
 
@@ -22,8 +23,8 @@ returns-then-is_head_line-clause-stands g c bytes stands =
     let text = c.args.text.now in
     let h = subst (λ (s : Stage). StandsAt g.K.RowSink.stands_for c.args.sink.now text s c.args.line.now bytes) c.requires.heads stands in
     let read = rw c.len.ensures at (c.in_ok-head.ensures.gives h.2.paths h.2.told (h.2.many ∙ sym c.len.ensures)) in
-    let fits : length h.2.paths < 65536 = head_after-fits h.2.paths c.args.line.now (3 + length text.heads) c.in_ok-head.head read in
-    let opens = head-ok bytes c.args.line.now h.1 text.cycles text.heads text.paths h.2 c.in_ok-head.head c.next_head.new.paths (sym c.is_head_line.ensures ∙ c.if-is_head_line.true) (omega (arith, h.2.many, fits)) read c.in_ok-head.ensures.added in
+    let room = (head_after-some h.2.paths c.args.line.now c.in_ok-head.head (in_header-some (3 + length text.heads) (head_after h.2.paths c.args.line.now) c.in_ok-head.head read)).room in
+    let opens = head-ok bytes c.args.line.now h.1 text.cycles text.heads text.paths h.2 c.in_ok-head.head c.next_head.new.paths (sym c.is_head_line.ensures ∙ c.if-is_head_line.true) (omega (arith, h.2.many, room)) read c.in_ok-head.ensures.added in
     subst (λ (s : Stage). StandsAt g.K.RowSink.stands_for c.args.sink.now (record { stage = text.stage; cycles = text.cycles; heads = c.push.new.self; paths = c.next_head.new.paths; rows = text.rows }) s [] (bytes ++ 10 ∷ [])) (sym c.requires.heads)
     (h.0, plain-none, subst (λ (heads : List Head). OpensWith (bytes ++ 10 ∷ []) [] text.cycles heads c.next_head.new.paths) (sym c.in_ok-push.ensures.ok) opens)
 

@@ -1,19 +1,15 @@
-use Rattle.std.proofs.Common.{◌∙◌, ℕ, ◌+◌, ◌≤◌, length, Ok, Err, refl, ap, sym, arith}
+use Rattle.std.proofs.Common.{◌∙◌, ℕ, ◌+◌, length, Ok, Err, refl, ap, sym, arith}
 use Rattle.std.proofs.lemmas.Result.{err_from_is_err_and}
 use Rattle.physical_stream.specs.Cycles.{cycle_in}
 use Rattle.cycle_trace.specs.RowSink.{with_row}
-use Rattle.cycle_trace.specs.Trace.{owed, params_of_heads}
 use Rattle.cycle_trace.specs.declared.fault.TraceFault.TheVariants.{RowsLeft}
 use Rattle.cycle_trace.proofs.BeginningLemmas.{left-fails, row-fails, row-ok}
-use Rattle.cycle_trace.proofs.KeepLemmas.{length-owed_heads}
-use Rattle.cycle_trace.proofs.RowsReadLemmas.{can_take, less_of, not_whole, stream_in, turn_params}
+use Rattle.cycle_trace.proofs.RowsReadLemmas.{all_read, can_take, less_of, not_whole, stream_in, turn_params}
 use Rattle.cycle_trace.proofs.line_taking.after_row.Goals as goal
 
 pub returns-then-is_whole-clause-stands : goal.returns-then-is_whole-clause-stands
 returns-then-is_whole-clause-stands g c t bytes stands h goes more =
-    let whole = c.if-is_whole.ensures.0 refl in
-    let all : length (owed (params_of_heads t.heads) t.cycles) ≤ length t.rows = omega (arith, whole, h.got, h.want, length-owed_heads t) in
-    left-fails t all bytes c.args.line.now goes more ∙ ap (λ (n : ℕ). Err (RowsLeft n)) (sym (c.line_number.ensures t h))
+    left-fails t (all_read c.args.rows.now t h (c.if-is_whole.ensures.0 refl)) bytes c.args.line.now goes more ∙ ap (λ (n : ℕ). Err (RowsLeft n)) (sym (c.line_number.ensures t h))
 
 pub returns-in_err-bits-clause-stands : goal.returns-in_err-bits-clause-stands
 returns-in_err-bits-clause-stands g c t bytes stands h goes =

@@ -1,10 +1,11 @@
 use Rattle.std.proofs.Common.{◌≡◌, ◌∙◌, ℕ, ◌+◌, ◌*◌, ◌≤◌, ◌<◌, length, Err, ap, sym, arith}
+use Rattle.tydi_base.proofs.TestLemmas.{empty_is, some_is_not, empty_iff}
 use Rattle.cycle_trace.specs.Beginnings.{begun}
+use Rattle.cycle_trace.specs.Faults.{fault_in}
 use Rattle.cycle_trace.specs.RowsText.{cut_row}
 use Rattle.cycle_trace.specs.TraceText.{trace_of}
 use Rattle.cycle_trace.specs.declared.fault.TraceFault.TheVariants.{BadHeader, RowsLeft}
-use Rattle.cycle_trace.proofs.BeginningLemmas.{IsFault-cut, ends-in_header, header-cut, header-end, header-end_many, rows_on-cut_at, rows_on-end_at, rows_on-rest_at}
-use Rattle.cycle_trace.proofs.RowsLemmas.{empty_iff, empty_is, some_is_not}
+use Rattle.cycle_trace.proofs.BeginningLemmas.{IsFault-told, cut_row-told, ends-in_header, header-cut, header-end, header-end_many, rows_on-cut_at, rows_on-end_at, rows_on-rest_at}
 use Rattle.cycle_trace.proofs.line_taking.end_of_header.Goals as goal
 
 pub returns-then-is_head_line-clause-gives : goal.returns-then-is_head_line-clause-gives
@@ -21,8 +22,8 @@ returns-then-want-gt0-clause-gives c bytes h =
     let t = begun text.cycles text.heads in
     let some : 0 < text.cycles * length text.heads = rw c.len-2.ensures at c.if-want-gt0.true in
     let number : 3 + c.len.result ≡ 3 + length text.heads + 0 = omega (arith, c.len.ensures) in
-    IsFault-cut (trace_of bytes) c.cut_row.result c.args.line.now (text.cycles * length text.heads) 0 (3 + length text.heads + 0)
-    (c.cut_row.ensures.fault c.args.line.now (empty_iff c.args.line.now c.is_empty.result c.is_empty.ensures) ∙ ap (λ (n : ℕ). cut_row c.args.line.now (text.cycles * n) 0 (3 + c.len.result)) c.len-2.ensures ∙ ap (cut_row c.args.line.now (text.cycles * length text.heads) 0) number)
+    let same = c.cut_row.ensures.fault c.args.line.now (empty_iff c.args.line.now c.is_empty.result c.is_empty.ensures) ∙ ap (λ (n : ℕ). cut_row c.args.line.now (text.cycles * n) 0 (3 + c.len.result)) c.len-2.ensures ∙ ap (cut_row c.args.line.now (text.cycles * length text.heads) 0) number in
+    IsFault-told (trace_of bytes) c.cut_row.result _ (ap fault_in same ∙ cut_row-told c.args.line.now _ _ _)
     (header-end bytes c.args.line.now c.requires.plain text.cycles text.heads text.paths h (sym c.is_head_line.ensures ∙ c.if-is_head_line.false) c.if-text-gt-MOST_CYCLES.false ∙ rows_on-cut_at t c.args.line.now some)
 
 pub returns-then-is_empty-clause-gives : goal.returns-then-is_empty-clause-gives
@@ -30,7 +31,7 @@ returns-then-is_empty-clause-gives c bytes h =
     let text = c.args.text.now in
     let all : text.cycles * length text.heads ≤ 0 = rw c.len-2.ensures at c.if-want-gt0.false in
     header-end bytes c.args.line.now c.requires.plain text.cycles text.heads text.paths h (sym c.is_head_line.ensures ∙ c.if-is_head_line.false) c.if-text-gt-MOST_CYCLES.false
-    ∙ rows_on-end_at (begun text.cycles text.heads) c.args.line.now all (empty_is c.args.line.now c.if-is_empty.ensures)
+    ∙ rows_on-end_at (begun text.cycles text.heads) all c.args.line.now (empty_is c.args.line.now c.if-is_empty.ensures)
 
 pub returns-else-is_empty-clause-gives : goal.returns-else-is_empty-clause-gives
 returns-else-is_empty-clause-gives c bytes h =
@@ -38,7 +39,7 @@ returns-else-is_empty-clause-gives c bytes h =
     let all : text.cycles * length text.heads ≤ 0 = rw c.len-2.ensures at c.if-want-gt0.false in
     let number : 3 + length text.heads + 0 ≡ 3 + c.len.result = omega (arith, c.len.ensures) in
     header-end bytes c.args.line.now c.requires.plain text.cycles text.heads text.paths h (sym c.is_head_line.ensures ∙ c.if-is_head_line.false) c.if-text-gt-MOST_CYCLES.false
-    ∙ rows_on-rest_at (begun text.cycles text.heads) c.args.line.now all (some_is_not c.args.line.now c.if-is_empty.ensures) ∙ ap (λ (n : ℕ). Err (RowsLeft n)) number
+    ∙ rows_on-rest_at (begun text.cycles text.heads) all c.args.line.now (some_is_not c.args.line.now c.if-is_empty.ensures) ∙ ap (λ (n : ℕ). Err (RowsLeft n)) number
 
 pub returns-then-is_empty-clause-ends : goal.returns-then-is_empty-clause-ends
 returns-then-is_empty-clause-ends c bytes h =

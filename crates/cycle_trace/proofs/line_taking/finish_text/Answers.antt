@@ -1,19 +1,22 @@
 use Rattle.std.proofs.Common.{◌∙◌, inl, inr, ap, subst}
+use Rattle.cycle_trace.specs.HeaderText.{header_start_after, header_start_of}
 use Rattle.cycle_trace.specs.ReaderView.{HoldsLine, StandsAt}
 use Rattle.cycle_trace.specs.declared.text_read.Stage.{Stage}
 use Rattle.cycle_trace.specs.declared.text_read.Stage.TheVariants as stages
 use Rattle.cycle_trace.specs.declared.fault.TraceFault.{TraceFault}
-use Rattle.cycle_trace.proofs.BeginningLemmas.{Fails-end, GoesOn-end, cycles-end, title-end}
+use Rattle.cycle_trace.specs.declared.fault.TraceFault.TheVariants.{BadHeader}
+use Rattle.cycle_trace.proofs.BeginningLemmas.{Fails-end, GoesOn-end, ends_cut}
+use Rattle.cycle_trace.proofs.HeaderLemmas.{header_start_after-one, header_start_of-one}
 use Rattle.cycle_trace.proofs.ReaderLemmas.{not_memory}
 use Rattle.cycle_trace.proofs.line_taking.finish_text.Goals as goal
 
 pub returns-in-Title-clause-finishes : goal.returns-in-Title-clause-finishes
 returns-in-Title-clause-finishes g c bytes line holds stands =
-    let h = subst (λ (s : Stage). StandsAt g.K.RowSink.stands_for c.args.sink c.args.text s line bytes) c.in-Title.is stands in title-end bytes line h.1 h.3
+    let h = subst (λ (s : Stage). StandsAt g.K.RowSink.stands_for c.args.sink c.args.text s line bytes) c.in-Title.is stands in ends_cut bytes line h.1 header_start_of h.3 (BadHeader 1) (header_start_of-one line)
 
 pub returns-in-Cycles-clause-finishes : goal.returns-in-Cycles-clause-finishes
 returns-in-Cycles-clause-finishes g c bytes line holds stands =
-    let h = subst (λ (s : Stage). StandsAt g.K.RowSink.stands_for c.args.sink c.args.text s line bytes) c.in-Cycles.is stands in cycles-end bytes line h.1 h.3
+    let h = subst (λ (s : Stage). StandsAt g.K.RowSink.stands_for c.args.sink c.args.text s line bytes) c.in-Cycles.is stands in ends_cut bytes line h.1 header_start_after h.3 (BadHeader 2) (header_start_after-one line)
 
 pub returns-in-Rows-clause-finishes : goal.returns-in-Rows-clause-finishes
 returns-in-Rows-clause-finishes g c bytes line holds stands =

@@ -1,5 +1,6 @@
-use Rattle.cycle_trace.specs.Surveying.{HaveCheckers}
+use Rattle.std.proofs.Common.{map, take}
+use Rattle.cycle_trace.specs.Surveying.{AreChecked, unseen}
 use Rattle.cycle_trace.proofs.survey_outcome.checkers_of.Given as goal
 
 abbrev pub invariant-heads : goal.invariant-heads
-invariant-heads l = HaveCheckers l.heads l.head-index l.checkers.items
+invariant-heads l = AreChecked (map unseen (take l.head-index l.heads)) l.checkers.items

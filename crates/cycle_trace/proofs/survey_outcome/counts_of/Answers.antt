@@ -9,7 +9,7 @@ checkers-init c t at = c.new-streams.ensures
 pub checkers-preserved : goal.checkers-preserved
 checkers-preserved c t at =
     c.in_ok-push.ensures.ok ∙ ap (λ (before : List (ℕ × ℕ)). before ++ (c.transfers.result, c.packets.result) ∷ []) (c.checkers.invariant t at)
-    ∙ counts_in-more t c.args.checkers.now c.checkers.checker-index c.checker-item.result c.transfers.result c.packets.result at c.checkers-test.true c.checker-item.is c.transfers.ensures c.packets.ensures
+    ∙ counts_in-more t c.args.checkers.now c.checkers.checker-index at c.checker-item.result c.transfers.result c.packets.result c.checkers-test.true c.checker-item.is c.transfers.ensures c.packets.ensures
 
 pub returns : goal.returns
 returns c t at =

@@ -1,5 +1,5 @@
 use Rattle.std.proofs.Common.{◌≡◌, ◌++◌, List, ℕ, OnOk, map, slice_get, sym, ap, subst, ◌∙◌}
-use Rattle.cycle_trace.specs.Spelling.{head_text}
+use Rattle.physical_stream.specs.StreamLine.{head_text}
 use Rattle.signal_layout.specs.Layout.{width_in, width_of}
 use Rattle.type_split.specs.Streams.{node_view}
 use Rattle.split_text.specs.Text.{field_lines, head_of, root_line, signal_lines}

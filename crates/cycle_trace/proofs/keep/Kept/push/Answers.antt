@@ -1,9 +1,10 @@
 use Rattle.std.proofs.Common.{◌∙◌, List, Option, ap}
 use Rattle.physical_stream.specs.Cycles.{Cycle, cycle_in}
 use Rattle.physical_stream.specs.declared.transfer.Transfer.{Transfer}
+use Rattle.tydi_base.proofs.TestLemmas.{on_ok}
 use Rattle.cycle_trace.specs.Trace.{text_of}
 use Rattle.cycle_trace.specs.declared.own_row.OwnRow.{OwnRow}
-use Rattle.cycle_trace.proofs.KeepLemmas.{IsBegun-more, text_of-more, on_ok}
+use Rattle.cycle_trace.proofs.KeepLemmas.{IsBegun-more, text_of-more}
 use Rattle.cycle_trace.proofs.keep.Kept.push.Goals as goal
 
 pub returns : goal.returns

@@ -1,13 +1,12 @@
-use Rattle.std.proofs.Common.{◌≡◌, ◌∙◌, ◌<◌, ◌≤◌, ℕ, List, [], ◌∷◌, ◌++◌, length, append-nil, refl, sym, ap, subst, arith}
+use Rattle.std.proofs.Common.{◌≡◌, ◌∙◌, ◌<◌, ℕ, List, [], ◌∷◌, ◌++◌, length, append-nil, refl, sym, ap, subst, arith}
+use Rattle.tydi_base.proofs.TestLemmas.{empty_is, some_is_not}
 use Rattle.cycle_trace.specs.Beginnings.{Fails}
 use Rattle.cycle_trace.specs.ReaderView.{HoldsLine, StandsAt, StandsFor}
-use Rattle.cycle_trace.specs.Trace.{owed, params_of_heads}
 use Rattle.cycle_trace.specs.declared.fault.TraceFault.TheVariants.{RowsLeft}
 use Rattle.cycle_trace.specs.declared.text_read.Stage.{Stage}
 use Rattle.cycle_trace.proofs.BeginningLemmas.{left-more}
-use Rattle.cycle_trace.proofs.KeepLemmas.{length-owed_heads}
 use Rattle.cycle_trace.proofs.ReaderLemmas.{StandsAt-more}
-use Rattle.cycle_trace.proofs.RowsLemmas.{empty_is, some_is_not}
+use Rattle.cycle_trace.proofs.RowsReadLemmas.{all_read}
 use Rattle.cycle_trace.proofs.trace_reader.TraceReader.begin_row.Goals as goal
 
 pub returns-then-is_empty-clause-stands : goal.returns-then-is_empty-clause-stands
@@ -26,8 +25,7 @@ returns-then-is_whole-clause-stands g c bytes stands =
     let h = subst (λ (s : Stage). StandsAt g.K.RowSink.stands_for old.sink old.text s stands.0 bytes) c.requires.rows stands.1.1 in
     let t = h.0 in
     let reads = h.1.2 in
-    let whole = c.if-is_whole.ensures.0 refl in
-    let all : length (owed (params_of_heads t.heads) t.cycles) ≤ length t.rows = omega (arith, whole, reads.got, reads.want, length-owed_heads t) in
+    let all = all_read old.text.rows t reads (c.if-is_whole.ensures.0 refl) in
     let some : 0 < length c.args.rest.now = some_bytes c.args.rest.now (some_is_not c.args.rest.now c.if-is_empty.ensures) in
     (stands.0, (tt, subst (λ (n : ℕ). Fails (bytes ++ c.args.rest.now) (RowsLeft n)) (sym (c.line_number-number.ensures t reads)) (left-more t all bytes stands.0 c.args.rest.now h.1.3 some)))
   where

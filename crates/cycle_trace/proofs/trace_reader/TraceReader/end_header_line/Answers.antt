@@ -1,6 +1,7 @@
 use Rattle.std.proofs.Common.{◌∙◌, not, List, [], ◌++◌, ℕ, ap, sym, subst}
+use Rattle.tydi_base.proofs.TestLemmas.{on_ok_is}
 use Rattle.cycle_trace.specs.ReaderView.{Stands}
-use Rattle.cycle_trace.proofs.ReaderLemmas.{StandsAt-more, header_line, holds_none, not_long, on_ok_is}
+use Rattle.cycle_trace.proofs.ReaderLemmas.{StandsAt-more, header_line, holds_none, not_long}
 use Rattle.cycle_trace.proofs.trace_reader.TraceReader.end_header_line.Goals as goal
 
 pub take_line-requires : goal.take_line-requires

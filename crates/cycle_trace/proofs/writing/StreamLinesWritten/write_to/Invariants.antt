@@ -1,6 +1,6 @@
 use Rattle.std.proofs.Common.{◌≡◌, ◌++◌, take}
 use Rattle.std.specs.List.{flat_map}
-use Rattle.cycle_trace.specs.Spelling.{head_text}
+use Rattle.physical_stream.specs.StreamLine.{head_text}
 use Rattle.cycle_trace.proofs.writing.StreamLinesWritten.write_to.Given as goal
 
 -- the lines so far stand behind what was there

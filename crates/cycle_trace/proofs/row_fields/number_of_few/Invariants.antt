@@ -1,7 +1,0 @@
-use Rattle.std.proofs.Common.{◌≡◌, Some, take}
-use Rattle.cycle_trace.proofs.StrobeLemmas.{number_in}
-use Rattle.cycle_trace.proofs.row_fields.number_of_few.Given as goal
-
--- the digits so far spell the number so far
-abbrev pub invariant-digits : goal.invariant-digits
-invariant-digits l = number_in (take l.digit-index l.digits) ≡ Some l.number

@@ -1,5 +1,0 @@
-use Rattle.cycle_trace.proofs.SizedLemmas.{words_in-empty}
-use Rattle.cycle_trace.proofs.words_left.WordsLeft.is_empty.Goals as goal
-
-pub returns : goal.returns
-returns c = words_in-empty c.args.self.rest c.is_none.result c.is_none.ensures

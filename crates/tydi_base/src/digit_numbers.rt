@@ -1,0 +1,48 @@
+//! The number that hexadecimal digits spell.
+
+ghost use Rattle.std.specs.Prelude.{◌≡◌, ◌<◌, ◌≤◌, length, option_map};
+ghost use Rattle.tydi_base.specs.Bits.{number_of_bits};
+ghost use Rattle.tydi_base.specs.Hex.{bits_of_digits};
+
+use crate::hex::digit_value;
+
+/// The number that at most sixteen hexadecimal digits spell, the highest first.
+#[inline(always)]
+fn number_of_few(digits: &[u8]) -> Option<u64>
+    requires { length digits.now ≤ 16 }
+    ensures { result ≡ option_map number_of_bits (bits_of_digits digits.now) }
+{
+    let mut number: u64 = 0;
+    'digits: for digit in digits {
+        number = 16 * number + u64::from(digit_value(*digit)?);
+    }
+    Some(number)
+}
+
+/// The same of more digits, in two parts.
+#[inline(never)]
+fn number_of_many(digits: &[u8]) -> Option<u128>
+    requires many { 16 < length digits.now }
+    requires most { length digits.now ≤ 32 }
+    ensures { result ≡ option_map number_of_bits (bits_of_digits digits.now) }
+{
+    let place = digits.len() - 16;
+    let high = number_of_few(&digits[..place])?;
+    let low = number_of_few(&digits[place..])?;
+    Some((u128::from(high) << 64) + u128::from(low))
+}
+
+/// The number that hexadecimal digits spell, the highest first. Most strobes have one digit.
+#[inline(always)]
+pub fn hex_number(digits: &[u8]) -> Option<u128>
+    requires { length digits.now ≤ 32 }
+    ensures { result ≡ option_map number_of_bits (bits_of_digits digits.now) }
+{
+    if digits.len() == 1 {
+        return Some(u128::from(digit_value(digits[0])?));
+    }
+    if digits.len() > 16 {
+        return number_of_many(digits);
+    }
+    Some(u128::from(number_of_few(digits)?))
+}
