@@ -3,5 +3,7 @@ mod WidthLemmas
 mod NameLemmas
 mod SeenLemmas
 pub mod ThroughputLemmas
+mod RateLemmas
+mod SummaryLemmas
 pub mod FaultLemmas
 pub mod PlainTypes

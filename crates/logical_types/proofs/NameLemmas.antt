@@ -1,9 +1,10 @@
 -- Names that stand twice, in a list that grows at its end.
-use Rattle.std.proofs.Common.{◌≡◌, ℕ, ◌+◌, ◌<◌, ◌≤◌, Bool, true, false, ◌||◌, List, [], ◌∷◌, ◌++◌, length, get_or, take, drop, refl, sym, ap, ◌∙◌}
-use Rattle.std.proofs.lemmas.List.{take_more, take_all, take-append-drop, map-append, drop_more}
+use Rattle.std.proofs.Common.{◌≡◌, ℕ, zero, suc, ◌+◌, ◌<◌, ◌≤◌, Bool, true, false, ◌||◌, List, [], ◌∷◌, ◌++◌, length, get_or, map, take, drop, refl, sym, ap, ◌∙◌, arith}
+use Rattle.std.proofs.lemmas.List.{take_more, take_all, take-append-drop}
+use Rattle.std.proofs.lemmas.Slice.Eq.{bytes_eq-Decides}
+use Rattle.std.specs.Char.{to_ascii_lowercase}
 use Rattle.std.specs.List.{list_any}
-use Rattle.logical_types.specs.declared.ltype.Part.{Part}
-use Rattle.logical_types.specs.Names.{is_same_name, has_name_twice, part_names}
+use Rattle.logical_types.specs.Names.{is_same_name, has_name_twice}
 
 -- ---- truths
 
@@ -51,34 +52,47 @@ has_name_twice-front [] back e = absurd (cc e)
 has_name_twice-front (first ∷ more) back e = either_stays (list_any (is_same_name first) more) (has_name_twice more)
     (list_any (is_same_name first) (more ++ back)) (has_name_twice (more ++ back)) (list_any-front (is_same_name first) more back) (has_name_twice-front more back) e
 
--- ---- parts up to an index
+-- ---- names up to an index
 
-pub part_names-more : (parts : List Part) (at : ℕ) (one : Part) → at < length parts → one ≡ get_or parts at one → part_names (take (at + 1) parts) ≡ part_names (take at parts) ++ one.name ∷ []
-part_names-more parts at one within is =
-    ap part_names (take_more parts at one within ∙ ap (λ (x : Part). take at parts ++ x ∷ []) (sym is)) ∙ map-append (λ (x : Part). x.name) (take at parts) (one ∷ [])
+pub names-more : (names : List (List ℕ)) (at : ℕ) (name : List ℕ) → at < length names → name ≡ get_or names at [] → take (at + 1) names ≡ take at names ++ name ∷ []
+names-more names at name within is = take_more names at [] within ∙ ap (λ n. take at names ++ n ∷ []) (sym is)
 
 -- no name stands twice up to an index, and the next is not among those before
-pub none_twice-more : (parts : List Part) (at : ℕ) (one : Part) → at < length parts → one ≡ get_or parts at one
-    → has_name_twice (part_names (take at parts)) ≡ false → list_any (λ other. is_same_name other one.name) (part_names (take at parts)) ≡ false
-    → has_name_twice (part_names (take (at + 1) parts)) ≡ false
-none_twice-more parts at one within is none new =
-    ap has_name_twice (part_names-more parts at one within is) ∙ has_name_twice-more (part_names (take at parts)) one.name
-    ∙ ap (λ b. b || list_any (λ other. is_same_name other one.name) (part_names (take at parts))) none ∙ new
+pub none_twice-more : (names : List (List ℕ)) (at : ℕ) (name : List ℕ) → at < length names → name ≡ get_or names at []
+    → has_name_twice (take at names) ≡ false → list_any (λ other. is_same_name other name) (take at names) ≡ false → has_name_twice (take (at + 1) names) ≡ false
+none_twice-more names at name within is none new =
+    ap has_name_twice (names-more names at name within is) ∙ has_name_twice-more (take at names) name
+    ∙ ap (λ b. b || list_any (λ other. is_same_name other name) (take at names)) none ∙ new
 
 -- the next is among those before
-pub twice-found : (parts : List Part) (at : ℕ) (one : Part) → at < length parts → one ≡ get_or parts at one
-    → list_any (λ other. is_same_name other one.name) (part_names (take at parts)) ≡ true
-    → has_name_twice (part_names parts) ≡ true
-twice-found parts at one within is found =
-    let here : has_name_twice (part_names (take (at + 1) parts)) ≡ true =
-    ap has_name_twice (part_names-more parts at one within is) ∙ has_name_twice-more (part_names (take at parts)) one.name
-    ∙ or_right (has_name_twice (part_names (take at parts))) _ found in
-    ap has_name_twice (ap part_names (sym (take-append-drop (at + 1) parts)) ∙ map-append (λ (x : Part). x.name) (take (at + 1) parts) (drop (at + 1) parts))
-    ∙ has_name_twice-front (part_names (take (at + 1) parts)) (part_names (drop (at + 1) parts)) here
+pub twice-found : (names : List (List ℕ)) (at : ℕ) (name : List ℕ) → at < length names → name ≡ get_or names at []
+    → list_any (λ other. is_same_name other name) (take at names) ≡ true → has_name_twice names ≡ true
+twice-found names at name within is found =
+    let here : has_name_twice (take (at + 1) names) ≡ true =
+    ap has_name_twice (names-more names at name within is) ∙ has_name_twice-more (take at names) name ∙ or_right (has_name_twice (take at names)) _ found in
+    ap has_name_twice (sym (take-append-drop (at + 1) names)) ∙ has_name_twice-front (take (at + 1) names) (drop (at + 1) names) here
 
-pub none_twice-past : (parts : List Part) (at : ℕ) → length parts ≤ at → has_name_twice (part_names (take at parts)) ≡ false → has_name_twice (part_names parts) ≡ false
-none_twice-past parts at done none = ap (λ (ps : List Part). has_name_twice (part_names ps)) (sym (take_all at parts done)) ∙ none
+pub none_twice-past : (names : List (List ℕ)) (at : ℕ) → length names ≤ at → has_name_twice (take at names) ≡ false → has_name_twice names ≡ false
+none_twice-past names at done none = ap has_name_twice (sym (take_all at names done)) ∙ none
 
--- names from an index on
-pub part_names-at : (parts : List Part) (at : ℕ) (one : Part) → at < length parts → one ≡ get_or parts at one → part_names (drop at parts) ≡ one.name ∷ part_names (drop (at + 1) parts)
-part_names-at parts at one within is = ap part_names (drop_more parts at one within ∙ ap (λ x. x ∷ drop (at + 1) parts) (sym is))
+-- whether one of the names up to an index passes
+pub any-more : (test : List ℕ → Bool) (names : List (List ℕ)) (at : ℕ) (name : List ℕ) → at < length names → name ≡ get_or names at [] → list_any test (take at names) ≡ false → test name ≡ false
+    → list_any test (take (at + 1) names) ≡ false
+any-more test names at name within is none new =
+    ap (list_any test) (names-more names at name within is) ∙ list_any-more test (take at names) name ∙ ap (λ b. b || test name) none ∙ new
+
+pub any-found : (test : List ℕ → Bool) (names : List (List ℕ)) (at end : ℕ) (name : List ℕ) → at < end → end ≤ length names → name ≡ get_or names at [] → test name ≡ true → list_any test (take end names) ≡ true
+any-found test names at zero name within whole is found = absurd (omega arith)
+any-found test [] at (suc end) name within whole is found = absurd (omega arith)
+any-found test (first ∷ names) zero (suc end) name within whole is found = ap (λ n. test n || list_any test (take end names)) (sym is) ∙ ap (λ b. b || list_any test (take end names)) found
+any-found test (first ∷ names) (suc at) (suc end) name within whole is found = or_right (test first) _ (any-found test names at end name (omega arith) (omega arith) is found)
+
+-- what the code tests of two names
+pub same_name : (found : Bool) (one other : List ℕ) → (found ≡ true → map to_ascii_lowercase one ≡ map to_ascii_lowercase other) → (map to_ascii_lowercase one ≡ map to_ascii_lowercase other → found ≡ true)
+    → is_same_name one other ≡ found
+same_name true one other there back = (bytes_eq-Decides (map to_ascii_lowercase one) (map to_ascii_lowercase other)).1 (there refl)
+same_name false one other there back = by (is_same_name one other) refl
+  where
+    by : (b : Bool) → is_same_name one other ≡ b → b ≡ false
+    by false is = refl
+    by true is = sym (back ((bytes_eq-Decides (map to_ascii_lowercase one) (map to_ascii_lowercase other)).0 is))

@@ -10,10 +10,9 @@ use Rattle.std.specs.Char.{to_ascii_lowercase}
 use Rattle.std.specs.Prelude.{fold}
 use Rattle.std.proofs.lemmas.Slice.Eq.{bytes_eq-Decides}
 use Rattle.std.specs.List.{list_any}
-use Rattle.logical_types.specs.declared.ltype.Part.{Part}
-use Rattle.logical_types.specs.Names.{is_same_name, part_names}
+use Rattle.logical_types.specs.Names.{is_same_name}
 use Rattle.logical_types.specs.Seen.{mixed, hash_of, IsMarked, IsSeen}
-use Rattle.logical_types.proofs.NameLemmas.{list_any-more, part_names-more}
+use Rattle.logical_types.proofs.NameLemmas.{list_any-more, names-more}
 
 -- a word with a bit set
 abbrev pub with_bit : ℕ → ℕ → ℕ
@@ -70,18 +69,18 @@ either : (a b : Bool) → (a || b) ≡ true → (a ≡ true) ⊎ (b ≡ true)
 either true b e = inl refl
 either false b e = inr e
 
--- a name that is equal to one of the parts up to an index, or to that at it, is seen
-pub seen-more : (words new : List ℕ) (parts : List Part) (at hash : ℕ) (one : Part) → at < length parts → one ≡ get_or parts at one
-    → hash ≡ hash_of one.name → IsSeen new hash → ((other : ℕ) → IsSeen words other → IsSeen new other)
-    → ((name : List ℕ) → list_any (λ other. is_same_name other name) (part_names (take at parts)) ≡ true → IsSeen words (hash_of name))
-    → (name : List ℕ) → list_any (λ other. is_same_name other name) (part_names (take (at + 1) parts)) ≡ true → IsSeen new (hash_of name)
-seen-more words new parts at hash one within is hashed here kept before name found =
-    let split : (list_any (λ other. is_same_name other name) (part_names (take at parts)) || is_same_name one.name name) ≡ true =
-    sym (list_any-more (λ other. is_same_name other name) (part_names (take at parts)) one.name)
-    ∙ ap (λ names. list_any (λ other. is_same_name other name) names) (sym (part_names-more parts at one within is)) ∙ found in
-    elim (either (list_any (λ other. is_same_name other name) (part_names (take at parts))) (is_same_name one.name name) split) [
+-- a name that is equal to one of those up to an index, or to that at it, is seen
+pub seen-more : (words new : List ℕ) (names : List (List ℕ)) (at hash : ℕ) (one : List ℕ) → at < length names → one ≡ get_or names at []
+    → hash ≡ hash_of one → IsSeen new hash → ((other : ℕ) → IsSeen words other → IsSeen new other)
+    → ((name : List ℕ) → list_any (λ other. is_same_name other name) (take at names) ≡ true → IsSeen words (hash_of name))
+    → (name : List ℕ) → list_any (λ other. is_same_name other name) (take (at + 1) names) ≡ true → IsSeen new (hash_of name)
+seen-more words new names at hash one within is hashed here kept before name found =
+    let split : (list_any (λ other. is_same_name other name) (take at names) || is_same_name one name) ≡ true =
+    sym (list_any-more (λ other. is_same_name other name) (take at names) one)
+    ∙ ap (λ all. list_any (λ other. is_same_name other name) all) (sym (names-more names at one within is)) ∙ found in
+    elim (either (list_any (λ other. is_same_name other name) (take at names)) (is_same_name one name) split) [
       | inl earlier ↦ kept (hash_of name) (before name earlier)
-      | inr same ↦ subst (IsSeen new) (hashed ∙ hash_of-same one.name name ((bytes_eq-Decides (map to_ascii_lowercase one.name) (map to_ascii_lowercase name)).0 same)) here
+      | inr same ↦ subst (IsSeen new) (hashed ∙ hash_of-same one name ((bytes_eq-Decides (map to_ascii_lowercase one) (map to_ascii_lowercase name)).0 same)) here
     ]
 
 -- what would be seen, and is not, is not there

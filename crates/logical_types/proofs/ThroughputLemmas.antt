@@ -40,7 +40,7 @@ chosen : (test : Bool) (k rest one other : ℕ) → (test ≡ true → (k ∣ on
 chosen true k rest one other here below = here refl
 chosen false k rest one other here below = below
 
-up_to-divides : (most one other : ℕ) → (divisor_up_to most one other ∣ one) × (divisor_up_to most one other ∣ other)
+pub up_to-divides : (most one other : ℕ) → (divisor_up_to most one other ∣ one) × (divisor_up_to most one other ∣ other)
 up_to-divides zero one other = (one-dvd one, one-dvd other)
 up_to-divides (suc less) one other = chosen (divides (suc less) one && divides (suc less) other) (suc less) (divisor_up_to less one other) one other
     (λ e. let both = and_cases (divides (suc less) one) (divides (suc less) other) e in (divides-dvd (suc less) one both.0, divides-dvd (suc less) other both.1))

@@ -4,3 +4,5 @@ pub mod Names
 pub mod Throughput
 pub mod Faults
 pub mod Seen
+pub mod Summary
+pub mod formers

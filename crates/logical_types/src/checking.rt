@@ -14,11 +14,11 @@ ghost use Rattle.logical_types.specs.Tree.{bits, group, union, plain, plain_part
 
 use crate::fault::TypeFault;
 use crate::ltype::{LType, Part, StreamType};
-use crate::names::has_name_twice;
+use crate::names::{PartNames, has_name_twice};
 use crate::streams::{Around, around_outermost, inside};
 use crate::widths::{total_width, union_width};
 
-const MOST_BITS: u32 = 4096;
+pub const MOST_BITS: u32 = 4096;
 
 /// The first fault of a type: of the first type in preorder that has one (a type before what it holds, a Stream's data type before
 /// its user type), at one type the first in the order of `TypeFault`. Ok exactly where it has none.
@@ -77,7 +77,7 @@ fn check_fields(parts: &[Part]) -> Result<(), TypeFault>
     if total_width(parts) > MOST_BITS {
         return Err(TypeFault::ElementTooWide);
     }
-    if has_name_twice(parts) {
+    if has_name_twice(&PartNames(parts)) {
         return Err(TypeFault::NameTwice);
     }
     Ok(())
@@ -90,7 +90,7 @@ fn check_variants(parts: &[Part]) -> Result<(), TypeFault>
     if union_width(parts) > MOST_BITS {
         return Err(TypeFault::ElementTooWide);
     }
-    if has_name_twice(parts) {
+    if has_name_twice(&PartNames(parts)) {
         return Err(TypeFault::NameTwice);
     }
     if parts.is_empty() {

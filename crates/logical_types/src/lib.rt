@@ -1,18 +1,30 @@
-//! Logical types: what a stream carries. `check` finds the first fault of a type, and `width` how many bits an element takes.
-//! `specs/Tree.antt` has a type as plain data, over which all definitions recur; `specs/Width.antt` says how wide a type is, and
-//! `specs/Faults.antt` which faults a type has, in the order in which they are told. The crate stands on `tydi_base`. No call
-//! takes memory, and each goes as deep as types nest.
+//! Logical types: what a stream carries. `check` finds the first fault of a type, and `width` how many bits an element takes. A
+//! `Summary`, made from those of a type's parts, shows that a type has no fault without a look at its nodes. `specs/Tree.antt` has a
+//! type as plain data, over which all definitions recur; `specs/Width.antt` says how wide a type is, `specs/Faults.antt` which faults a
+//! type has, in the order in which they are told, and `specs/Summary.antt` what a summary says. The crate stands on `tydi_base`. No
+//! call takes memory, and each goes as deep as types nest.
 #![tactic(auto)]
 
 mod checking;
+mod dims;
 mod fault;
 mod ltype;
 mod names;
+mod rates;
+mod shared;
 mod streams;
+mod summary;
 mod widths;
 
 pub use checking::check;
+pub use dims::Dims;
 pub use fault::TypeFault;
 pub use ltype::{LType, Part, StreamType, Sync};
+pub use names::{Named, has_name_twice};
+pub use rates::Rates;
+pub use shared::Shared;
 pub use streams::{Around, around_outermost, inside};
+pub use summary::{
+    PartsSummary, Summary, summary_of_bits, summary_of_no_parts, summary_of_null, summary_of_stream,
+};
 pub use widths::{saturated_width, union_width, width};

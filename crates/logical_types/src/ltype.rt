@@ -1,8 +1,10 @@
 //! A logical type.
 
-use tydi_base::{Boxed, Frac, Level, List, Name};
+use crate::shared::Shared;
+use std::alloc::Global;
+use tydi_base::{Frac, Level, List, Memory, Name, TryClone};
 
-/// A type (Tydi specification, logical types).
+/// A type (Tydi specification, logical types). What it holds is shared by its copies.
 #[cycle(ltype)]
 #[derive(Debug, Drop)]
 pub enum LType {
@@ -11,11 +13,11 @@ pub enum LType {
     /// A word of so many bits.
     Bits(u64),
     /// All of its fields, side by side; the first lies in the lowest bits.
-    Group(List<Part>),
+    Group(Shared<List<Part>>),
     /// One of its variants, behind a tag that says which.
-    Union(List<Part>),
+    Union(Shared<List<Part>>),
     /// A stream of its own; of the element around it, it takes no bits.
-    Stream(Boxed<StreamType>),
+    Stream(Shared<StreamType>),
 }
 
 /// A field of a Group or a variant of a Union.
@@ -53,4 +55,16 @@ pub enum Sync {
     Flatten,
     Desync,
     FlatDesync,
+}
+
+impl TryClone for LType {
+    fn try_clone(&self, alloc: Global) -> Result<LType, Memory> {
+        match self {
+            LType::Null => Ok(LType::Null),
+            LType::Bits(width) => Ok(LType::Bits(*width)),
+            LType::Group(parts) => Ok(LType::Group(parts.try_clone(alloc)?)),
+            LType::Union(parts) => Ok(LType::Union(parts.try_clone(alloc)?)),
+            LType::Stream(stream) => Ok(LType::Stream(stream.try_clone(alloc)?)),
+        }
+    }
 }

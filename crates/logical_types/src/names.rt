@@ -1,11 +1,42 @@
 //! Names that stand twice in a Group or a Union.
 
-ghost use Rattle.std.specs.Prelude.{◌≡◌, ◌/◌, ◌%◌, ◌^◌, ◌<◌, ◌↔◌, ℕ, length, IsTrue};
+ghost use Rattle.std.specs.Prelude.{◌≡◌, ◌/◌, ◌%◌, ◌^◌, ◌<◌, ◌≤◌, ◌↔◌, ℕ, List, [], length, slice_index_or, take, IsTrue};
 ghost use Rattle.std.specs.List.{list_any};
 ghost use Rattle.logical_types.specs.Names as spec;
 ghost use Rattle.logical_types.specs.Seen.{IsMarked, IsSeen, hash_of};
 
 use crate::ltype::Part;
+
+/// Parts with names.
+pub trait Named {
+    /// Their names.
+    ghost names: { Self → List (List ℕ) };
+
+    /// How many there are.
+    fn len(&self) -> usize
+        ensures { result ≡ length (names self.now) };
+
+    /// The name of one of them.
+    fn name(&self, index: usize) -> &[u8]
+        requires { index < length (names self.now) }
+        ensures { result.now ≡ slice_index_or (names self.now) index [] };
+}
+
+/// The parts of a Group or a Union, by their names.
+#[derive(Clone, Copy)]
+pub struct PartNames<'a>(pub &'a [Part]);
+
+impl Named for PartNames<'_> {
+    ghost names = { λ parts. spec.part_names parts.0.now };
+
+    fn len(&self) -> usize {
+        self.0.len()
+    }
+
+    fn name(&self, index: usize) -> &[u8] {
+        self.0[index].name.as_bytes()
+    }
+}
 
 // With this many parts or fewer, a table that is cleared at once serves.
 const FEW: usize = 64;
@@ -16,8 +47,8 @@ const MANY_WORDS: usize = 32_768;
 
 /// Whether two of these parts have names that are equal when case is ignored. The time is that of the names' bytes: a name is
 /// compared with those before it only where both bits of its hash are set in a table, which the names before it set.
-pub fn has_name_twice(parts: &[Part]) -> bool
-    ensures { result ≡ spec.has_name_twice (spec.part_names parts.now) }
+pub fn has_name_twice<N: Named>(parts: &N) -> bool
+    ensures { result ≡ spec.has_name_twice (N.names parts.now) }
 {
     if parts.len() <= FEW {
         return is_name_seen_again(parts, &mut [0; FEW_WORDS]);
@@ -26,21 +57,21 @@ pub fn has_name_twice(parts: &[Part]) -> bool
 }
 
 // The same with a great table.
-fn has_name_twice_among_many(parts: &[Part]) -> bool
-    ensures { result ≡ spec.has_name_twice (spec.part_names parts.now) }
+fn has_name_twice_among_many<N: Named>(parts: &N) -> bool
+    ensures { result ≡ spec.has_name_twice (N.names parts.now) }
 {
     is_name_seen_again(parts, &mut [0; MANY_WORDS])
 }
 
 // Whether two of these parts have equal names. Whatever the table holds, it may only make names be compared in vain.
-fn is_name_seen_again(parts: &[Part], words: &mut [u64]) -> bool
+fn is_name_seen_again<N: Named>(parts: &N, words: &mut [u64]) -> bool
     requires { 0 < length words.old }
-    ensures { result ≡ spec.has_name_twice (spec.part_names parts.now) }
+    ensures { result ≡ spec.has_name_twice (N.names parts.now) }
 {
-    'parts: for (index, part) in parts.iter().enumerate() {
-        let name = part.name.as_bytes();
+    'parts: for index in 0..parts.len() {
+        let name = parts.name(index);
         let hash = hash_of(name);
-        if is_seen(words, hash) && has_name(&parts[..index], name) {
+        if is_seen(words, hash) && has_name(parts, index, name) {
             return true;
         }
         see(words, hash);
@@ -48,12 +79,13 @@ fn is_name_seen_again(parts: &[Part], words: &mut [u64]) -> bool
     false
 }
 
-// Whether one of these parts has a name equal to this one.
-fn has_name(parts: &[Part], name: &[u8]) -> bool
-    ensures { result ≡ list_any (λ other. spec.is_same_name other name.now) (spec.part_names parts.now) }
+// Whether one of the parts before an index has a name equal to this one.
+fn has_name<N: Named>(parts: &N, end: usize, name: &[u8]) -> bool
+    requires { end ≤ length (N.names parts.now) }
+    ensures { result ≡ list_any (λ other. spec.is_same_name other name.now) (take end (N.names parts.now)) }
 {
-    'parts: for part in parts {
-        if part.name.as_bytes().eq_ignore_ascii_case(name) {
+    'parts: for index in 0..end {
+        if parts.name(index).eq_ignore_ascii_case(name) {
             return true;
         }
     }

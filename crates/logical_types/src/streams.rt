@@ -9,9 +9,9 @@ use crate::fault::TypeFault;
 use crate::ltype::{StreamType, Sync};
 use tydi_base::Frac;
 
-const MOST_LANES: u64 = 128;
+pub const MOST_LANES: u64 = 128;
 
-const MOST_DIMS: u64 = 32;
+pub const MOST_DIMS: u64 = 32;
 
 /// What is around a type: the product of the throughputs of the Streams that hold it, and the effective dimensionality of the
 /// innermost one.

@@ -1,0 +1,56 @@
+//! How many dimensions the Streams in a type have, whatever is around it.
+
+ghost use Rattle.std.specs.Prelude.{IsTrue};
+ghost use Rattle.logical_types.specs.Faults.{outermost};
+ghost use Rattle.logical_types.specs.Summary.{AreDimsIn, AreDimsJoined, HasDims};
+
+use crate::ltype::Sync;
+use crate::streams::MOST_DIMS;
+
+/// The most dimensions of the Streams in a type, up to the greatest number of 64 bits.
+#[derive(Clone, Copy, Debug)]
+pub struct Dims {
+    /// Of those Streams that take over the dimensions from around the type, beside what they take over from there.
+    pub over: u64,
+    /// Of those that take over none from there.
+    pub own: u64,
+}
+
+/// The dimensions of a type without Streams.
+pub fn no_dims() -> Dims {
+    Dims { over: 0, own: 0 }
+}
+
+/// The dimensions of types beside one another.
+pub fn dims_beside(one: &Dims, other: &Dims) -> Dims
+    ensures { AreDimsJoined one.now other.now result }
+{
+    Dims {
+        over: one.over.max(other.over),
+        own: one.own.max(other.own),
+    }
+}
+
+/// The dimensions of a Stream around such types.
+pub fn dims_in_stream(dims: u64, sync: Sync, inside: &Dims) -> Dims
+    ensures { AreDimsIn dims sync inside.now result }
+{
+    let most = dims.saturating_add(inside.over);
+    match sync {
+        Sync::Sync | Sync::Desync => Dims {
+            over: most,
+            own: inside.own,
+        },
+        Sync::Flatten | Sync::FlatDesync => Dims {
+            over: 0,
+            own: inside.own.max(most),
+        },
+    }
+}
+
+/// Whether such types are within the limits where there is no Stream around them.
+pub fn are_dims_few(dims: &Dims) -> bool
+    ensures { IsTrue result → HasDims outermost.dims dims.now }
+{
+    dims.over <= MOST_DIMS && dims.own <= MOST_DIMS
+}

@@ -1,0 +1,160 @@
+//! What is known of a type without what it holds. From the summaries of the parts of a type follows its own, so a type of many nodes
+//! is shown to be valid by the summaries of the types that it names. Where there is none, or it is over a limit, nothing is known.
+
+ghost use Rattle.std.specs.Prelude.{◌≡◌, ℕ, false, List, IsTrue, IfSome};
+ghost use Rattle.logical_types.specs.Faults.{IsValid};
+ghost use Rattle.logical_types.specs.Names.{has_name_twice};
+ghost use Rattle.logical_types.specs.Summary.{AreRates, HasSettings, IsAround, IsSummary, IsSummed};
+ghost use Rattle.logical_types.specs.Tree.{Ltype, null, bits, group, union, stream, Parts, no_parts, part, Settings, names_of, number_of_parts};
+
+use crate::checking::MOST_BITS;
+use crate::dims::{Dims, are_dims_few, dims_beside, dims_in_stream, no_dims};
+use crate::ltype::Sync;
+use crate::rates::{Rates, are_rates_few, no_rates, rates_beside, rates_in_stream};
+use tydi_base::{Frac, index_width};
+
+/// What is known of a type: how wide it is, whether it has Streams, and what these come to. In all surroundings that leave as much
+/// room as that takes the type has no fault.
+#[derive(Clone, Copy, Debug)]
+pub struct Summary {
+    pub width: u32,
+    pub has_stream: bool,
+    pub rates: Rates,
+    pub dims: Dims,
+}
+
+/// What is known of parts together.
+#[derive(Clone, Copy, Debug)]
+pub struct PartsSummary {
+    /// Their widths together, up to the greatest number of 32 bits.
+    pub total: u32,
+    /// The width of the widest.
+    pub widest: u32,
+    pub has_stream: bool,
+    pub rates: Rates,
+    pub dims: Dims,
+}
+
+/// The summary of Null.
+pub fn summary_of_null() -> Summary
+    ensures { IsSummary null result }
+{
+    without_stream(0)
+}
+
+/// The summary of a Bits, if it has no fault.
+pub fn summary_of_bits(width: u64) -> Option<Summary>
+    ensures { IfSome result (IsSummary (bits width)) }
+{
+    if width == 0 || width > u64::from(MOST_BITS) {
+        return None;
+    }
+    Some(without_stream(width as u32))
+}
+
+// The summary of a type of this width without Streams.
+fn without_stream(width: u32) -> Summary
+    ensures width { result.width ≡ width }
+    ensures has_stream { result.has_stream ≡ false }
+    ensures rates { AreRates result.rates }
+{
+    Summary {
+        width,
+        has_stream: false,
+        rates: no_rates(),
+        dims: no_dims(),
+    }
+}
+
+/// The summary of a Stream, by those of its data type and its user type.
+pub fn summary_of_stream(
+    element: &Summary,
+    user: &Summary,
+    throughput: Frac,
+    dims: u64,
+    sync: Sync,
+) -> Option<Summary>
+    ensures { (one other : Ltype) (settings : Settings) → IsSummary one element.now → IsSummary other user.now → HasSettings throughput dims sync settings
+        → IfSome result (IsSummary (stream one other settings)) }
+{
+    if user.has_stream {
+        return None;
+    }
+    let rates = rates_in_stream(throughput, &rates_beside(&element.rates, &user.rates))?;
+    let dims = dims_in_stream(dims, sync, &dims_beside(&element.dims, &user.dims));
+    Some(Summary {
+        width: 0,
+        has_stream: true,
+        rates,
+        dims,
+    })
+}
+
+/// The summary of no parts.
+pub fn summary_of_no_parts() -> PartsSummary
+    ensures { (all : Parts) → IsSummed all all result }
+{
+    PartsSummary {
+        total: 0,
+        widest: 0,
+        has_stream: false,
+        rates: no_rates(),
+        dims: no_dims(),
+    }
+}
+
+impl PartsSummary {
+    /// The summary of these parts and one more.
+    pub fn and(&self, one: &Summary) -> PartsSummary
+        ensures { (all rest : Parts) (name : List ℕ) (ltype : Ltype) → IsSummed all (part name ltype rest) self.now → IsSummary ltype one.now → IsSummed all rest result }
+    {
+        PartsSummary {
+            total: self.total.saturating_add(one.width),
+            widest: self.widest.max(one.width),
+            has_stream: self.has_stream | one.has_stream,
+            rates: rates_beside(&self.rates, &one.rates),
+            dims: dims_beside(&self.dims, &one.dims),
+        }
+    }
+
+    /// The summary of a Group of these parts, which have no two equal names.
+    pub fn in_group(&self) -> Option<Summary>
+        ensures { (all : Parts) → IsSummed all no_parts self.now → has_name_twice (names_of all) ≡ false → IfSome result (IsSummary (group all)) }
+    {
+        self.within(self.total)
+    }
+
+    /// The summary of a Union of these parts, so many, which have no two equal names.
+    pub fn in_union(&self, variants: usize) -> Option<Summary>
+        ensures { (all : Parts) → IsSummed all no_parts self.now → number_of_parts all ≡ variants → has_name_twice (names_of all) ≡ false → IfSome result (IsSummary (union all)) }
+    {
+        if variants == 0 {
+            return None;
+        }
+        self.within(self.widest.saturating_add(index_width(variants as u64)))
+    }
+
+    // The summary of a type of this width around these parts, unless it is too wide.
+    fn within(&self, width: u32) -> Option<Summary>
+        ensures { IfSome result (IsAround self.now width) }
+    {
+        if width > MOST_BITS {
+            return None;
+        }
+        Some(Summary {
+            width,
+            has_stream: self.has_stream,
+            rates: self.rates,
+            dims: self.dims,
+        })
+    }
+}
+
+impl Summary {
+    /// Whether a type with this summary is valid, as far as the summary shows.
+    pub fn shows_valid(&self) -> bool
+        ensures { (ltype : Ltype) → IsSummary ltype self.now → IsTrue result → IsValid ltype }
+    {
+        are_rates_few(self.rates) && are_dims_few(&self.dims)
+    }
+}
