@@ -1,7 +1,13 @@
 -- White space, comments, digits and what stands between two marks. This project's own.
-use Rattle.std.specs.Prelude.{ℕ, ◌==◌, ◌&&◌, ◌||◌, nat_lt, Bool, List, [], ◌∷◌, length, slice_index, Option, Some, None, if◌then◌else◌}
+use Rattle.std.specs.Prelude.{◌≡◌, ℕ, ◌==◌, ◌&&◌, ◌||◌, nat_lt, Bool, List, [], ◌∷◌, length, slice_index, Option, Some, None, if◌then◌else◌}
 use Rattle.std.specs.Char.{is_ascii_digit}
 use Rattle.std.specs.List.{prefix_len, position_or_len}
+use Rattle.std.specs.Fn.{Shared}
+use denote.Ref.{Bor}
+
+-- each call of a closure gives what a test of bytes does
+abbrev pub Decides : {F : Type 0} → Shared F (Bor ℕ × Unit {0}) Bool → F → (ℕ → Bool) → Type 0
+Decides {F} calls f test = (byte : Bor ℕ) (passes : Bool) → calls.post f (byte, tt) passes → passes ≡ test byte.now
 
 -- space, tab, CR or LF
 abbrev pub is_space : ℕ → Bool

@@ -1,9 +1,11 @@
 //! How far white space, a comment, digits and what stands before a mark reach.
 
-ghost use Rattle.std.specs.Prelude.{◌≡◌, ◌<◌, ◌≤◌, length, slice_index, IfSome};
+ghost use Rattle.std.specs.Prelude.{◌≡◌, ◌==◌, ◌<◌, ◌≤◌, ℕ, Bool, not, length, slice_index, IfSome};
+ghost use Rattle.std.specs.Char.{is_ascii_digit};
 ghost use Rattle.std.specs.List.{prefix_len};
 ghost use Rattle.tydi_base.specs.Name.{is_name_byte};
 ghost use Rattle.til_lexer.specs.Spans as spec;
+ghost use Rattle.til_lexer.specs.Spans.{Decides};
 
 /// Whether a byte is white space.
 pub(crate) fn is_space(byte: u8) -> bool
@@ -19,19 +21,33 @@ pub(crate) fn begins_comment(bytes: &[u8]) -> bool
     matches!(bytes, [b'/', b'/', ..])
 }
 
-/// How many bytes of white space begin a text.
-pub(crate) fn space_length(bytes: &[u8]) -> usize
-    ensures value { result ≡ spec.space_length bytes.now }
+/// How many bytes that pass a test begin a text.
+fn count_while<F: Fn(&u8) -> bool>(bytes: &[u8], passes: F) -> usize
+    requires { F.IsAlwaysCallable passes }
+    ensures value { (test : ℕ → Bool) → Decides F.Fn passes test → result ≡ prefix_len test bytes.now }
     ensures within { result ≤ length bytes.now }
 {
     let mut count = 0;
     'bytes: for byte in bytes {
-        if !is_space(*byte) {
+        if !passes(byte) {
             return count;
         }
         count += 1;
     }
     count
+}
+
+/// How many bytes of white space begin a text.
+pub(crate) fn space_length(bytes: &[u8]) -> usize
+    ensures value { result ≡ spec.space_length bytes.now }
+    ensures within { result ≤ length bytes.now }
+{
+    count_while(
+        bytes,
+        |byte: &u8| -> bool
+            ensures { result ≡ spec.is_space byte.now }
+        { is_space(*byte) },
+    )
 }
 
 /// How many bytes stand before a text's first LF, or in all.
@@ -39,14 +55,12 @@ pub(crate) fn line_length(bytes: &[u8]) -> usize
     ensures value { result ≡ spec.line_length bytes.now }
     ensures within { result ≤ length bytes.now }
 {
-    let mut count = 0;
-    'bytes: for byte in bytes {
-        if *byte == b'\n' {
-            return count;
-        }
-        count += 1;
-    }
-    count
+    count_while(
+        bytes,
+        |byte: &u8| -> bool
+            ensures { result ≡ not (byte.now == 10) }
+        { *byte != b'\n' },
+    )
 }
 
 /// How many digits begin a text.
@@ -54,14 +68,12 @@ pub fn digits_at(bytes: &[u8]) -> usize
     ensures value { result ≡ spec.digits_at bytes.now }
     ensures within { result ≤ length bytes.now }
 {
-    let mut count = 0;
-    'bytes: for byte in bytes {
-        if !byte.is_ascii_digit() {
-            return count;
-        }
-        count += 1;
-    }
-    count
+    count_while(
+        bytes,
+        |byte: &u8| -> bool
+            ensures { result ≡ is_ascii_digit byte.now }
+        { byte.is_ascii_digit() },
+    )
 }
 
 /// How many digits stand after the point that begins a text: none where none begins it.
@@ -80,14 +92,12 @@ pub(crate) fn name_bytes_at(bytes: &[u8]) -> usize
     ensures value { result ≡ prefix_len is_name_byte bytes.now }
     ensures within { result ≤ length bytes.now }
 {
-    let mut count = 0;
-    'bytes: for byte in bytes {
-        if !byte.is_ascii_alphanumeric() && *byte != b'_' {
-            return count;
-        }
-        count += 1;
-    }
-    count
+    count_while(
+        bytes,
+        |byte: &u8| -> bool
+            ensures { result ≡ is_name_byte byte.now }
+        { byte.is_ascii_alphanumeric() || *byte == b'_' },
+    )
 }
 
 /// How many bytes stand before the first such mark. None where there is none.
@@ -95,12 +105,15 @@ pub(crate) fn until_mark(mark: u8, bytes: &[u8]) -> Option<usize>
     ensures value { result ≡ spec.until_mark mark bytes.now }
     ensures within { IfSome result (λ inside. inside < length bytes.now) }
 {
-    let mut count = 0;
-    'bytes: for byte in bytes {
-        if *byte == mark {
-            return Some(count);
-        }
-        count += 1;
+    let inside = count_while(
+        bytes,
+        |byte: &u8| -> bool
+            ensures { result ≡ not (byte.now == mark) }
+        { *byte != mark },
+    );
+    if inside < bytes.len() {
+        Some(inside)
+    } else {
+        None
     }
-    None
 }
