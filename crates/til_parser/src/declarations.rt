@@ -14,7 +14,7 @@ use crate::tree::{
     Ast, AstBody, AstDecl, AstEnd, AstKind, AstName, AstNamespace, AstPort, AstPorts, AstStmt,
 };
 use til_lexer::TokenKind;
-use tydi_base::List;
+use tydi_base::{Boxed, List};
 use tydi_reading::Fault;
 
 impl<'a> Parser<'a> {
@@ -273,7 +273,8 @@ impl<'a> Parser<'a> {
             second: self.second()?,
         };
         self.expect(TokenKind::DoubleDash)?;
-        let second = self.end()?;
+        let end = self.end()?;
+        let second = Boxed::new(self.alloc(), end)?;
         self.expect(TokenKind::Semicolon)?;
         Ok(AstStmt::Link { first, second })
     }
@@ -290,12 +291,13 @@ impl<'a> Parser<'a> {
 
     /// `[ "." name ]`
     #[tactic(auto, unfolding(crate::specs::ReadDecls::second, tydi_reading::specs::Lists::mark))]
-    fn second(&mut self) -> Result<Option<AstName>, Fault>
+    fn second(&mut self) -> Result<Option<Boxed<AstName>>, Fault>
         ensures { Reads (spec.second self.old) result self.new }
     {
         if !self.eat(TokenKind::Point) {
             return Ok(None);
         }
-        Ok(Some(self.name()?))
+        let name = self.name()?;
+        Ok(Some(Boxed::new(self.alloc(), name)?))
     }
 }

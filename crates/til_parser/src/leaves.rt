@@ -113,7 +113,9 @@ impl<'a> Parser<'a> {
         'names: while self.eat(TokenKind::DoubleColon) {
             names.push(self.name()?)?;
         }
-        Ok(AstPath { names })
+        Ok(AstPath {
+            names: fitted(names),
+        })
     }
 }
 
@@ -122,6 +124,15 @@ fn room_for_one<T>(alloc: Global) -> Result<List<T>, Memory>
     ensures { IfOk result (λ list. list ≡ []) }
 {
     Ok(List::from_vec(Vec::with_capacity(alloc, 1)?))
+}
+
+/// A list with no room for more than it has.
+fn fitted<T>(list: List<T>) -> List<T>
+    ensures { result ≡ list }
+{
+    let mut elements = list.into_vec();
+    elements.shrink_to_fit();
+    List::from_vec(elements)
 }
 
 /// The whole number that a number spells, if it has no point.

@@ -136,7 +136,7 @@ impl Written for AstStmt {
     fn write_to(&self, out: &mut List<u8>) -> Result<(), Memory> {
         match self {
             AstStmt::Instance { name, streamlet } => emit!(out; name, " = ", streamlet, ";"),
-            AstStmt::Link { first, second } => emit!(out; first, " -- ", second, ";"),
+            AstStmt::Link { first, second } => emit!(out; first, " -- ", second.get(), ";"),
         }
     }
 }
@@ -147,7 +147,7 @@ impl Written for AstEnd {
     fn write_to(&self, out: &mut List<u8>) -> Result<(), Memory> {
         match &self.second {
             None => emit!(out; &self.first),
-            Some(second) => emit!(out; &self.first, ".", second),
+            Some(second) => emit!(out; &self.first, ".", second.get()),
         }
     }
 }

@@ -1,7 +1,7 @@
 //! The tree of a project: what its text spells, with the places of its names.
 
 use crate::ltype::AstType;
-use tydi_base::{List, Name, Place, Text};
+use tydi_base::{Boxed, List, Name, Place, Text};
 
 /// A name, and the place of its first byte.
 #[derive(Debug, Drop)]
@@ -85,18 +85,24 @@ pub enum AstBody {
     Structural(List<AstStmt>),
 }
 
-/// A statement of a structural body.
+/// A statement of a structural body. Of a text most statements may be instances, so what a link has more stands behind a box.
 #[derive(Debug, Drop)]
 pub enum AstStmt {
     /// `name = streamlet;`
-    Instance { name: AstName, streamlet: AstPath },
+    Instance {
+        name: AstName,
+        streamlet: AstPath,
+    },
     /// `first -- second;`
-    Link { first: AstEnd, second: AstEnd },
+    Link {
+        first: AstEnd,
+        second: Boxed<AstEnd>,
+    },
 }
 
 /// An end of a link: an own port, or an instance and, after a `.`, its port.
 #[derive(Debug, Drop)]
 pub struct AstEnd {
     pub first: AstName,
-    pub second: Option<AstName>,
+    pub second: Option<Boxed<AstName>>,
 }

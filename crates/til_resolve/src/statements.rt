@@ -75,7 +75,7 @@ fn add_link(alloc: Global, stmt: &AstStmt, links: &mut List<Link>) -> Result<(),
         AstStmt::Instance { .. } => Ok(()),
         AstStmt::Link { first, second } => links.push(Link {
             first: end_of(alloc, first)?,
-            second: end_of(alloc, second)?,
+            second: end_of(alloc, second.get())?,
             place: first.first.place,
         }),
     }
@@ -88,7 +88,7 @@ fn end_of(alloc: Global, end: &AstEnd) -> Result<LinkEnd, Memory>
     match &end.second {
         Some(port) => Ok(LinkEnd {
             instance: Some(first),
-            port: port.name.try_clone(alloc)?,
+            port: port.get().name.try_clone(alloc)?,
         }),
         None => Ok(LinkEnd {
             instance: None,
