@@ -1,30 +1,31 @@
 -- The first written type that has a fault, one type after another, and what is kept of the types of declarations.
-use Rattle.std.proofs.Common.{◌≡◌, ℕ, zero, suc, ◌+◌, ◌<◌, ◌≤◌, ◌⊎◌, inl, inr, Bool, true, false, ◌&&◌, cond, eqb, ltb, find, List, [], ◌∷◌, ◌++◌, length, map, replicate, get_or, set, take, Option, Some, None, is_some, IfSome, Contains, refl, sym, ap, subst, ◌∙◌, arith}
+use Rattle.std.proofs.Common.{◌≡◌, ℕ, suc, ◌+◌, ◌<◌, ◌≤◌, Bool, true, false, ◌&&◌, cond, eqb, ltb, find, List, [], ◌∷◌, ◌++◌, length, map, replicate, get_or, set, take, Option, Some, None, is_some, IfSome, Contains, refl, sym, ap, subst, ◌∙◌, arith}
 use Rattle.std.specs.Bool.{then_some}
-use Rattle.std.proofs.lemmas.Bool.{cases_eq, cases_lt, leb-true, leb-false, lt-ltb, ltb-true}
+use Rattle.std.proofs.lemmas.Bool.{leb-true, leb-false, lt-ltb, ltb-true}
 use Rattle.std.proofs.lemmas.Bool.Decides.{nat_tests}
-use Rattle.std.proofs.lemmas.List.{take_more, take_all, map-append, get_or-set_same, get_or-set_other, set_past}
+use Rattle.std.proofs.lemmas.List.{take_more, take_all, map-append}
 use Rattle.std.proofs.lemmas.List.Elements.{Contains-append_left, Contains-append_right, Contains-push}
 use Rattle.tydi_base.specs.declared.place.Place.{Place}
 use Rattle.logical_types.specs.declared.fault.TypeFault.{TypeFault}
 use Rattle.logical_types.specs.declared.ltype.LType.{LType}
-use Rattle.logical_types.specs.Tree.{Ltype, plain}
 use Rattle.til_resolve.specs.declared.bad_types.BadType.{BadType}
+use Rattle.til_resolve.specs.declared.bad_types.Findings.{Findings}
 use Rattle.til_resolve.specs.declared.bad_types.Verdict.{Verdict}
 use Rattle.til_resolve.specs.declared.bad_types.Verdict.TheVariants as verdicts
-use Rattle.til_resolve.specs.declared.building.Room.{Room}
+use Rattle.til_resolve.specs.declared.chains.Chain.{Chain}
 use Rattle.til_resolve.specs.declared.fault.ResolveFault.TheVariants as faults
 use Rattle.til_resolve.specs.declared.written.Written.{Written}
-use Rattle.til_resolve.specs.BadTypes.{first_fault, AreAcyclic, HasSomeFault, IsBadIn, place_found, IsFirstBad, bad_at, bad_type, earlier_bad, verdict_at, AreVerdicts}
-use Rattle.til_resolve.specs.Building.{Builds}
+use Rattle.til_resolve.specs.BadTypes.{first_fault, AreAcyclic, HasSomeFault, IsBadIn, place_found, IsFirstBad, bad_at, bad_type, earlier_bad, verdict_at, AreVerdicts, AreFindings}
+use Rattle.til_resolve.specs.Chains.{chain_at, AreChains, IsChain}
 use Rattle.til_resolve.specs.Declarations.{Declaration, declaration}
 use Rattle.til_resolve.specs.Earliest.{earlier, stands_first}
 use Rattle.til_resolve.specs.Faults.{WrittenType, HasTypeAt, IsChosenBad, IsToldUpTo, is_bad_at, written_types}
 use Rattle.til_resolve.specs.Shapes.{type_at}
-use Rattle.til_resolve.specs.Types.{depth_of}
+use Rattle.til_resolve.specs.SharedTypes.{ltype_at, AreTypes}
 use Rattle.til_resolve.specs.Written.{written_type, place_of, ltype_of, AreWritten}
+use Rattle.til_resolve.proofs.ChainLemmas.{root-is}
 use Rattle.til_resolve.proofs.MisshapenLemmas.{types-none, types-one, types-grown}
-use Rattle.til_resolve.proofs.WrittenLemmas.{Contains-map}
+use Rattle.til_resolve.proofs.TableLemmas.{get_or-replicate, each-kept}
 
 -- ---- one type more
 
@@ -149,6 +150,11 @@ IsFirstBad-more all written i one found result within is told so = record {
     grown : map (written_type all) (take (i + 1) written) ≡ map (written_type all) (take i written) ++ written_type all one ∷ []
     grown = ap (map (written_type all)) (take_more written i one within ∙ ap (λ (w : Written). take i written ++ w ∷ []) (sym is)) ∙ map-append (written_type all) (take i written) (one ∷ [])
 
+-- the same of one that has no fault, where nothing was found
+pub IsFirstBad-valid : (all : List Declaration) (written : List Written) (i : ℕ) (one : Written) → i < length written → one ≡ get_or written i one → first_fault (ltype_of all one) ≡ None
+    → IsFirstBad (map (written_type all) (take i written)) None → IsFirstBad (map (written_type all) (take (i + 1) written)) None
+IsFirstBad-valid all written i one within is valid so = IsFirstBad-more all written i one None None within is (ap (bad_at (place_of all one)) (sym valid)) so
+
 pub IsFirstBad-all : (all : List Declaration) (written : List Written) (i : ℕ) (found : Option BadType) → length written ≤ i → AreWritten all written
     → IsFirstBad (map (written_type all) (take i written)) found → IsFirstBad (written_types all) found
 IsFirstBad-all all written i found done are so =
@@ -186,52 +192,51 @@ acyclic-told all none = record {
       (record { one = one; within = within; at = record { at = refl; leads = leads } });
 }
 
-pub small-told : (all : List Declaration) (written : List Written) (one : Written) → IsToldUpTo all 4 None → AreWritten all written → Contains written one → depth_of (ltype_of all one) ≤ 64
-small-told all written one none are there = by (cases_lt 64 (depth_of (ltype_of all one)))
-  where
-    inside : Contains (written_types all) (written_type all one)
-    inside = subst (λ (l : List WrittenType). Contains l (written_type all one)) are.types (Contains-map (written_type all) written one there)
-
-    by : (64 < depth_of (ltype_of all one)) ⊎ (depth_of (ltype_of all one) ≤ 64) → depth_of (ltype_of all one) ≤ 64
-    by (inl deep) = absurd (none.told (faults.TypeTooLarge (place_of all one)) (omega arith) (record { one = written_type all one; written = inside; at = refl; is = inr deep }))
-    by (inr low) = low
-
 -- ---- what is kept
 
 pub AreVerdicts-none : (all : List Declaration) (n : ℕ) (kept : List Verdict) → kept ≡ replicate n verdicts.Unknown → AreVerdicts all kept
-AreVerdicts-none all n kept is = record { each = λ one fault known. absurd (never fault (sym (unknown n one) ∙ ap (λ (l : List Verdict). verdict_at l one) (sym is) ∙ known)) }
+AreVerdicts-none all n kept is = record {
+  each = λ one fault known. absurd (never fault (sym (ap (λ (l : List Verdict). verdict_at l one) is ∙ get_or-replicate verdicts.Unknown n one) ∙ known));
+}
   where
-    unknown : (m k : ℕ) → verdict_at (replicate m verdicts.Unknown) k ≡ verdicts.Unknown
-    unknown zero k = refl
-    unknown (suc m) zero = refl
-    unknown (suc m) (suc k) = unknown m k
-
     never : (fault : Option TypeFault) → ¬ (verdicts.Unknown ≡ verdicts.Known fault)
     never fault same = cc
 
 pub AreVerdicts-kept : (all : List Declaration) (old new : List Verdict) (number : ℕ) (fault : Option TypeFault) → new ≡ set old number (verdicts.Known fault)
     → fault ≡ first_fault (type_at all (suc (length all)) number) → AreVerdicts all old → AreVerdicts all new
-AreVerdicts-kept all old new number fault is right so = record { each = λ one other known. by one other (cases_eq one number) (sym (ap (λ (l : List Verdict). verdict_at l one) is) ∙ known) }
+AreVerdicts-kept all old new number fault is right so = record {
+  each = each-kept verdicts.Unknown (λ one verdict. (other : Option TypeFault) → verdict ≡ verdicts.Known other → other ≡ first_fault (type_at all (suc (length all)) one))
+      old new number (verdicts.Known fault) is (λ other same. same_fault other fault (sym same) ∙ right) so.each;
+}
   where
     same_fault : (one other : Option TypeFault) → verdicts.Known one ≡ verdicts.Known other → one ≡ other
     same_fault one other same = cc
 
-    at : (other : Option TypeFault) → (number < length old) ⊎ (length old ≤ number) → verdict_at (set old number (verdicts.Known fault)) number ≡ verdicts.Known other
-        → other ≡ first_fault (type_at all (suc (length all)) number)
-    at other (inl within) known = same_fault other fault (sym known ∙ get_or-set_same old number (verdicts.Known fault) verdicts.Unknown within) ∙ right
-    at other (inr past) known = so.each number other (sym (ap (λ (l : List Verdict). verdict_at l number) (set_past old number (verdicts.Known fault) past)) ∙ known)
+-- ---- the types of declarations
 
-    by : (one : ℕ) (other : Option TypeFault) → (one ≡ number) ⊎ (one ≡ number → ⊥) → verdict_at (set old number (verdicts.Known fault)) one ≡ verdicts.Known other
-        → other ≡ first_fault (type_at all (suc (length all)) one)
-    by one other (inl same) known = subst (λ (k : ℕ). other ≡ first_fault (type_at all (suc (length all)) k)) (sym same)
-        (at other (cases_lt number (length old)) (subst (λ (k : ℕ). verdict_at (set old number (verdicts.Known fault)) k ≡ verdicts.Known other) same known))
-    by one other (inr apart) known = so.each one other (sym (get_or-set_other old number one (verdicts.Known fault) verdicts.Unknown apart) ∙ known)
+-- the type of a declaration is that of its root
+pub own-root : (all : List Declaration) (findings : Findings) (chains : List Chain) (number : ℕ) (chain : Chain) → AreAcyclic all → number < length all → AreFindings all findings → chains ≡ findings.chains
+    → chain ≡ chain_at chains number → type_at all (length all) number ≡ type_at all (suc (length all)) chain.root
+own-root all findings chains number chain acyclic within is slice same =
+    root-is all chain number acyclic within (subst (IsChain all number) (sym (same ∙ ap (λ (l : List Chain). chain_at l number) slice)) (is.chains.each number within))
 
--- the first fault of a root's type that is made
-pub fault-declared : (all : List Declaration) (room : Room) (root : ℕ) (wanted : Ltype) (built : LType) (fault : Option TypeFault) → fault ≡ first_fault (plain built)
-    → room.names ≡ length all → room.levels ≡ 64 → wanted ≡ type_at all (suc (length all)) root → depth_of wanted ≤ 64 → Builds room.levels (type_at all (suc room.names) root) built
-    → fault ≡ first_fault (type_at all (suc (length all)) root)
-fault-declared all room root wanted built fault told names levels same small so =
-    told ∙ ap first_fault
-    (subst (λ (n : ℕ). Builds n (type_at all (suc (length all)) root) built) levels (subst (λ (n : ℕ). Builds room.levels (type_at all (suc n) root) built) names so)
-    (subst (λ (t : Ltype). depth_of t ≤ 64) same small))
+-- what is kept of the root
+pub fault-kept : (all : List Declaration) (findings : Findings) (kept : List Verdict) (number root : ℕ) (verdict : Verdict) (fault : Option TypeFault) → AreFindings all findings
+    → type_at all (length all) number ≡ type_at all (suc (length all)) root → kept ≡ findings.verdicts.items → verdict ≡ verdict_at kept root → verdict ≡ verdicts.Known fault
+    → fault ≡ first_fault (type_at all (length all) number)
+fault-kept all findings kept number root verdict fault is same slice at found =
+    is.verdicts.each root fault (ap (λ (l : List Verdict). verdict_at l root) (sym slice) ∙ sym at ∙ found) ∙ ap first_fault (sym same)
+
+-- what is found of the type in the table
+pub fault-found : (all : List Declaration) (findings : Findings) (types : List LType) (number : ℕ) (fault : Option TypeFault) → number < length all → AreFindings all findings → types ≡ findings.types
+    → fault ≡ first_fault (ltype_at types number) → fault ≡ first_fault (type_at all (length all) number)
+fault-found all findings types number fault within is slice told = told ∙ ap first_fault (ap (λ (l : List LType). ltype_at l number) slice ∙ is.types.each number within)
+
+pub AreFindings-kept : (all : List Declaration) (old new : Findings) (number root : ℕ) (fault : Option TypeFault) → new.types ≡ old.types → new.chains ≡ old.chains
+    → new.verdicts.items ≡ set old.verdicts.items root (verdicts.Known fault) → type_at all (length all) number ≡ type_at all (suc (length all)) root
+    → fault ≡ first_fault (type_at all (length all) number) → AreFindings all old → AreFindings all new
+AreFindings-kept all old new number root fault types chains kept same found so = record {
+  types = subst (AreTypes all (length all)) (sym types) so.types;
+  chains = subst (AreChains all) (sym chains) so.chains;
+  verdicts = AreVerdicts-kept all old.verdicts.items new.verdicts.items root fault kept (found ∙ ap first_fault same) so.verdicts;
+}

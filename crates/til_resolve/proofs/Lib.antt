@@ -24,7 +24,8 @@ mod MeaningLemmas
 pub mod StableLemmas
 mod ShapeLemmas
 mod ChainLemmas
-mod BuildingLemmas
+mod TableLemmas
+mod SummaryLemmas
 mod WrittenLemmas
 mod MisshapenLemmas
 mod BadTypeLemmas

@@ -1,6 +1,7 @@
 -- What a path means is the type of the declaration that it names, and meanings that agree on the paths in a written type give one type.
 use Rattle.std.proofs.Common.{◌≡◌, ℕ, zero, suc, Bool, true, false, cond, List, [], Option, Some, None, Contains, refl, sym, ap, ◌∙◌}
 use Rattle.std.proofs.lemmas.List.Elements.{Contains-append_left, Contains-append_right, Contains-push}
+use Rattle.til_parser.specs.declared.ltype.AstType.{AstType}
 use Rattle.til_parser.specs.declared.tree.AstKind.{AstKind}
 use Rattle.til_parser.specs.declared.tree.AstKind.TheVariants as decls
 use Rattle.til_parser.specs.declared.tree.AstName.{AstName}
@@ -76,3 +77,10 @@ meant-same all one other space path same = meant-named all one space path ∙ by
     by : (o : Option ℕ) → ((n : ℕ) → o ≡ Some n → type_at all one n ≡ type_at all other n) → type_of_named all one o ≡ type_of_named all other o
     by None agree = refl
     by (Some n) agree = agree n refl
+
+-- the type that a declaration of a kind gives a name to
+pub declared-is : (all : List Declaration) (names number : ℕ) (ltype : AstType) → (declaration all number).kind ≡ decls.Alias ltype
+    → type_at all (suc names) number ≡ replaced (meaning_of all names (declaration all number).space) (tree.plain ltype)
+declared-is all names number ltype is =
+    let d = declaration all number in
+    ap (λ (kind : AstKind). type_by (meaning_of all names) (record { space = d.space; name = d.name; kind = kind })) is

@@ -1,20 +1,254 @@
--- The types that were built: none yet, and one more.
-use Rattle.std.proofs.Common.{◌≡◌, ℕ, suc, ◌≤◌, List, length, get_or, None, IfSome, sym, subst, arith}
-use Rattle.logical_types.specs.Tree.{plain_of_stream}
-use Rattle.til_resolve.specs.declared.port_types.PortTypes.{PortTypes}
-use Rattle.til_resolve.specs.SharedTypes.{AreBuilt}
-use Rattle.til_resolve.specs.Chains.{AreChains}
-use Rattle.til_resolve.specs.Declarations.{Declaration}
-use Rattle.til_resolve.specs.Faults.{IsToldUpTo}
-use Rattle.til_resolve.specs.Shapes.{type_at}
+-- Written types that are made by a table of the types of declarations, and such tables: of a round more, and of ranks that fall.
+use Rattle.std.proofs.Common.{◌≡◌, ◌≢◌, ℕ, zero, suc, ◌+◌, ◌<◌, ◌≤◌, ◌⊎◌, inl, inr, List, [], ◌∷◌, ◌++◌, length, get_or, set, take, false, Option, Some, None, Contains, refl, sym, ap, subst, ◌∙◌, arith}
+use Rattle.std.proofs.lemmas.Bool.{cases_eq}
+use Rattle.std.proofs.lemmas.List.{take_more, get_or-set_same, get_or-set_other, length-set, length-append, get_or_append_left}
+use Rattle.std.proofs.Math.Seq.{get_or-append_seam}
+use Rattle.std.proofs.lemmas.Option.{slice_get_within, get_or_from_slice_get}
+use Rattle.til_parser.specs.declared.ltype.AstPart.{AstPart}
+use Rattle.til_parser.specs.declared.ltype.AstStream.{AstStream}
+use Rattle.til_parser.specs.declared.ltype.AstType.{AstType}
+use Rattle.til_parser.specs.declared.ltype.AstType.TheVariants as written
+use Rattle.til_parser.specs.declared.tree.AstKind.{AstKind}
+use Rattle.til_parser.specs.declared.tree.AstKind.TheVariants as decls
+use Rattle.til_parser.specs.declared.tree.AstName.{AstName}
+use Rattle.til_parser.specs.declared.tree.AstPath.{AstPath}
+use Rattle.til_parser.specs.Tree as tree
+use Rattle.til_parser.proofs.PlainLemmas as tree_plain
+use Rattle.logical_types.specs.declared.ltype.LType.{LType}
+use Rattle.logical_types.specs.declared.ltype.LType.TheVariants as types
+use Rattle.logical_types.specs.declared.ltype.Part.{Part}
+use Rattle.logical_types.specs.declared.ltype.StreamType.{StreamType}
+use Rattle.logical_types.specs.Tree.{Ltype, null, bits, group, union, stream, Parts, no_parts, part, plain, plain_parts, plain_of_stream}
+use Rattle.logical_types.proofs.PlainLemmas.{plain-Null, plain-Bits, plain-Group, plain-Union, plain-Stream}
+use Rattle.til_resolve.specs.Cycles.{NamesType, paths_of_alias}
+use Rattle.til_resolve.specs.Declarations.{Declaration, declaration, named_as, is_type}
+use Rattle.til_resolve.specs.Graph.{rank_of, type_graph}
+use Rattle.til_resolve.specs.Names.{paths_in}
+use Rattle.til_resolve.specs.Shapes.{type_at, IsRanked}
+use Rattle.til_resolve.specs.SharedTypes.{ltype_at, ltype_of_number, type_named, replaced_list, type_of_kind, declared_type, AreTypes, IsNextRound, AreOrdered, AreTypesBelow}
+use Rattle.til_resolve.specs.Types.{replaced, replaced_parts, settings_of, is_stream, type_by, meaning_of, type_of}
+use Rattle.til_resolve.proofs.MeaningLemmas.{type_of_named, meant-named, replaced-same}
+use Rattle.til_resolve.proofs.TypeGraphLemmas.{length-type_graph, Leads-NamesType, named-within}
 
-pub none-built : (all : List Declaration) (types : PortTypes) → AreChains all types.chains → length types.streams.items ≡ length all → ((one : ℕ) → get_or types.streams.items one None ≡ None) → AreBuilt all types
-none-built all types chains long empty = record {
-  chains = chains;
-  long = long;
-  each = λ one within. subst (λ o. IfSome o (λ stream. plain_of_stream stream.value ≡ type_at all (suc (length all)) one)) (sym (empty one)) tt;
+-- ---- written types as plain data, their names replaced
+
+listed : (meaning : List AstName → Ltype) (parts : List AstPart) → replaced_parts meaning (tree_plain.plain_parts parts) ≡ replaced_list meaning parts
+listed meaning [] = refl
+listed meaning (first ∷ more) = ap (λ (ps : Parts). part first.name.name (replaced meaning (tree.plain first.ltype)) ps) (listed meaning more)
+
+module _ (meaning : List AstName → Ltype) (ltype : AstType) where
+  pub replaced-Null : ltype ≡ written.Null → replaced meaning (tree.plain ltype) ≡ null
+  replaced-Null is = ap (λ (t : AstType). replaced meaning (tree.plain t)) is ∙ ap (replaced meaning) tree_plain.plain-Null
+
+  pub replaced-Bits : (width : ℕ) → ltype ≡ written.Bits width → replaced meaning (tree.plain ltype) ≡ bits width
+  replaced-Bits width is = ap (λ (t : AstType). replaced meaning (tree.plain t)) is ∙ ap (replaced meaning) (tree_plain.plain-Bits width)
+
+  pub replaced-Group : (parts : List AstPart) → ltype ≡ written.Group parts → replaced meaning (tree.plain ltype) ≡ group (replaced_list meaning parts)
+  replaced-Group parts is = ap (λ (t : AstType). replaced meaning (tree.plain t)) is ∙ ap (replaced meaning) (tree_plain.plain-Group parts) ∙ ap group (listed meaning parts)
+
+  pub replaced-Union : (parts : List AstPart) → ltype ≡ written.Union parts → replaced meaning (tree.plain ltype) ≡ union (replaced_list meaning parts)
+  replaced-Union parts is = ap (λ (t : AstType). replaced meaning (tree.plain t)) is ∙ ap (replaced meaning) (tree_plain.plain-Union parts) ∙ ap union (listed meaning parts)
+
+  pub replaced-Stream : (one : AstStream) → ltype ≡ written.Stream one
+      → replaced meaning (tree.plain ltype) ≡ stream (replaced meaning (tree.plain one.element)) (replaced meaning (tree.plain one.user)) (settings_of (tree.settings_of one))
+  replaced-Stream one is = ap (λ (t : AstType). replaced meaning (tree.plain t)) is ∙ ap (replaced meaning) (tree_plain.plain-Stream one)
+
+  pub replaced-Path : (path : AstPath) → ltype ≡ written.Path path → replaced meaning (tree.plain ltype) ≡ meaning path.names
+  replaced-Path path is = ap (λ (t : AstType). replaced meaning (tree.plain t)) is ∙ ap (replaced meaning) (tree_plain.plain-Path path)
+
+  -- what is made of parts
+  pub made-Group : (parts slice : List AstPart) (made shared : List Part) → ltype ≡ written.Group parts → slice ≡ parts → plain_parts made ≡ replaced_list meaning slice → shared ≡ made
+      → plain (types.Group shared) ≡ replaced meaning (tree.plain ltype)
+  made-Group parts slice made shared is same so shares =
+      ap (λ (l : List Part). plain (types.Group l)) shares ∙ plain-Group made ∙ ap group (so ∙ ap (replaced_list meaning) same) ∙ sym (replaced-Group parts is)
+
+  pub made-Union : (parts slice : List AstPart) (made shared : List Part) → ltype ≡ written.Union parts → slice ≡ parts → plain_parts made ≡ replaced_list meaning slice → shared ≡ made
+      → plain (types.Union shared) ≡ replaced meaning (tree.plain ltype)
+  made-Union parts slice made shared is same so shares =
+      ap (λ (l : List Part). plain (types.Union l)) shares ∙ plain-Union made ∙ ap union (so ∙ ap (replaced_list meaning) same) ∙ sym (replaced-Union parts is)
+
+-- ---- parts and one more
+
+abbrev pub pushed : Parts → List ℕ → Ltype → Parts
+pushed no_parts name ltype = part name ltype no_parts
+pushed (part first here more) name ltype = part first here (pushed more name ltype)
+
+pub plain_parts-push : (parts : List Part) (one : Part) → plain_parts (parts ++ one ∷ []) ≡ pushed (plain_parts parts) one.name (plain one.ltype)
+plain_parts-push [] one = refl
+plain_parts-push (first ∷ more) one = ap (λ (ps : Parts). part first.name (plain first.ltype) ps) (plain_parts-push more one)
+
+replaced_list-push : (meaning : List AstName → Ltype) (parts : List AstPart) (one : AstPart)
+    → replaced_list meaning (parts ++ one ∷ []) ≡ pushed (replaced_list meaning parts) one.name.name (replaced meaning (tree.plain one.ltype))
+replaced_list-push meaning [] one = refl
+replaced_list-push meaning (first ∷ more) one = ap (λ (ps : Parts). part first.name.name (replaced meaning (tree.plain first.ltype)) ps) (replaced_list-push meaning more one)
+
+pub replaced_list-more : (meaning : List AstName → Ltype) (parts : List AstPart) (i : ℕ) (one : AstPart) → i < length parts → one ≡ get_or parts i one
+    → replaced_list meaning (take (i + 1) parts) ≡ pushed (replaced_list meaning (take i parts)) one.name.name (replaced meaning (tree.plain one.ltype))
+replaced_list-more meaning parts i one within is =
+    ap (replaced_list meaning) (take_more parts i one within ∙ ap (λ (p : AstPart). take i parts ++ p ∷ []) (sym is)) ∙ replaced_list-push meaning (take i parts) one
+
+pub made-more : (meaning : List AstName → Ltype) (parts : List AstPart) (i : ℕ) (one : AstPart) (made new : List Part) (last : Part) → i < length parts → one ≡ get_or parts i one
+    → new ≡ made ++ last ∷ [] → last.name ≡ one.name.name → plain last.ltype ≡ replaced meaning (tree.plain one.ltype)
+    → plain_parts made ≡ replaced_list meaning (take i parts) → plain_parts new ≡ replaced_list meaning (take (i + 1) parts)
+made-more meaning parts i one made new last within is pushes name ltype so =
+    ap plain_parts pushes ∙ plain_parts-push made last ∙ ap (λ (ps : Parts). pushed ps last.name (plain last.ltype)) so
+    ∙ ap (λ (n : List ℕ). pushed (replaced_list meaning (take i parts)) n (plain last.ltype)) name
+    ∙ ap (pushed (replaced_list meaning (take i parts)) one.name.name) ltype ∙ sym (replaced_list-more meaning parts i one within is)
+
+-- ---- what a path means
+
+type-meant : (all : List Declaration) (depth : ℕ) (table : List LType) (space : List (List ℕ)) (path : AstPath)
+    → ((n : ℕ) → named_as is_type all space path ≡ Some n → ltype_at table n ≡ type_at all depth n)
+    → type_named all table space path.names ≡ meaning_of all depth space path.names
+type-meant all depth table space path has = by (named_as is_type all space path) has ∙ sym (meant-named all depth space path)
+  where
+    by : (o : Option ℕ) → ((n : ℕ) → o ≡ Some n → ltype_at table n ≡ type_at all depth n) → ltype_of_number table o ≡ type_of_named all depth o
+    by None is = refl
+    by (Some n) is = is n refl
+
+-- a written type is right where the types are that it names
+type-written : (all : List Declaration) (depth : ℕ) (table : List LType) (space : List (List ℕ)) (t : tree.Ltype)
+    → ((path : AstPath) (n : ℕ) → Contains (paths_in t) path → named_as is_type all space path ≡ Some n → ltype_at table n ≡ type_at all depth n)
+    → replaced (type_named all table space) t ≡ replaced (meaning_of all depth space) t
+type-written all depth table space t has =
+    replaced-same (type_named all table space) (meaning_of all depth space) t (λ path there. type-meant all depth table space path (λ n is. has path n there is))
+
+-- the same of a declaration, whose type has one name more replaced
+type-declared : (all : List Declaration) (depth : ℕ) (table : List LType) (one : ℕ) → ((n : ℕ) → NamesType all one n → ltype_at table n ≡ type_at all depth n)
+    → declared_type all table (declaration all one) ≡ type_at all (suc depth) one
+type-declared all depth table one has =
+    let d = declaration all one in
+    by d.space d.name d.kind (λ path n there is. has n (record { path = path; written = there; names = is }))
+  where
+    by : (space : List (List ℕ)) (name : AstName) (kind : AstKind)
+        → ((path : AstPath) (n : ℕ) → Contains (paths_of_alias kind) path → named_as is_type all space path ≡ Some n → ltype_at table n ≡ type_at all depth n)
+        → type_of_kind all table space kind ≡ type_by (meaning_of all depth) (record { space = space; name = name; kind = kind })
+    by space name (decls.Alias ltype) there = type-written all depth table space (tree.plain ltype) there
+    by space name (decls.Interface listed) there = refl
+    by space name (decls.Streamlet listed) there = refl
+    by space name (decls.Impl target body) there = refl
+    by space name (decls.Test target port value plan) there = refl
+
+-- a written type by a table of all
+pub type-by_table : (all : List Declaration) (table : List LType) (space : List (List ℕ)) (t : tree.Ltype) → AreTypes all (length all) table
+    → replaced (type_named all table space) t ≡ type_of all space t
+type-by_table all table space t so = type-written all (length all) table space t (λ path n there is. so.each n (named-within is_type all space path n is))
+
+-- ---- the types of ports
+
+-- a type that is made and is a Stream
+pub made-Stream : (all : List Declaration) (table : List LType) (space : List (List ℕ)) (t : tree.Ltype) (made : LType) (one value : StreamType) → AreTypes all (length all) table
+    → plain made ≡ replaced (type_named all table space) t → made ≡ types.Stream one → value ≡ one → plain_of_stream value ≡ type_of all space t
+made-Stream all table space t made one value so made_is is value_is =
+    ap plain_of_stream value_is ∙ sym (plain-Stream one) ∙ ap plain (sym is) ∙ made_is ∙ type-by_table all table space t so
+
+-- a type that is none
+pub no_stream : (made : LType) → (made ≡ types.Null) ⊎ (((width : ℕ) × (made ≡ types.Bits width)) ⊎ (((parts : List Part) × (made ≡ types.Group parts)) ⊎ ((parts : List Part) × (made ≡ types.Union parts))))
+    → is_stream (plain made) ≡ false
+no_stream made (inl is) = ap (λ (t : LType). is_stream (plain t)) is ∙ ap is_stream plain-Null
+no_stream made (inr (inl is)) = ap (λ (t : LType). is_stream (plain t)) is.1 ∙ ap is_stream (plain-Bits is.0)
+no_stream made (inr (inr (inl is))) = ap (λ (t : LType). is_stream (plain t)) is.1 ∙ ap is_stream (plain-Group is.0)
+no_stream made (inr (inr (inr is))) = ap (λ (t : LType). is_stream (plain t)) is.1 ∙ ap is_stream (plain-Union is.0)
+
+-- ---- round by round
+
+-- before the first round each type is Null
+pub AreTypes-none : (all : List Declaration) → AreTypes all 0 []
+AreTypes-none all = record { each = λ one within. plain-Null }
+
+pub IsNextRound-none : (all : List Declaration) (table : List LType) → IsNextRound all table 0 []
+IsNextRound-none all table = record { long = refl; each = λ one within. absurd (omega (arith, within)) }
+
+pub IsNextRound-more : (all : List Declaration) (table next new : List LType) (number : ℕ) (made : LType) → new ≡ next ++ made ∷ []
+    → plain made ≡ declared_type all table (declaration all number) → IsNextRound all table number next → IsNextRound all table (number + 1) new
+IsNextRound-more all table next new number made pushes is so = record {
+  long = ap (λ (l : List LType). length l) pushes ∙ length-append next (made ∷ []) ∙ ap (λ (n : ℕ). n + 1) so.long;
+  each = λ one within. ap (λ (l : List LType). ltype_at l one) pushes ∙ by one (omega (arith, within)) (cases_eq one number);
 }
+  where
+    by : (one : ℕ) → one ≤ number → (one ≡ number) ⊎ (one ≢ number) → ltype_at (next ++ made ∷ []) one ≡ declared_type all table (declaration all one)
+    by one within (inl same) =
+        ap (λ (k : ℕ). ltype_at (next ++ made ∷ []) k) (same ∙ sym so.long) ∙ ap plain (get_or-append_seam next made [] types.Null) ∙ is
+        ∙ ap (λ (k : ℕ). declared_type all table (declaration all k)) (sym same)
+    by one within (inr other) =
+        ap plain (get_or_append_left next (made ∷ []) types.Null one (omega (arith, within, other, so.long))) ∙ so.each one (omega (arith, within, other))
 
--- what is told of none up to a place in the order is told of none up to an earlier one
-pub none-before : (all : List Declaration) (order : ℕ) → IsToldUpTo all 7 None → order ≤ 7 → IsToldUpTo all order None
-none-before all order none within = record { told = λ fault low. none.told fault (omega (arith, low, within)); chosen = tt }
+pub AreTypes-next : (all : List Declaration) (depth : ℕ) (table next : List LType) → IsNextRound all table (length all) next → AreTypes all depth table → AreTypes all (depth + 1) next
+AreTypes-next all depth table next is so = record { each = λ one within. by one within }
+  where
+    more : suc depth ≡ depth + 1
+    more = omega arith
+
+    by : (one : ℕ) → one < length all → ltype_at next one ≡ type_at all (depth + 1) one
+    by one within =
+        is.each one within
+        ∙ type-declared all depth table one (λ n names. so.each n (named-within is_type all (declaration all one).space names.path n names.names))
+        ∙ ap (λ k. type_at all k one) more
+
+-- ---- by ranks
+
+ltype_at-set_same : (table : List LType) (number : ℕ) (made : LType) → number < length table → ltype_at (set table number made) number ≡ plain made
+ltype_at-set_same table number made within = ap plain (get_or-set_same table number made types.Null within)
+
+ltype_at-set_other : (table : List LType) (number one : ℕ) (made : LType) → one ≢ number → ltype_at (set table number made) one ≡ ltype_at table one
+ltype_at-set_other table number one made other = ap plain (get_or-set_other table number one made types.Null other)
+
+module _ (all : List Declaration) (ranks order : List ℕ) (graph : List (List ℕ)) (is : graph ≡ type_graph all (length all))
+    (ranked : (one : ℕ) → one < length graph → IsRanked ranks graph one) (ordered : AreOrdered ranks order (length all)) where
+  here : (one : ℕ) → one < length all → IsRanked ranks (type_graph all (length all)) one
+  here one within =
+      let long = ap (λ (g : List (List ℕ)). length g) is ∙ length-type_graph all in
+      subst (λ (g : List (List ℕ)). IsRanked ranks g one) is (ranked one (omega (arith, within, long)))
+
+  pub AreTypesBelow-none : (table : List LType) → length table ≡ length all → AreTypesBelow all ranks table 0
+  AreTypesBelow-none table long = record { long = long; each = λ one depth within low enough. absurd (omega (arith, low)) }
+
+  -- the type of a declaration whose rank is no higher than what is reached, by what it names
+  declared-right : (table : List LType) (end one depth : ℕ) → AreTypesBelow all ranks table end → one < length all → rank_of ranks one ≤ end → rank_of ranks one ≤ depth
+      → declared_type all table (declaration all one) ≡ type_at all depth one
+  declared-right table end one zero so within low enough = absurd (omega (arith, enough, (here one within).above))
+  declared-right table end one (suc depth) so within low enough =
+      type-declared all depth table one
+      (λ n names.
+      let falls = (here one within).falls n (Leads-NamesType all one n names) in
+      so.each n depth (named-within is_type all (declaration all one).space names.path n names.names) (omega (arith, falls, low)) (omega (arith, falls, enough)))
+
+  -- the number that stands at a rank
+  at_rank : (one i number : ℕ) → one < length all → rank_of ranks one ≡ i → number ≡ get_or order i 0 → one ≡ number
+  at_rank one i number within rank item =
+      sym (get_or_from_slice_get order (rank_of ranks one) one 0 (ordered one within)) ∙ ap (λ (k : ℕ). get_or order k 0) rank ∙ sym item
+
+  pub AreTypesBelow-more : (table new : List LType) (i number : ℕ) (made : LType) → number ≡ get_or order i 0 → number < length all
+      → plain made ≡ declared_type all table (declaration all number) → new ≡ set table number made → AreTypesBelow all ranks table i → AreTypesBelow all ranks new (i + 1)
+  AreTypesBelow-more table new i number made item inside made_is new_is so = record {
+    long = ap (λ (l : List LType). length l) new_is ∙ length-set table number made ∙ so.long;
+    each = λ one depth within low enough. ap (λ (l : List LType). ltype_at l one) new_is ∙ by one depth within (omega (arith, low)) enough (cases_eq one number);
+  }
+    where
+      by : (one depth : ℕ) → one < length all → rank_of ranks one ≤ i → rank_of ranks one ≤ depth → (one ≡ number) ⊎ (one ≢ number)
+          → ltype_at (set table number made) one ≡ type_at all depth one
+      by one depth within low enough (inl same) =
+          ap (λ (k : ℕ). ltype_at (set table number made) k) same ∙ ltype_at-set_same table number made (omega (arith, inside, so.long)) ∙ made_is
+          ∙ ap (λ (k : ℕ). declared_type all table (declaration all k)) (sym same) ∙ declared-right table i one depth so within low enough
+      by one depth within low enough (inr other) =
+          ltype_at-set_other table number one made other ∙ so.each one depth within (below (cases_eq (rank_of ranks one) i)) enough
+        where
+          below : (rank_of ranks one ≡ i) ⊎ (rank_of ranks one ≢ i) → rank_of ranks one < i
+          below (inl rank) = absurd (other (at_rank one i number within rank item))
+          below (inr apart) = omega (arith, low, apart)
+
+  -- what stands there is no declaration
+  pub AreTypesBelow-past : (table : List LType) (i number : ℕ) → number ≡ get_or order i 0 → length all ≤ number → AreTypesBelow all ranks table i → AreTypesBelow all ranks table (i + 1)
+  AreTypesBelow-past table i number item past so = record { long = so.long; each = λ one depth within low enough. so.each one depth within (below one within (omega (arith, low)) (cases_eq (rank_of ranks one) i)) enough }
+    where
+      below : (one : ℕ) → one < length all → rank_of ranks one ≤ i → (rank_of ranks one ≡ i) ⊎ (rank_of ranks one ≢ i) → rank_of ranks one < i
+      below one within low (inl rank) = absurd (omega (arith, within, past, at_rank one i number within rank item))
+      below one within low (inr apart) = omega (arith, low, apart)
+
+  pub AreTypesBelow-all : (table : List LType) (i : ℕ) → length order ≤ i → AreTypesBelow all ranks table i → AreTypes all (length all) table
+  AreTypesBelow-all table i done so = record {
+    each = λ one within.
+        let stands = slice_get_within order (rank_of ranks one) one (ordered one within) in
+        let bound = (here one within).within in
+        so.each one (length all) within (omega (arith, stands, done)) (omega (arith, bound, length-type_graph all));
+  }

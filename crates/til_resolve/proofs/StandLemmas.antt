@@ -1,5 +1,5 @@
 -- Each fault of a tree stands at the place of one of its names.
-use Rattle.std.proofs.Common.{◌≡◌, ℕ, zero, suc, ◌<◌, Bool, true, false, cond, List, [], ◌∷◌, ◌++◌, map, filter, take, length, get_or, Option, Some, None, All, Contains, refl, subst, arith}
+use Rattle.std.proofs.Common.{◌≡◌, ℕ, zero, suc, ◌<◌, Bool, true, false, cond, List, [], ◌∷◌, ◌++◌, map, filter, take, length, Option, Some, None, All, Contains, refl, subst, arith}
 use Rattle.std.specs.List.{flat_map, filter_map, list_any, cons_option}
 use Rattle.std.specs.Str.{bytes_eq, str_eq_ignore_ascii_case}
 use Rattle.std.proofs.lemmas.List.Elements.{All-append, All-contains, All-cons, All-filter, All-head, All-map, All-nil, All-tail}
@@ -23,7 +23,7 @@ use Rattle.til_parser.specs.Tree.{plain}
 use Rattle.til_parser.specs.Trees.{PathWith, TypeWith, PartsWith, PortWith, StmtWith, BodyWith, KindWith, NamespaceWith, DeclWith}
 use Rattle.til_resolve.specs.declared.fault.ResolveFault.{ResolveFault}
 use Rattle.til_resolve.specs.declared.fault.ResolveFault.TheVariants as faults
-use Rattle.til_resolve.specs.Declarations.{Declaration, PortOf, before, declaration, declarations, declared_in, names_of, nowhere, own_ports, place_of}
+use Rattle.til_resolve.specs.Declarations.{Declaration, before, declaration, declarations, declared_in, names_of, nowhere, own_ports, place_of}
 use Rattle.til_resolve.specs.Declarations.{is_interface, is_streamlet, is_type, named_as, ports_of, ports_of_streamlet}
 use Rattle.til_resolve.specs.Faults.{HasFault, HasTypeAt, WrittenType, place_of_fault, port_types, types_in, types_of_kind, written_types}
 use Rattle.til_resolve.specs.Types.{type_of}

@@ -2,18 +2,15 @@
 use Rattle.std.proofs.Common.{◌≡◌, ℕ, zero, suc, ◌<◌, ◌≤◌, ◌⊎◌, inl, inr, Bool, true, false, ◌&&◌, cond, eqb, ltb, List, [], ◌∷◌, length, take, get_or, slice_get, Option, Some, None, is_some, find, Contains, refl, sym, ap, subst, ◌∙◌, arith}
 use Rattle.std.proofs.lemmas.Bool.{ltb-true, ltb-false}
 use Rattle.std.proofs.lemmas.Bool.Decides.{nat_tests}
-use Rattle.std.proofs.lemmas.List.Elements.{All-nil}
 use Rattle.tydi_base.specs.declared.place.Place.{Place}
 use Rattle.til_lexer.specs.Places.{IsPlaceIn, place_past, start}
-use Rattle.til_parser.specs.declared.tree.Ast.{Ast}
-use Rattle.til_parser.specs.Laws.{IsTreeOf}
 use Rattle.til_parser.proofs.spelled.SpelledCounts.{trees-have_places}
 use Rattle.logical_types.specs.Faults.{faults_of}
 use Rattle.logical_types.specs.declared.fault.TypeFault.{TypeFault}
 use Rattle.til_resolve.specs.declared.fault.ResolveFault.{ResolveFault}
 use Rattle.til_resolve.specs.declared.fault.ResolveFault.TheVariants as faults
 use Rattle.til_resolve.specs.Declarations.{Declaration, declarations}
-use Rattle.til_resolve.specs.Faults.{HasFault, HasTypeAt, IsChosen, IsChosenBad, IsTold, IsToldBefore, WrittenType, is_bad_at, offset_of, order_of, place_of_fault, written_types}
+use Rattle.til_resolve.specs.Faults.{HasFault, IsChosenBad, IsTold, IsToldBefore, WrittenType, is_bad_at, offset_of, order_of, place_of_fault, written_types}
 use Rattle.til_resolve.specs.Laws.{OneFaultIsTold, SomeFaultIsTold}
 use Rattle.til_resolve.specs.Names.{unknown}
 use Rattle.til_resolve.proofs.StandLemmas.{fault-stands}

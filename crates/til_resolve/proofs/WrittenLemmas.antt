@@ -17,7 +17,7 @@ use Rattle.til_resolve.specs.Declarations.{Declaration, declaration, is_type_kin
 use Rattle.til_resolve.specs.Faults.{WrittenType, port_types, types_in, types_of_kind}
 use Rattle.til_resolve.specs.Written.{IsWithin, written_type, AddsWritten, AreWritten}
 use Rattle.til_resolve.proofs.AgainLemmas.{append_nil}
-use Rattle.til_resolve.proofs.BuildingLemmas.{declared-is}
+use Rattle.til_resolve.proofs.MeaningLemmas.{declared-is}
 use Rattle.til_resolve.proofs.EarliestLemmas.{Contains-nil, Contains-one}
 
 -- what stands at an index is of the list

@@ -5,14 +5,17 @@ use Rattle.logical_types.specs.Tree.{Ltype}
 use Rattle.logical_types.specs.Faults.{faults_of}
 use Rattle.logical_types.specs.declared.fault.TypeFault.{TypeFault}
 use Rattle.til_resolve.specs.declared.bad_types.BadType.{BadType}
+use Rattle.til_resolve.specs.declared.bad_types.Findings.{Findings}
 use Rattle.til_resolve.specs.declared.bad_types.Verdict.{Verdict}
 use Rattle.til_resolve.specs.declared.bad_types.Verdict.TheVariants as verdicts
 use Rattle.til_resolve.specs.declared.written.Written.{Written}
+use Rattle.til_resolve.specs.Chains.{AreChains}
 use Rattle.til_resolve.specs.Cycles.{IsCyclicType}
 use Rattle.til_resolve.specs.Declarations.{Declaration}
 use Rattle.til_resolve.specs.Earliest.{IsEarliest}
 use Rattle.til_resolve.specs.Faults.{WrittenType, HasTypeAt, IsChosenBad}
 use Rattle.til_resolve.specs.Shapes.{type_at}
+use Rattle.til_resolve.specs.SharedTypes.{AreTypes}
 use Rattle.til_resolve.specs.Written.{place_of, ltype_of}
 
 -- the first fault of a type, if it has any
@@ -66,3 +69,9 @@ verdict_at kept one = slice_index_or kept one verdicts.Unknown
 -- what is known of a declaration's type is its first fault
 pub record AreVerdicts (all : List Declaration) (kept : List Verdict) : Type 0 where
   pub each : (one : ℕ) (fault : Option TypeFault) → verdict_at kept one ≡ verdicts.Known fault → fault ≡ first_fault (type_at all (suc (length all)) one)
+
+-- the types of all declarations, their roots, and what was found of them
+pub record AreFindings (all : List Declaration) (findings : Findings) : Type 0 where
+  pub types : AreTypes all (length all) findings.types
+  pub chains : AreChains all findings.chains
+  pub verdicts : AreVerdicts all findings.verdicts.items

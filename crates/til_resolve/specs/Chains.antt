@@ -1,4 +1,4 @@
--- Type declarations that only name another type, passed over. It serves the making of types, and no public clause.
+-- Type declarations that only name another type, passed over. It serves the search for types that have a fault, and no public clause.
 use Rattle.std.specs.Prelude.{◌≡◌, ℕ, ◌+◌, ◌-◌, ◌<◌, List, length, slice_index_or, Option, Some, None}
 use Rattle.til_parser.specs.declared.tree.AstKind.{AstKind}
 use Rattle.til_parser.specs.declared.tree.AstKind.TheVariants as decls

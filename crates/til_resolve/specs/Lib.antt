@@ -18,8 +18,8 @@ pub mod Suspects
 pub mod Shapes
 pub mod Written
 pub mod Chains
-pub mod Building
 pub mod BadTypes
+pub mod Summaries
 pub mod Project
 pub mod Making
 pub mod SharedTypes

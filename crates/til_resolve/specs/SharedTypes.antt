@@ -1,13 +1,65 @@
--- The types of ports, those by a name built once for each. It serves the making, and no public clause.
-use Rattle.std.specs.Prelude.{◌≡◌, ℕ, suc, ◌<◌, List, length, slice_index_or, None, IfSome}
-use Rattle.logical_types.specs.Tree.{plain_of_stream}
-use Rattle.til_resolve.specs.Chains.{AreChains}
-use Rattle.til_resolve.specs.Declarations.{Declaration}
+-- The types of declarations in a table, and written types that are made of them. It serves the making of types, and no public clause.
+use Rattle.std.specs.Prelude.{◌≡◌, ℕ, ◌<◌, ◌≤◌, List, [], ◌∷◌, length, slice_get, slice_index_or, Option, Some, None}
+use Rattle.til_parser.specs.declared.ltype.AstPart.{AstPart}
+use Rattle.til_parser.specs.declared.tree.AstKind.{AstKind}
+use Rattle.til_parser.specs.declared.tree.AstKind.TheVariants as decls
+use Rattle.til_parser.specs.declared.tree.AstName.{AstName}
+use Rattle.til_parser.specs.Tree as tree
+use Rattle.logical_types.specs.declared.ltype.LType.{LType}
+use Rattle.logical_types.specs.declared.ltype.LType.TheVariants as types
+use Rattle.logical_types.specs.Tree.{Ltype, null, Parts, no_parts, part, plain}
+use Rattle.til_resolve.specs.Declarations.{Declaration, declaration, named_as, is_type}
+use Rattle.til_resolve.specs.Graph.{rank_of}
 use Rattle.til_resolve.specs.Shapes.{type_at}
-use Rattle.til_resolve.specs.declared.port_types.PortTypes.{PortTypes}
+use Rattle.til_resolve.specs.Types.{replaced}
 
--- the types that were built are those of these declarations, and the chains lead to their roots
-pub record AreBuilt (all : List Declaration) (types : PortTypes) : Type 0 where
-  pub chains : AreChains all types.chains
-  pub long : length types.streams.items ≡ length all
-  pub each : (one : ℕ) → one < length all → IfSome (slice_index_or types.streams.items one None) (λ stream. plain_of_stream stream.value ≡ type_at all (suc (length all)) one)
+-- ---- written types, by a table of the types of declarations
+
+-- the type that a table has of a number; Null where it has none
+abbrev pub ltype_at : List LType → ℕ → Ltype
+ltype_at table one = plain (slice_index_or table one types.Null)
+
+abbrev pub ltype_of_number : List LType → Option ℕ → Ltype
+ltype_of_number table None = null
+ltype_of_number table (Some one) = ltype_at table one
+
+-- the type that a path names in a namespace, by a table
+abbrev pub type_named : List Declaration → List LType → List (List ℕ) → List AstName → Ltype
+type_named all table space names = ltype_of_number table (named_as is_type all space (record { names = names }))
+
+-- parts with each path in them replaced
+abbrev pub replaced_list : (List AstName → Ltype) → List AstPart → Parts
+replaced_list meaning [] = no_parts
+replaced_list meaning (first ∷ more) = part first.name.name (replaced meaning (tree.plain first.ltype)) (replaced_list meaning more)
+
+abbrev pub type_of_kind : List Declaration → List LType → List (List ℕ) → AstKind → Ltype
+type_of_kind all table space (decls.Alias ltype) = replaced (type_named all table space) (tree.plain ltype)
+type_of_kind all table space (decls.Interface listed) = null
+type_of_kind all table space (decls.Streamlet listed) = null
+type_of_kind all table space (decls.Impl target body) = null
+type_of_kind all table space (decls.Test target port value plan) = null
+
+-- the type that a declaration gives a name to, by a table
+abbrev pub declared_type : List Declaration → List LType → Declaration → Ltype
+declared_type all table one = type_of_kind all table one.space one.kind
+
+-- ---- tables of the types of declarations
+
+-- a table has the type of each declaration, with so many names replaced inside one another at most
+pub record AreTypes (all : List Declaration) (depth : ℕ) (table : List LType) : Type 0 where
+  pub each : (one : ℕ) → one < length all → ltype_at table one ≡ type_at all depth one
+
+-- the entries of a table are the types of the declarations before a number, by another table
+pub record IsNextRound (all : List Declaration) (table : List LType) (end : ℕ) (next : List LType) : Type 0 where
+  pub long : length next ≡ end
+  pub each : (one : ℕ) → one < end → ltype_at next one ≡ declared_type all table (declaration all one)
+
+-- each number before this one stands at its rank
+abbrev pub AreOrdered : List ℕ → List ℕ → ℕ → Type 0
+AreOrdered ranks order end = (one : ℕ) → one < end → slice_get order (rank_of ranks one) ≡ Some one
+
+-- a table has the type of each declaration whose rank is lower than this, however many names are replaced inside one another from
+-- its rank on
+pub record AreTypesBelow (all : List Declaration) (ranks : List ℕ) (table : List LType) (end : ℕ) : Type 0 where
+  pub long : length table ≡ length all
+  pub each : (one depth : ℕ) → one < length all → rank_of ranks one < end → rank_of ranks one ≤ depth → ltype_at table one ≡ type_at all depth one

@@ -1,27 +1,32 @@
-//! Types that have a fault. Each declaration's type is made once, checked and dropped; what was found serves all that name it alone.
+//! Types that have a fault. The types of declarations are made, and a type is checked, only where a summary does not show that it has
+//! none: then it nearly always has one, and no type behind it is looked at. What was found of a declaration's type serves all that
+//! name it alone.
 
-ghost use Rattle.std.specs.Prelude.{◌≡◌, ◌<◌, ◌≤◌, length, slice_set, IfOk, None};
+ghost use Rattle.std.specs.Prelude.{◌≡◌, ◌<◌, List, length, slice_set, IsTrue, IfOk, None};
 ghost use Rattle.logical_types.specs.Tree.{plain};
-ghost use Rattle.til_resolve.specs.BadTypes.{AreAcyclic, AreVerdicts, IsFirstBad, bad_type, earlier_bad, first_fault};
+ghost use Rattle.til_resolve.specs.BadTypes.{AreAcyclic, IsFirstBad, AreFindings, bad_type, earlier_bad, first_fault};
 ghost use Rattle.til_resolve.specs.BadTypes as spec;
-ghost use Rattle.til_resolve.specs.Chains.{AreChains};
 ghost use Rattle.til_resolve.specs.Faults.{IsToldUpTo, written_types};
 ghost use Rattle.til_resolve.specs.Scope.{declarations_of};
 ghost use Rattle.til_resolve.specs.Shapes.{type_at};
-ghost use Rattle.til_resolve.specs.Declarations.{declaration};
+ghost use Rattle.til_resolve.specs.SharedTypes.{ltype_at};
+ghost use Rattle.til_resolve.specs.Summaries.{AreSummaries};
+ghost use Rattle.til_resolve.specs.Declarations.{Declaration, declaration};
 ghost use Rattle.til_parser.specs.Tree as tree;
-ghost use Rattle.til_resolve.specs.Types.{depth_of, type_of};
+ghost use Rattle.til_resolve.specs.Types.{type_of};
 ghost use Rattle.til_resolve.specs.Written.{AreWritten, IsWithin, ltype_of};
 
-use crate::building::{build_declared, build_type, whole_room};
-use crate::chains::{Chain, chain_at, named_alone};
+use crate::chains::{Chain, chain_at, find_chains, named_alone};
 use crate::earliest::stands_first;
+use crate::replacing::replaced_type;
 use crate::scope::Scope;
+use crate::shared_types::shared_types;
+use crate::summaries::{is_shown_valid, summaries};
 use crate::written::{Written, place_of};
-use logical_types::{LType, TypeFault, check};
+use logical_types::{LType, Summary, TypeFault, check};
 use std::alloc::Global;
 use til_parser::AstType;
-use tydi_base::{Memory, Place};
+use tydi_base::{List, Memory, Place};
 
 /// A written type that has a fault, and its first.
 #[derive(Clone, Copy)]
@@ -38,48 +43,101 @@ pub enum Verdict {
     Known(Option<TypeFault>),
 }
 
+/// The types of declarations, and what was found of them.
+#[derive(Drop)]
+pub struct Findings {
+    types: List<LType>,
+    chains: List<Chain>,
+    verdicts: Vec<Verdict>,
+}
+
 /// The first written type that has a fault.
 pub fn first_bad_type<'a>(
     alloc: Global,
     scope: &Scope<'a>,
-    chains: &[Chain],
     written: &[Written<'a>],
 ) -> Result<Option<BadType>, Memory>
-    requires chains { AreChains (declarations_of scope.now.declared) chains.now }
     requires written { AreWritten (declarations_of scope.now.declared) written.now }
     requires whole { IsToldUpTo (declarations_of scope.now.declared) 4 None }
     ensures { IfOk result (IsFirstBad (written_types (declarations_of scope.now.declared))) }
 {
-    let mut verdicts = vec![in alloc; Verdict::Unknown; scope.len()]?;
+    let table = summaries(alloc, scope)?;
+    if are_shown_valid(scope, written, table.as_slice()) {
+        return Ok(None);
+    }
+    first_checked(alloc, scope, written, table.as_slice())
+}
+
+fn are_shown_valid<'a>(
+    scope: &Scope<'a>,
+    written: &[Written<'a>],
+    table: &[Option<Summary>],
+) -> bool
+    requires written { AreWritten (declarations_of scope.now.declared) written.now }
+    requires acyclic { AreAcyclic (declarations_of scope.now.declared) }
+    requires table { AreSummaries (declarations_of scope.now.declared) table.now }
+    ensures { IsTrue result → IsFirstBad (written_types (declarations_of scope.now.declared)) None }
+{
+    'written: for one in written {
+        if !is_shown_valid(scope, one, table) {
+            return false;
+        }
+    }
+    true
+}
+
+// The first written type that has a fault, where those are checked that are not shown to have none.
+fn first_checked<'a>(
+    alloc: Global,
+    scope: &Scope<'a>,
+    written: &[Written<'a>],
+    table: &[Option<Summary>],
+) -> Result<Option<BadType>, Memory>
+    requires written { AreWritten (declarations_of scope.now.declared) written.now }
+    requires acyclic { AreAcyclic (declarations_of scope.now.declared) }
+    requires table { AreSummaries (declarations_of scope.now.declared) table.now }
+    ensures { IfOk result (IsFirstBad (written_types (declarations_of scope.now.declared))) }
+{
+    let mut findings = nothing_found(alloc, scope)?;
     let mut found = None;
     'written: for one in written {
-        found = or_bad(alloc, scope, chains, one, &mut verdicts, found)?;
+        found = or_bad(alloc, scope, table, one, &mut findings, found)?;
     }
     Ok(found)
+}
+
+// The types of declarations, of which nothing was found.
+fn nothing_found(alloc: Global, scope: &Scope<'_>) -> Result<Findings, Memory>
+    ensures { IfOk result (AreFindings (declarations_of scope.now.declared)) }
+{
+    Ok(Findings {
+        types: shared_types(alloc, scope)?,
+        chains: find_chains(alloc, scope)?,
+        verdicts: vec![in alloc; Verdict::Unknown; scope.len()]?,
+    })
 }
 
 // What was found, or this type where it stands before and has a fault.
 fn or_bad<'a>(
     alloc: Global,
     scope: &Scope<'a>,
-    chains: &[Chain],
+    table: &[Option<Summary>],
     one: &Written<'a>,
-    verdicts: &mut Vec<Verdict>,
+    findings: &mut Findings,
     found: Option<BadType>,
 ) -> Result<Option<BadType>, Memory>
-    requires chains { AreChains (declarations_of scope.now.declared) chains.now }
+    requires table { AreSummaries (declarations_of scope.now.declared) table.now }
     requires within { IsWithin (declarations_of scope.now.declared) one.now }
     requires acyclic { AreAcyclic (declarations_of scope.now.declared) }
-    requires small { depth_of (ltype_of (declarations_of scope.now.declared) one.now) ≤ 64 }
-    requires verdicts { AreVerdicts (declarations_of scope.now.declared) verdicts.old.items }
+    requires findings { AreFindings (declarations_of scope.now.declared) findings.old }
     ensures found { IfOk result (λ first. first ≡ earlier_bad found (bad_type (declarations_of scope.now.declared) one.now)) }
-    ensures verdicts { AreVerdicts (declarations_of scope.now.declared) verdicts.new.items }
+    ensures findings { AreFindings (declarations_of scope.now.declared) findings.new }
 {
     let place = place_of(scope, one);
-    if stands_first(place_found(found), place) {
+    if stands_first(place_found(found), place) || is_shown_valid(scope, one, table) {
         return Ok(found);
     }
-    match fault_of(alloc, scope, chains, one, verdicts)? {
+    match fault_of(alloc, scope, one, findings)? {
         Some(fault) => Ok(Some(BadType { place, fault })),
         None => Ok(found),
     }
@@ -98,23 +156,24 @@ fn place_found(found: Option<BadType>) -> Option<Place>
 fn fault_of<'a>(
     alloc: Global,
     scope: &Scope<'a>,
-    chains: &[Chain],
     one: &Written<'a>,
-    verdicts: &mut Vec<Verdict>,
+    findings: &mut Findings,
 ) -> Result<Option<TypeFault>, Memory>
-    requires chains { AreChains (declarations_of scope.now.declared) chains.now }
     requires within { IsWithin (declarations_of scope.now.declared) one.now }
     requires acyclic { AreAcyclic (declarations_of scope.now.declared) }
-    requires small { depth_of (ltype_of (declarations_of scope.now.declared) one.now) ≤ 64 }
-    requires verdicts { AreVerdicts (declarations_of scope.now.declared) verdicts.old.items }
+    requires findings { AreFindings (declarations_of scope.now.declared) findings.old }
     ensures fault { IfOk result (λ fault. fault ≡ first_fault (ltype_of (declarations_of scope.now.declared) one.now)) }
-    ensures verdicts { AreVerdicts (declarations_of scope.now.declared) verdicts.new.items }
+    ensures findings { AreFindings (declarations_of scope.now.declared) findings.new }
 {
     match one {
-        Written::Declared(number) => fault_at(alloc, scope, chains, *number, verdicts),
-        Written::Port { number, port } => {
-            fault_of_port(alloc, scope, chains, *number, &port.ltype, verdicts)
-        }
+        Written::Declared(number) => Ok(fault_at(findings, *number)),
+        Written::Port { number, port } => fault_of_port(
+            alloc,
+            scope,
+            *number,
+            &port.ltype,
+            findings,
+        ),
     }
 }
 
@@ -122,52 +181,47 @@ fn fault_of<'a>(
 fn fault_of_port<'a>(
     alloc: Global,
     scope: &Scope<'a>,
-    chains: &[Chain],
     number: usize,
     ltype: &'a AstType,
-    verdicts: &mut Vec<Verdict>,
+    findings: &mut Findings,
 ) -> Result<Option<TypeFault>, Memory>
-    requires chains { AreChains (declarations_of scope.now.declared) chains.now }
     requires within { number < length (declarations_of scope.now.declared) }
     requires acyclic { AreAcyclic (declarations_of scope.now.declared) }
-    requires small { depth_of (type_of (declarations_of scope.now.declared) (declaration (declarations_of scope.now.declared) number).space (tree.plain ltype.now)) ≤ 64 }
-    requires verdicts { AreVerdicts (declarations_of scope.now.declared) verdicts.old.items }
+    requires findings { AreFindings (declarations_of scope.now.declared) findings.old }
     ensures fault { IfOk result (λ fault. fault ≡ first_fault (type_of (declarations_of scope.now.declared) (declaration (declarations_of scope.now.declared) number).space (tree.plain ltype.now))) }
-    ensures verdicts { AreVerdicts (declarations_of scope.now.declared) verdicts.new.items }
+    ensures findings { AreFindings (declarations_of scope.now.declared) findings.new }
 {
     match named_alone(scope, number, ltype) {
-        Some(target) => fault_at(alloc, scope, chains, target, verdicts),
+        Some(target) => Ok(fault_at(findings, target)),
         None => {
-            let built = build_type(alloc, scope, chains, number, ltype, whole_room(scope))?;
-            Ok(fault_in(&built))
+            let made = replaced_type(alloc, scope, number, ltype, findings.types.as_slice())?;
+            Ok(fault_in(&made))
         }
     }
 }
 
-// The first fault of a declaration's type, which is that of its root.
-fn fault_at(
-    alloc: Global,
-    scope: &Scope<'_>,
-    chains: &[Chain],
-    number: usize,
-    verdicts: &mut Vec<Verdict>,
-) -> Result<Option<TypeFault>, Memory>
-    requires chains { AreChains (declarations_of scope.now.declared) chains.now }
-    requires within { number < length (declarations_of scope.now.declared) }
-    requires acyclic { AreAcyclic (declarations_of scope.now.declared) }
-    requires small { depth_of (type_at (declarations_of scope.now.declared) (length (declarations_of scope.now.declared)) number) ≤ 64 }
-    requires verdicts { AreVerdicts (declarations_of scope.now.declared) verdicts.old.items }
-    ensures fault { IfOk result (λ fault. fault ≡ first_fault (type_at (declarations_of scope.now.declared) (length (declarations_of scope.now.declared)) number)) }
-    ensures verdicts { AreVerdicts (declarations_of scope.now.declared) verdicts.new.items }
+// The first fault of a declaration's type. It is kept for all declarations that have one root.
+fn fault_at(findings: &mut Findings, number: usize) -> Option<TypeFault>
+    ensures fault { (all : List Declaration) → AreAcyclic all → number < length all → AreFindings all findings.old → result ≡ first_fault (type_at all (length all) number) }
+    ensures findings { (all : List Declaration) → AreAcyclic all → number < length all → AreFindings all findings.old → AreFindings all findings.new }
 {
-    let root = chain_at(chains, number).root;
-    if let Verdict::Known(fault) = verdict_at(verdicts, root) {
-        return Ok(fault);
+    let root = chain_at(findings.chains.as_slice(), number).root;
+    if let Verdict::Known(fault) = verdict_at(&findings.verdicts, root) {
+        return fault;
     }
-    let built = build_declared(alloc, scope, chains, root, whole_room(scope))?;
-    let fault = fault_in(&built);
-    keep(verdicts, root, fault);
-    Ok(fault)
+    let fault = fault_of_entry(findings.types.as_slice(), number);
+    keep(&mut findings.verdicts, root, fault);
+    fault
+}
+
+// The first fault of the type that a table has of a number.
+fn fault_of_entry(types: &[LType], number: usize) -> Option<TypeFault>
+    ensures { result ≡ first_fault (ltype_at types.now number) }
+{
+    match types.get(number) {
+        Some(ltype) => fault_in(ltype),
+        None => fault_in(&LType::Null),
+    }
 }
 
 fn fault_in(ltype: &LType) -> Option<TypeFault>

@@ -54,7 +54,8 @@ fn falls_from(ranks: &[usize], targets: &[usize], rank: usize) -> bool
     true
 }
 
-fn rank_of(ranks: &[usize], number: usize) -> usize
+/// The rank of a number; 0 where it has none.
+pub fn rank_of(ranks: &[usize], number: usize) -> usize
     ensures { result ≡ rank_of ranks.now number }
 {
     match ranks.get(number) {

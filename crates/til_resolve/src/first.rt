@@ -8,7 +8,6 @@ ghost use Rattle.til_resolve.specs.Sought as spec;
 ghost use Rattle.til_resolve.specs.Written.{AreWritten};
 
 use crate::bad_types::first_bad_type;
-use crate::chains::find_chains;
 use crate::cycles::first_cyclic_type;
 use crate::fault::ResolveFault;
 use crate::last::first_last_fault;
@@ -54,8 +53,7 @@ fn first_type_fault<'a>(
     if let Some(place) = first_misshapen(scope, written, table, Sort::TooLarge) {
         return Ok(Some(ResolveFault::TypeTooLarge(place)));
     }
-    let chains = find_chains(alloc, scope)?;
-    match first_bad_type(alloc, scope, chains.as_slice(), written)? {
+    match first_bad_type(alloc, scope, written)? {
         Some(bad) => Ok(Some(ResolveFault::BadType(bad.place, bad.fault))),
         None => Ok(None),
     }

@@ -6,7 +6,6 @@
 
 mod bad_types;
 mod bodies;
-mod building;
 mod certificate;
 mod chains;
 mod containment;
@@ -32,13 +31,17 @@ mod port_types;
 mod ports;
 mod project;
 mod ranks;
+mod replacing;
 mod resolving;
 mod scope;
 mod search;
 mod shape;
 mod shapes;
+mod shared_types;
 mod statements;
 mod streamlets;
+mod summaries;
+mod summarizing;
 mod twice;
 mod type_graph;
 mod written;

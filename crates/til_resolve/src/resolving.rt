@@ -15,8 +15,8 @@ use std::alloc::Global;
 use til_parser::Ast;
 
 /// The project that a tree stands for. Apart from `Memory` it fails exactly where the tree has a fault, and the error is the fault
-/// that is looked for first, at its first place in the text: see `ResolveFault`. It takes time and memory in proportion to the text,
-/// to the types that it declares and to those of its ports, where a type that ports name is built once.
+/// that is looked for first, at its first place in the text: see `ResolveFault`. It takes time and memory in proportion to the text
+/// and to the types of its ports, where a type that ports name is built once.
 pub fn resolve(alloc: Global, ast: &Ast) -> Result<Project, ResolveFault>
     ensures sound { IfOk result (λ project. IsSound ast.now) }
     ensures project { IfOk result (IsProjectOf ast.now) }

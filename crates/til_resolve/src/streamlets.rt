@@ -2,21 +2,23 @@
 
 ghost use Rattle.std.specs.Prelude.{◌≡◌, ◌+◌, ◌<◌, length, nat_eq, None, Contains, IfOk, OnOk};
 ghost use Rattle.indexmap.specs.IndexMap.{get};
-ghost use Rattle.til_resolve.specs.SharedTypes.{AreBuilt};
 ghost use Rattle.til_resolve.specs.Declarations.{declaration, path_of, ports_in, ports_of};
 ghost use Rattle.til_resolve.specs.Faults.{IsToldUpTo, written_types};
 ghost use Rattle.til_resolve.specs.Making.{FindsFirstImpl, numbers_before, type_of_port};
 ghost use Rattle.til_resolve.specs.Project.{IsPortOf, IsStreamletOf, Pairwise, streamlet_numbers, streamlets_before};
 ghost use Rattle.til_resolve.specs.Scope.{declarations_of, placed_of};
+ghost use Rattle.til_resolve.specs.SharedTypes.{AreTypes};
 
 use crate::bodies::body_of;
 use crate::declared::Declared;
 use crate::implementing::{FirstImpls, first_impls};
 use crate::kinds::{Asked, is_asked, own_ports};
-use crate::port_types::{PortTypes, no_types, type_of_port};
+use crate::port_types::type_of_port;
 use crate::ports::owner_of;
 use crate::project::{Port, Streamlet};
 use crate::scope::Scope;
+use crate::shared_types::shared_types;
+use logical_types::LType;
 use std::alloc::Global;
 use til_parser::AstPort;
 use tydi_base::{List, Memory, Path, TryClone};
@@ -32,7 +34,7 @@ pub fn all_streamlets(
     ensures { IfOk result (Pairwise (IsStreamletOf (declarations_of scope.now.declared)) (streamlet_numbers (declarations_of scope.now.declared))) }
 {
     let impls = first_impls(alloc, scope)?;
-    let mut types = no_types(alloc, scope)?;
+    let types = shared_types(alloc, scope)?;
     let mut streamlets = List::new(alloc);
     'numbers: for number in 0..scope.len() {
         add_streamlet(
@@ -40,7 +42,7 @@ pub fn all_streamlets(
             scope,
             table,
             &impls,
-            &mut types,
+            types.as_slice(),
             number,
             &mut streamlets,
         )?;
@@ -54,18 +56,17 @@ fn add_streamlet(
     scope: &Scope<'_>,
     table: &[u32],
     impls: &FirstImpls,
-    types: &mut PortTypes,
+    types: &[LType],
     number: usize,
     streamlets: &mut List<Streamlet>,
 ) -> Result<(), Memory>
     requires sound { IsToldUpTo (declarations_of scope.now.declared) 7 None }
     requires table { table.now ≡ numbers_before (declarations_of scope.now.declared) (length (declarations_of scope.now.declared)) }
     requires impls { FindsFirstImpl (get nat_eq impls.now) (declarations_of scope.now.declared) (length (declarations_of scope.now.declared)) }
-    requires built { AreBuilt (declarations_of scope.now.declared) types.old }
+    requires types { AreTypes (declarations_of scope.now.declared) (length (declarations_of scope.now.declared)) types.now }
     requires within { number < length (declarations_of scope.now.declared) }
     requires so_far { Pairwise (IsStreamletOf (declarations_of scope.now.declared)) (streamlets_before (declarations_of scope.now.declared) number) streamlets.old }
-    ensures built { OnOk result (AreBuilt (declarations_of scope.now.declared) types.new) }
-    ensures added { OnOk result (Pairwise (IsStreamletOf (declarations_of scope.now.declared)) (streamlets_before (declarations_of scope.now.declared) (number + 1)) streamlets.new) }
+    ensures { OnOk result (Pairwise (IsStreamletOf (declarations_of scope.now.declared)) (streamlets_before (declarations_of scope.now.declared) (number + 1)) streamlets.new) }
 {
     if !is_asked(Asked::Streamlet, scope.get(number)) {
         return Ok(());
@@ -78,16 +79,15 @@ fn streamlet_of(
     scope: &Scope<'_>,
     table: &[u32],
     impls: &FirstImpls,
-    types: &mut PortTypes,
+    types: &[LType],
     number: usize,
 ) -> Result<Streamlet, Memory>
     requires sound { IsToldUpTo (declarations_of scope.now.declared) 7 None }
     requires table { table.now ≡ numbers_before (declarations_of scope.now.declared) (length (declarations_of scope.now.declared)) }
     requires impls { FindsFirstImpl (get nat_eq impls.now) (declarations_of scope.now.declared) (length (declarations_of scope.now.declared)) }
-    requires built { AreBuilt (declarations_of scope.now.declared) types.old }
+    requires types { AreTypes (declarations_of scope.now.declared) (length (declarations_of scope.now.declared)) types.now }
     requires within { number < length (declarations_of scope.now.declared) }
-    ensures built { OnOk result (AreBuilt (declarations_of scope.now.declared) types.new) }
-    ensures streamlet { IfOk result (IsStreamletOf (declarations_of scope.now.declared) number) }
+    ensures { IfOk result (IsStreamletOf (declarations_of scope.now.declared) number) }
 {
     let path = path_of(alloc, scope.get(number))?;
     let ports = ports_of(alloc, scope, types, number)?;
@@ -111,14 +111,13 @@ pub fn path_of(alloc: Global, one: &Declared<'_>) -> Result<Path, Memory>
 fn ports_of(
     alloc: Global,
     scope: &Scope<'_>,
-    types: &mut PortTypes,
+    types: &[LType],
     streamlet: usize,
 ) -> Result<List<Port>, Memory>
     requires sound { IsToldUpTo (declarations_of scope.now.declared) 7 None }
-    requires built { AreBuilt (declarations_of scope.now.declared) types.old }
+    requires types { AreTypes (declarations_of scope.now.declared) (length (declarations_of scope.now.declared)) types.now }
     requires within { streamlet < length (declarations_of scope.now.declared) }
-    ensures built { OnOk result (AreBuilt (declarations_of scope.now.declared) types.new) }
-    ensures ports { IfOk result (Pairwise (IsPortOf (declarations_of scope.now.declared))
+    ensures { IfOk result (Pairwise (IsPortOf (declarations_of scope.now.declared))
         (ports_of (declarations_of scope.now.declared) (declaration (declarations_of scope.now.declared) streamlet))) }
 {
     match owner_of(scope, streamlet) {
@@ -131,14 +130,13 @@ fn ports_of(
 fn written_ports(
     alloc: Global,
     scope: &Scope<'_>,
-    types: &mut PortTypes,
+    types: &[LType],
     number: usize,
 ) -> Result<List<Port>, Memory>
     requires sound { IsToldUpTo (declarations_of scope.now.declared) 7 None }
-    requires built { AreBuilt (declarations_of scope.now.declared) types.old }
+    requires types { AreTypes (declarations_of scope.now.declared) (length (declarations_of scope.now.declared)) types.now }
     requires within { number < length (declarations_of scope.now.declared) }
-    ensures built { OnOk result (AreBuilt (declarations_of scope.now.declared) types.new) }
-    ensures ports { IfOk result (Pairwise (IsPortOf (declarations_of scope.now.declared)) (ports_in (declaration (declarations_of scope.now.declared) number))) }
+    ensures { IfOk result (Pairwise (IsPortOf (declarations_of scope.now.declared)) (ports_in (declaration (declarations_of scope.now.declared) number))) }
 {
     let mut ports = List::new(alloc);
     'ports: for port in own_ports(scope.get(number).kind) {
@@ -150,17 +148,16 @@ fn written_ports(
 fn port_of<'a>(
     alloc: Global,
     scope: &Scope<'a>,
-    types: &mut PortTypes,
+    types: &[LType],
     number: usize,
     port: &'a AstPort,
 ) -> Result<Port, Memory>
     requires sound { IsToldUpTo (declarations_of scope.now.declared) 7 None }
-    requires built { AreBuilt (declarations_of scope.now.declared) types.old }
+    requires types { AreTypes (declarations_of scope.now.declared) (length (declarations_of scope.now.declared)) types.now }
     requires within { number < length (declarations_of scope.now.declared) }
     requires written { Contains (written_types (declarations_of scope.now.declared))
         (type_of_port (declarations_of scope.now.declared) (declaration (declarations_of scope.now.declared) number).space port.now) }
-    ensures built { OnOk result (AreBuilt (declarations_of scope.now.declared) types.new) }
-    ensures port { IfOk result (IsPortOf (declarations_of scope.now.declared) (record {
+    ensures { IfOk result (IsPortOf (declarations_of scope.now.declared) (record {
       space = (declaration (declarations_of scope.now.declared) number).space;
       port = port.now;
     })) }

@@ -26,8 +26,8 @@ returns-in-Some-2 c =
     (told-none_too_large all c.requires.early (subst (IsEarliest (HasTypeAt (IsMisshapen sorts.TooLarge) (written_types all))) c.in_default.is c.first_misshapen.ensures))
     (subst (IsFirstBad (written_types all)) c.in-Some-2.is c.in_ok-bad.ensures)
 
-pub returns : goal.returns
-returns c =
+pub returns-in-None : goal.returns-in-None
+returns-in-None c =
     let all = declarations_of c.args.scope.now.declared in
     told-no_bad all
     (told-none_too_large all c.requires.early (subst (IsEarliest (HasTypeAt (IsMisshapen sorts.TooLarge) (written_types all))) c.in_default.is c.first_misshapen.ensures))

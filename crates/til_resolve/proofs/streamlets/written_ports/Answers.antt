@@ -13,14 +13,11 @@ port_of-requires-clause-written c =
 pub ports-preserved : goal.ports-preserved
 ports-preserved c =
     let all = declarations_of c.args.scope.now.declared in
-    record {
-      built = c.in_ok-port_of.ensures.built;
-      ports = rw (c.in_ok-push.ensures.ok) (written-more all (declaration all c.args.number).space c.own_ports-port-items.result.now c.ports.port-index c.port-item.result c.ports.ports
-          c.in_ok-port_of.field-0 c.ports-test.true c.port-item.is c.ports.invariant.ports c.in_ok-port_of.ensures.port);
-    }
+    rw (c.in_ok-push.ensures.ok) (written-more all (declaration all c.args.number).space c.own_ports-port-items.result.now c.ports.port-index c.port-item.result c.ports.ports
+    c.in_ok-port_of.field-0 c.ports-test.true c.port-item.is c.ports.invariant c.in_ok-port_of.ensures)
 
-pub returns-clause-ports : goal.returns-clause-ports
-returns-clause-ports c =
+pub returns : goal.returns
+returns c =
     let all = declarations_of c.args.scope.now.declared in
     let listed = c.own_ports-port-items.ensures ∙ ap (λ d. own_ports d.kind) c.get.ensures.value in
-    written-all all c.args.number c.ports.port-index c.own_ports-port-items.result.now c.ports.ports listed c.ports-test.false c.ports.invariant.ports
+    written-all all c.args.number c.ports.port-index c.own_ports-port-items.result.now c.ports.ports listed c.ports-test.false c.ports.invariant

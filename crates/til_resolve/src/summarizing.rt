@@ -1,0 +1,179 @@
+//! The summary of a written type, by a table of the summaries of declarations.
+
+ghost use Rattle.std.specs.Prelude.{◌≡◌, suc, ◌<◌, length, IfSome};
+ghost use Rattle.logical_types.specs.Summary.{IsSummary, IsSummed};
+ghost use Rattle.logical_types.specs.Tree.{group, no_parts, union};
+ghost use Rattle.til_parser.specs.Tree.{plain};
+ghost use Rattle.til_resolve.specs.SharedTypes.{replaced_list};
+ghost use Rattle.til_resolve.specs.Declarations.{declaration};
+ghost use Rattle.til_resolve.specs.Scope.{declarations_of};
+ghost use Rattle.til_resolve.specs.Shapes.{type_at};
+ghost use Rattle.til_resolve.specs.Summaries as spec;
+ghost use Rattle.til_resolve.specs.Summaries.{AreSummaries, meaning_in, stream_in, written_names};
+ghost use Rattle.til_resolve.specs.Types.{type_of};
+
+use crate::kinds::Asked;
+use crate::replacing::sync_of;
+use crate::scope::Scope;
+use logical_types::{
+    Named, PartsSummary, Summary, has_name_twice, summary_of_bits, summary_of_no_parts,
+    summary_of_null, summary_of_stream,
+};
+use til_parser::{AstKind, AstPart, AstPath, AstStream, AstType};
+
+// Written parts, by their names.
+#[derive(Clone, Copy)]
+struct WrittenParts<'a>(&'a [AstPart]);
+
+impl Named for WrittenParts<'_> {
+    ghost names = { λ parts. written_names parts.0.now };
+
+    fn len(&self) -> usize {
+        self.0.len()
+    }
+
+    fn name(&self, index: usize) -> &[u8] {
+        self.0[index].name.name.as_bytes()
+    }
+}
+
+/// The summary of the type that a declaration gives a name to, if there is one.
+pub fn declared_summary(
+    scope: &Scope<'_>,
+    number: usize,
+    table: &[Option<Summary>],
+) -> Option<Summary>
+    requires within { number < length (declarations_of scope.now.declared) }
+    requires table { AreSummaries (declarations_of scope.now.declared) table.now }
+    ensures { IfSome result (IsSummary (type_at (declarations_of scope.now.declared) (suc (length (declarations_of scope.now.declared))) number)) }
+{
+    match scope.get(number).kind {
+        AstKind::Alias(ltype) => summary_in(scope, number, ltype, table),
+        _ => None,
+    }
+}
+
+/// The summary of a type that is written in the declaration of a number, if there is one.
+#[cycle(summary_in)]
+pub fn summary_in<'a>(
+    scope: &Scope<'a>,
+    number: usize,
+    ltype: &'a AstType,
+    table: &[Option<Summary>],
+) -> Option<Summary>
+    requires within { number < length (declarations_of scope.now.declared) }
+    requires table { AreSummaries (declarations_of scope.now.declared) table.now }
+    ensures { IfSome result (IsSummary (type_of (declarations_of scope.now.declared) (declaration (declarations_of scope.now.declared) number).space (plain ltype.now))) }
+{
+    match ltype {
+        AstType::Null => Some(summary_of_null()),
+        AstType::Bits(width) => summary_of_bits(*width),
+        AstType::Group(parts) => summary_in_group(scope, number, parts.as_slice(), table),
+        AstType::Union(parts) => summary_in_union(scope, number, parts.as_slice(), table),
+        AstType::Stream(stream) => summary_in_stream(scope, number, stream.get(), table),
+        AstType::Path(path) => summary_named(scope, number, path, table),
+    }
+}
+
+#[cycle(summary_in)]
+fn summary_in_group<'a>(
+    scope: &Scope<'a>,
+    number: usize,
+    parts: &'a [AstPart],
+    table: &[Option<Summary>],
+) -> Option<Summary>
+    requires within { number < length (declarations_of scope.now.declared) }
+    requires table { AreSummaries (declarations_of scope.now.declared) table.now }
+    ensures { IfSome result (IsSummary (group (replaced_list (meaning_in (declarations_of scope.now.declared) number) parts.now))) }
+{
+    let summed = summed_parts(scope, number, parts, table)?;
+    if has_name_twice(&WrittenParts(parts)) {
+        return None;
+    }
+    summed.in_group()
+}
+
+#[cycle(summary_in)]
+fn summary_in_union<'a>(
+    scope: &Scope<'a>,
+    number: usize,
+    parts: &'a [AstPart],
+    table: &[Option<Summary>],
+) -> Option<Summary>
+    requires within { number < length (declarations_of scope.now.declared) }
+    requires table { AreSummaries (declarations_of scope.now.declared) table.now }
+    ensures { IfSome result (IsSummary (union (replaced_list (meaning_in (declarations_of scope.now.declared) number) parts.now))) }
+{
+    let summed = summed_parts(scope, number, parts, table)?;
+    if has_name_twice(&WrittenParts(parts)) {
+        return None;
+    }
+    summed.in_union(parts.len())
+}
+
+// The summary of parts together.
+#[cycle(summary_in)]
+fn summed_parts<'a>(
+    scope: &Scope<'a>,
+    number: usize,
+    parts: &'a [AstPart],
+    table: &[Option<Summary>],
+) -> Option<PartsSummary>
+    requires within { number < length (declarations_of scope.now.declared) }
+    requires table { AreSummaries (declarations_of scope.now.declared) table.now }
+    ensures { IfSome result (IsSummed (replaced_list (meaning_in (declarations_of scope.now.declared) number) parts.now) no_parts) }
+{
+    let mut summed = summary_of_no_parts();
+    'parts: for part in parts {
+        let one = summary_in(scope, number, &part.ltype, table)?;
+        summed = summed.and(&one);
+    }
+    Some(summed)
+}
+
+#[cycle(summary_in)]
+fn summary_in_stream<'a>(
+    scope: &Scope<'a>,
+    number: usize,
+    stream: &'a AstStream,
+    table: &[Option<Summary>],
+) -> Option<Summary>
+    requires within { number < length (declarations_of scope.now.declared) }
+    requires table { AreSummaries (declarations_of scope.now.declared) table.now }
+    ensures { IfSome result (IsSummary (stream_in (meaning_in (declarations_of scope.now.declared) number) stream.now)) }
+{
+    let element = summary_in(scope, number, &stream.element, table)?;
+    let user = summary_in(scope, number, &stream.user, table)?;
+    summary_of_stream(
+        &element,
+        &user,
+        stream.throughput,
+        stream.dims,
+        sync_of(stream.sync),
+    )
+}
+
+// The summary of the type that a path names.
+fn summary_named<'a>(
+    scope: &Scope<'a>,
+    number: usize,
+    path: &'a AstPath,
+    table: &[Option<Summary>],
+) -> Option<Summary>
+    requires within { number < length (declarations_of scope.now.declared) }
+    requires table { AreSummaries (declarations_of scope.now.declared) table.now }
+    ensures { IfSome result (IsSummary (meaning_in (declarations_of scope.now.declared) number path.now.names)) }
+{
+    let target = scope.named_as(number, path, Asked::Type)?;
+    summary_at(table, target)
+}
+
+/// The summary that a table has of a number.
+pub fn summary_at(table: &[Option<Summary>], number: usize) -> Option<Summary>
+    ensures { result ≡ spec.summary_at table.now number }
+{
+    match table.get(number) {
+        Some(summary) => *summary,
+        None => None,
+    }
+}
