@@ -108,25 +108,3 @@ fn is_missing(error: &Error) -> bool
 {
     error.kind() == ErrorKind::NotFound
 }
-
-#[cfg(test)]
-mod tests {
-    use super::*;
-    use std::test::Fail;
-
-    #[test]
-    fn reads_what_the_system_has(rt: HostRuntime) -> Result<(), Fail> {
-        let mut store = FileStore::new(&rt);
-        let mut into = [1u8; 4];
-        assert_eq!(rt; store.pull(&mut into), Ok(0), "none is started");
-        assert_eq!(rt; store.start("/dev/zero"), Ok(true));
-        assert_eq!(rt; store.pull(&mut into), Ok(4));
-        assert_eq!(rt; into, [0u8; 4]);
-        assert_eq!(rt; store.start("/no such file"), Ok(false));
-        assert_eq!(rt; store.pull(&mut into), Ok(0), "none is started any more");
-        assert_eq!(rt; store.start("/dev/null/file"), Err(Failed), "no folder");
-        assert_eq!(rt; store.start("/"), Ok(true), "a folder opens");
-        assert_eq!(rt; store.pull(&mut into), Err(Failed), "and cannot be read");
-        Ok(())
-    }
-}

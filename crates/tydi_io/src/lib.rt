@@ -12,8 +12,6 @@ mod sink;
 mod started;
 mod store;
 mod stream_sink;
-#[cfg(test)]
-mod tests;
 
 pub use failed::Failed;
 pub use file_store::FileStore;

@@ -55,29 +55,3 @@ impl<W: Write> Sink for StreamSink<W> {
         }
     }
 }
-
-#[cfg(test)]
-mod tests {
-    use super::*;
-    use std::test::Fail;
-
-    #[test]
-    fn passes_bytes_on(rt: HostRuntime) -> Result<(), Fail> {
-        let mut bytes = Vec::new(rt.alloc());
-        let mut sink = StreamSink::new(&mut bytes);
-        assert_eq!(rt; sink.push(b"ab"), Ok(2));
-        assert_eq!(rt; sink.push(b""), Ok(0));
-        assert_eq!(rt; sink.push(b"c"), Ok(1));
-        assert_eq!(rt; bytes.as_slice(), b"abc".as_slice());
-        Ok(())
-    }
-
-    #[test]
-    fn a_writer_that_takes_nothing_fails(rt: HostRuntime) {
-        let mut room = [0u8; 1];
-        let mut sink = StreamSink::new(&mut room[..]);
-        assert_eq!(rt; sink.push(b"ab"), Ok(1));
-        assert_eq!(rt; sink.push(b"b"), Err(Failed));
-        assert_eq!(rt; sink.push(b""), Ok(0));
-    }
-}

@@ -2,43 +2,44 @@
 
 ghost use Rattle.std.specs.Prelude.{ℕ, IfOk, IfSome};
 ghost use Rattle.std.specs.List.{All};
+ghost use Rattle.nest_shape.specs.Flat.{IsSeries};
 ghost use Rattle.nest_shape.specs.Shape.{ClosesBelow};
 
 use nest_shape::*;
 use physical_stream::Item;
 use std::alloc::Global;
 use std::test::Fail;
-use tydi_base::{Bits, List, Memory};
+use tydi_base::{Bits, List, Memory, emit};
 
 // Dimensions, items, and their series or its fault. An element is a letter, a Close of dimension 0 is `0` and so on; a list of a series
 // stands in brackets.
-const SERIES: [(u8, &str, Result<&str, NestFault>); 22] = [
-    (0, "", Ok("")),
-    (2, "", Ok("")),
-    (0, "ab", Ok("ab")),
-    (1, "0", Ok("[]")),
-    (1, "00", Ok("[][]")),
-    (1, "ab0", Ok("[ab]")),
-    (1, "ab00", Ok("[ab][]")),
-    (2, "011", Ok("[[]][]")),
-    (2, "1", Ok("[]")),
-    (2, "a0b01", Ok("[[a][b]]")),
-    (2, "a0011", Ok("[[a][]][]")),
-    (3, "a01120", Err(NestFault::Unclosed(1))),
-    (3, "122", Ok("[[]][]")),
+const SERIES: [(u8, &str, &str); 22] = [
+    (0, "", ""),
+    (2, "", ""),
+    (0, "ab", "ab"),
+    (1, "0", "[]"),
+    (1, "00", "[][]"),
+    (1, "ab0", "[ab]"),
+    (1, "ab00", "[ab][]"),
+    (2, "011", "[[]][]"),
+    (2, "1", "[]"),
+    (2, "a0b01", "[[a][b]]"),
+    (2, "a0011", "[[a][]][]"),
+    (3, "a01120", "open 1"),
+    (3, "122", "[[]][]"),
     (
         32,
         "a0123456789:;<=>?@ABCDEFGHIJKLMNO",
-        Ok("[[[[[[[[[[[[[[[[[[[[[[[[[[[[[[[[a]]]]]]]]]]]]]]]]]]]]]]]]]]]]]]]]"),
+        "[[[[[[[[[[[[[[[[[[[[[[[[[[[[[[[[a]]]]]]]]]]]]]]]]]]]]]]]]]]]]]]]]",
     ),
-    (1, "a", Err(NestFault::Unclosed(0))),
-    (2, "a0", Err(NestFault::Unclosed(1))),
-    (2, "a01b", Err(NestFault::Unclosed(0))),
-    (2, "a1", Err(NestFault::BadClose(1))),
-    (2, "aa1a", Err(NestFault::BadClose(2))),
-    (3, "a02", Err(NestFault::BadClose(2))),
-    (3, "02a", Err(NestFault::BadClose(1))),
-    (3, "2a2", Err(NestFault::BadClose(2))),
+    (1, "a", "open 0"),
+    (2, "a0", "open 1"),
+    (2, "a01b", "open 0"),
+    (2, "a1", "bad 1"),
+    (2, "aa1a", "bad 2"),
+    (3, "a02", "bad 2"),
+    (3, "02a", "bad 1"),
+    (3, "2a2", "bad 2"),
 ];
 
 // The element of this letter.
@@ -101,6 +102,17 @@ fn write_nest(text: &mut List<u8>, nest: &Nest) -> Result<(), Memory> {
     }
 }
 
+// The text of a series that was built of these items, which it is flattened to again.
+fn series_text(alloc: Global, dims: u8, series: &[Nest], items: &[Item]) -> Result<List<u8>, Memory>
+    requires { IsSeries dims series.now }
+{
+    let flat = flatten(alloc, dims, series)?;
+    if text_of_items(alloc, flat.as_slice())? != text_of_items(alloc, items)? {
+        return Err(Memory);
+    }
+    text_of(alloc, series)
+}
+
 // The text of a series.
 fn text_of(alloc: Global, series: &[Nest]) -> Result<List<u8>, Memory> {
     let mut text = List::new(alloc);
@@ -122,36 +134,30 @@ fn text_of_items(alloc: Global, items: &[Item]) -> Result<List<u8>, Memory> {
     Ok(text)
 }
 
-// What is built of items, as text, and the items that it is flattened to again.
-fn built(
-    alloc: Global,
-    dims: u8,
-    items: &[Item],
-) -> Result<Result<(List<u8>, List<u8>), NestFault>, Memory>
+// What is built of items, as text, or its fault. What is flattened again is to be these items.
+fn outcome(alloc: Global, dims: u8, items: &[Item]) -> Result<List<u8>, Memory>
     requires { All (ClosesBelow dims) items.now }
 {
     match build(alloc, dims, items) {
-        Ok(series) => {
-            let text = text_of(alloc, series.as_slice())?;
-            let flat = flatten(alloc, dims, series.as_slice())?;
-            Ok(Ok((text, text_of_items(alloc, flat.as_slice())?)))
-        }
-        Err(fault) => Ok(Err(fault)),
+        Ok(series) => series_text(alloc, dims, series.as_slice(), items),
+        Err(NestFault::BadClose(number)) => fault_text(alloc, "bad ", number as u64),
+        Err(NestFault::Unclosed(number)) => fault_text(alloc, "open ", u64::from(number)),
+        Err(NestFault::Memory) => Err(Memory),
     }
+}
+
+fn fault_text(alloc: Global, name: &str, number: u64) -> Result<List<u8>, Memory> {
+    let mut text = List::new(alloc);
+    emit!(text; name, number)?;
+    Ok(text)
 }
 
 #[test]
 fn series_are_built(rt: HostRuntime) -> Result<(), Fail> {
     for (dims, spelled, wanted) in SERIES {
         let items = items_of(rt.alloc(), dims, spelled.as_bytes())?;
-        match (built(rt.alloc(), dims, items.as_slice())?, wanted) {
-            (Ok((text, flat)), Ok(wanted)) => {
-                assert_eq!(rt; text.as_slice(), wanted.as_bytes());
-                assert_eq!(rt; flat.as_slice(), spelled.as_bytes());
-            }
-            (Err(fault), Err(wanted)) => assert_eq!(rt; fault, wanted),
-            _ => return Err(Fail::from("another outcome")),
-        }
+        let text = outcome(rt.alloc(), dims, items.as_slice())?;
+        assert_eq!(rt; text.as_slice(), wanted.as_bytes());
     }
     Ok(())
 }

@@ -1,11 +1,10 @@
 //! Projects that trees stand for, by hand, as short texts.
 
 use crate::faults::TOWER_14;
+use crate::types::project_of;
 use std::alloc::Global;
 use std::test::Fail;
-use til_lexer::lex;
-use til_parser::parse;
-use til_resolve::{Impl, Instance, Link, LinkEnd, Project, Streamlet, resolve};
+use til_resolve::{Impl, Instance, Link, LinkEnd, Project, Streamlet};
 use tydi_base::{Colons, List, Memory, emit};
 
 const VIDEO: &str = "namespace video {
@@ -112,12 +111,7 @@ fn write_end(end: &LinkEnd, text: &mut List<u8>) -> Result<(), Memory> {
 
 // Whether a text stands for a project with this short text.
 fn is_shown(alloc: Global, text: &str, want: &str) -> Result<bool, Fail> {
-    if text.len() > 1_000_000 {
-        return Ok(false);
-    }
-    let tokens = lex(alloc, text)?;
-    let ast = parse(alloc, text, tokens.as_slice())?;
-    let project = resolve(alloc, &ast)?;
+    let project = project_of(alloc, text)?;
     let mut shown = List::new(alloc);
     write_project(&project, &mut shown)?;
     Ok(shown.as_slice() == want.as_bytes())

@@ -26,32 +26,39 @@ fn pieces_are_cut(rt: HostRuntime) {
     assert!(rt; first_piece(b"ab", SPACE).is_none());
 }
 
+// Texts, and whether they are names.
+const NAMES: [(&str, bool); 16] = [
+    ("a", true),
+    ("a_b", true),
+    ("nul", true),
+    ("Z9", true),
+    ("streaM", true),
+    ("_a", false),
+    ("a__b", false),
+    ("a_", false),
+    ("", false),
+    ("9", false),
+    ("Null", false),
+    ("Bits", false),
+    ("Group", false),
+    ("Union", false),
+    ("Stream", false),
+    ("a-b", false),
+];
+
+// Whether a text is read as a name of its bytes.
+fn is_read(alloc: Global, text: &str) -> Result<bool, Memory> {
+    match Name::read(alloc, text.as_bytes())? {
+        Some(name) => Ok(name.as_bytes() == text.as_bytes()),
+        None => Ok(false),
+    }
+}
+
 #[test]
 fn names_are_told(rt: HostRuntime) -> Result<(), Fail> {
-    for text in [b"a".as_slice(), b"a_b", b"nul", b"Z9", b"streaM"] {
-        assert!(rt; is_name(text));
+    for (text, wanted) in NAMES {
+        assert_eq!(rt; is_read(rt.alloc(), text)?, wanted);
     }
-    for text in [
-        b"_a".as_slice(),
-        b"a__b",
-        b"a_",
-        b"",
-        b"9",
-        b"Null",
-        b"Bits",
-        b"Group",
-        b"Union",
-        b"Stream",
-        b"a-b",
-    ] {
-        assert!(rt; !is_name(text));
-    }
-    let name = Name::read(rt.alloc(), b"a_b")
-        .ok()
-        .ok_or("memory")?
-        .ok_or("a name")?;
-    assert_eq!(rt; name.as_bytes(), b"a_b".as_slice());
-    assert!(rt; matches!(Name::read(rt.alloc(), b"a_"), Ok(None)));
     Ok(())
 }
 
@@ -96,32 +103,32 @@ fn paths_are_read_and_written(rt: HostRuntime) -> Result<(), Fail> {
     Ok(())
 }
 
-// A path of two names, as parts of a text.
-fn path_of(alloc: Global, first: &[u8], second: &[u8]) -> Result<Option<Path>, Memory> {
-    let mut path = Path::new(alloc);
-    let (Some(first), Some(second)) = (Name::read(alloc, first)?, Name::read(alloc, second)?) else {
+// The path `a.b`, its copy and `a.a`: whether the copy is the same, and whether the third stands before it.
+fn compared(alloc: Global) -> Result<Option<(bool, bool)>, Memory> {
+    let Some(path) = Path::read(alloc, b"a.b", false)? else {
         return Ok(None);
     };
-    path.push(first)?;
-    path.push(second)?;
-    Ok(Some(path))
+    let copy = path.try_clone(alloc)?;
+    let Some(other) = Path::read(alloc, b"a.a", false)? else {
+        return Ok(None);
+    };
+    Ok(Some((copy == path, other < copy)))
+}
+
+// A text of several parts.
+fn written(alloc: Global) -> Result<List<u8>, Memory> {
+    let mut out = List::new(alloc);
+    if let Some(path) = Path::read(alloc, b"a.b_c", false)? {
+        emit!(out; "at ", Some(7u16), " of ", &path, " or ", Colons(&path), Each(path.names()), None::<u8>)?;
+    }
+    Ok(out)
 }
 
 #[test]
-fn parts_are_written(rt: HostRuntime) -> Result<(), Fail> {
-    let path = path_of(rt.alloc(), b"a", b"b_c")?.ok_or("a path")?;
-    let mut out = List::new(rt.alloc());
-    emit!(out; "at ", Some(7u16), " of ", &path, " or ", Colons(&path), Each(path.names()), None::<u8>)?;
-    assert_eq!(rt; out.as_slice(), b"at 7 of a.b_c or a::b_cab_c".as_slice());
-    Ok(())
-}
-
-#[test]
-fn paths_are_compared(rt: HostRuntime) -> Result<(), Fail> {
-    let path = path_of(rt.alloc(), b"a", b"b")?.ok_or("a path")?;
-    assert!(rt; path.try_clone(rt.alloc())? == path);
-    let other = path_of(rt.alloc(), b"a", b"a")?.ok_or("a path")?;
-    assert!(rt; path != other && path > other);
+fn paths_are_compared_and_written(rt: HostRuntime) -> Result<(), Fail> {
+    assert_eq!(rt; compared(rt.alloc())?, Some((true, true)));
+    let text = written(rt.alloc())?;
+    assert_eq!(rt; text.as_slice(), b"at 7 of a.b_c or a::b_cab_c".as_slice());
     Ok(())
 }
 

@@ -3,14 +3,15 @@
 ghost use Rattle.std.specs.Prelude.{◌≤◌, length};
 ghost use Rattle.logical_types.specs.Faults.{IsPlain, nodes, outermost};
 ghost use Rattle.logical_types.specs.Tree.{plain};
+ghost use Rattle.logical_value.specs.Element.{IsElement};
+ghost use Rattle.logical_value.specs.Tree as values;
 
-use crate::types::{Step, built};
-use Step::{Bits as Word, Group, Null, Stream, Union};
+use crate::types::{project_around, type_in};
 use logical_types::*;
 use logical_value::*;
 use std::alloc::Global;
 use std::test::Fail;
-use tydi_base::{Bits, Boxed, List};
+use tydi_base::{Bits, Boxed, Hex, List, Path, emit};
 use type_split::{number_of_streams, split_type};
 
 // A step by which a value is built: one with members takes the last values as its members, so many, and one of a variant takes the last
@@ -28,40 +29,25 @@ enum Part {
 use Part as V;
 
 // A Union of a Bits of eight bits, a Bits of four and a Null.
-const THREE: &[Step] = &[Word(8), Word(4), Null, Union("abc")];
+const THREE: &str = "Union(a: Bits(8), b: Bits(4), c: Null)";
 
 // A Group of a bit and a Union, in whose second variant there is another Union.
-const INNER: &[Step] = &[
-    Word(1),
-    Null,
-    Null,
-    Null,
-    Null,
-    Union("pqr"),
-    Null,
-    Union("xyz"),
-    Group("au"),
-];
+const INNER: &str =
+    "Group(a: Bits(1), u: Union(x: Null, y: Union(p: Null, q: Null, r: Null), z: Null))";
 
-// A type by its steps, a word of its width, and the value that it stands for with the word of that value, or the path of a bad tag.
-const WORDS: [(&[Step], &str, &str); 15] = [
+// A type, a word of its width, and the value that it stands for with the word of that value, or the path of a bad tag.
+const WORDS: [(&str, &str, &str); 15] = [
     (THREE, "003", "bad -"),
     (THREE, "3fe", "2(n) 002"),
     (THREE, "3d5", "1(5) 015"),
     (THREE, "3fc", "0(ff) 3fc"),
-    (&[Null], "", "n "),
-    (&[Word(5)], "1f", "1f 1f"),
-    (&[Word(3), Word(5), Group("ab")], "e5", "{5,1c,} e5"),
-    (&[Group("")], "", "{} "),
-    (&[Word(8), Union("a")], "7f", "0(7f) 7f"),
+    ("Null", "", "n "),
+    ("Bits(5)", "1f", "1f 1f"),
+    ("Group(a: Bits(3), b: Bits(5))", "e5", "{5,1c,} e5"),
+    ("Group()", "", "{} "),
+    ("Union(a: Bits(8))", "7f", "0(7f) 7f"),
     (
-        &[
-            Word(8),
-            Null,
-            Stream(1, 1, 1, Sync::Sync),
-            Word(2),
-            Group("ab"),
-        ],
+        "Group(a: Stream(data: Bits(8), dimensionality: 1), b: Bits(2))",
         "3",
         "{-,3,} 3",
     ),
@@ -69,73 +55,32 @@ const WORDS: [(&[Step], &str, &str); 15] = [
     (INNER, "1a", "bad u.y"),
     (INNER, "19", "{1,0(n),} 01"),
     (
-        &[
-            Null,
-            Null,
-            Null,
-            Union("pqr"),
-            Null,
-            Null,
-            Null,
-            Union("pqr"),
-            Group("ab"),
-        ],
+        "Group(a: Union(p: Null, q: Null, r: Null), b: Union(p: Null, q: Null, r: Null))",
         "f",
         "bad a",
     ),
     (
-        &[
-            Null,
-            Null,
-            Null,
-            Union("pqr"),
-            Null,
-            Null,
-            Null,
-            Union("pqr"),
-            Group("ab"),
-        ],
+        "Group(a: Union(p: Null, q: Null, r: Null), b: Union(p: Null, q: Null, r: Null))",
         "c",
         "bad b",
     ),
 ];
 
 // A Stream of words of eight bits, in sequences.
-const SEQUENCES: &[Step] = &[Word(8), Null, Stream(1, 1, 1, Sync::Sync)];
+const SEQUENCES: &str = "Stream(data: Bits(8), dimensionality: 1)";
 
 // A Stream of Groups of a word and a Stream of this synchronicity.
-const FLATTENED: &[Step] = &[
-    Word(8),
-    Word(8),
-    Null,
-    Stream(1, 1, 1, Sync::Flatten),
-    Group("ab"),
-    Null,
-    Stream(1, 1, 1, Sync::Sync),
-];
+const FLATTENED: &str =
+    "Stream(data: Group(a: Bits(8), b: Stream(data: Bits(8), dimensionality: 1, synchronicity: Flatten)), dimensionality: 1)";
 
-const APART: &[Step] = &[
-    Word(8),
-    Word(8),
-    Null,
-    Stream(1, 1, 1, Sync::Desync),
-    Group("ab"),
-    Null,
-    Stream(1, 1, 1, Sync::Sync),
-];
+const APART: &str =
+    "Stream(data: Group(a: Bits(8), b: Stream(data: Bits(8), dimensionality: 1, synchronicity: Desync)), dimensionality: 1)";
 
 // A Stream of the Union of three variants.
-const VARIANTS: &[Step] = &[
-    Word(8),
-    Word(4),
-    Null,
-    Union("abc"),
-    Null,
-    Stream(1, 1, 0, Sync::Sync),
-];
+const VARIANTS: &str = "Stream(data: Union(a: Bits(8), b: Bits(4), c: Null))";
 
-// A port's type by its steps, a list for each series of a value, and whether it fits.
-const VALUES: [(&[Step], &[Part], bool); 26] = [
+// A port's type, a list for each series of a value, and whether it fits.
+const VALUES: [(&str, &[Part], bool); 26] = [
     (SEQUENCES, &[V::List(0)], true),
     (
         SEQUENCES,
@@ -153,28 +98,20 @@ const VALUES: [(&[Step], &[Part], bool); 26] = [
     (SEQUENCES, &[V::Null, V::List(1), V::List(1)], false),
     (SEQUENCES, &[], false),
     (SEQUENCES, &[V::List(0), V::List(0)], false),
+    ("Stream(data: Null)", &[V::Null, V::List(1)], true),
+    ("Stream(data: Null)", &[V::Apart, V::List(1)], false),
     (
-        &[Null, Null, Stream(1, 1, 0, Sync::Sync)],
-        &[V::Null, V::List(1)],
-        true,
-    ),
-    (
-        &[Null, Null, Stream(1, 1, 0, Sync::Sync)],
-        &[V::Apart, V::List(1)],
-        false,
-    ),
-    (
-        &[Word(8), Null, Stream(1, 1, 32, Sync::Sync)],
+        "Stream(data: Bits(8), dimensionality: 32)",
         &[V::Word(8, 1), V::Lists(32), V::List(1)],
         true,
     ),
     (
-        &[Word(8), Null, Stream(1, 1, 32, Sync::Sync)],
+        "Stream(data: Bits(8), dimensionality: 32)",
         &[V::Word(8, 1), V::Lists(31), V::List(1)],
         false,
     ),
     (
-        &[Word(8), Null, Stream(1, 1, 32, Sync::Sync)],
+        "Stream(data: Bits(8), dimensionality: 32)",
         &[V::List(0), V::Lists(31), V::List(1)],
         true,
     ),
@@ -353,6 +290,24 @@ fn write_value(alloc: Global, text: &mut List<u8>, value: &Value) -> Result<(), 
     Ok(())
 }
 
+// The text of a value and of its word.
+fn packed_again(alloc: Global, ltype: &LType, value: &Value) -> Result<List<u8>, Fail>
+    requires plain { IsPlain (plain ltype.now) }
+    requires element { IsElement (plain ltype.now) (values.plain value.now) }
+{
+    let mut text = List::new(alloc);
+    write_value(alloc, &mut text, value)?;
+    let word = pack(alloc, ltype, value)?;
+    emit!(text; " ", Hex(&word))?;
+    Ok(text)
+}
+
+fn fault_text(alloc: Global, path: &Path) -> Result<List<u8>, Fail> {
+    let mut text = List::new(alloc);
+    emit!(text; "bad ", path)?;
+    Ok(text)
+}
+
 // The value of a word and the word of that value, or the path of a bad tag.
 fn outcome(alloc: Global, ltype: &LType, digits: &[u8]) -> Result<List<u8>, Fail>
     requires plain { IsPlain (plain ltype.now) }
@@ -367,18 +322,10 @@ fn outcome(alloc: Global, ltype: &LType, digits: &[u8]) -> Result<List<u8>, Fail
         return Ok(text);
     }
     match unpack(alloc, ltype, &word) {
-        Ok(value) => {
-            write_value(alloc, &mut text, &value)?;
-            text.push(b' ')?;
-            pack(alloc, ltype, &value)?.write_hex(alloc, &mut text)?;
-        }
-        Err(UnpackFault::BadTag(path)) => {
-            text.extend_from_slice(b"bad ")?;
-            path.write_dotted(&mut text)?;
-        }
-        Err(UnpackFault::Memory) => return Err(Fail::from("no memory")),
+        Ok(value) => packed_again(alloc, ltype, &value),
+        Err(UnpackFault::BadTag(path)) => fault_text(alloc, &path),
+        Err(UnpackFault::Memory) => Err(Fail::from("no memory")),
     }
-    Ok(text)
 }
 
 // The same of a type that is checked first, or nothing.
@@ -389,11 +336,17 @@ fn checked_outcome(alloc: Global, ltype: &LType, digits: &[u8]) -> Result<List<u
     }
 }
 
+// The same of the type of this text.
+fn told_of(alloc: Global, spelled: &str, digits: &str) -> Result<List<u8>, Fail> {
+    let project = project_around(alloc, spelled)?;
+    let ltype = type_in(&project).ok_or("a type")?;
+    checked_outcome(alloc, ltype, digits.as_bytes())
+}
+
 #[test]
 fn words_are_unpacked(rt: HostRuntime) -> Result<(), Fail> {
-    for (steps, digits, wanted) in WORDS {
-        let ltype = built(rt.alloc(), steps)?;
-        let text = checked_outcome(rt.alloc(), &ltype, digits.as_bytes())?;
+    for (spelled, digits, wanted) in WORDS {
+        let text = told_of(rt.alloc(), spelled, digits)?;
         assert_eq!(rt; text.as_slice(), wanted.as_bytes());
     }
     Ok(())
@@ -413,12 +366,18 @@ fn fitting(alloc: Global, ltype: &LType, value: &PortValue) -> Option<bool> {
     }
 }
 
+// Whether the value of these steps fits a port of the type of this text.
+fn is_fitting(alloc: Global, spelled: &str, parts: &[Part]) -> Result<Option<bool>, Fail> {
+    let project = project_around(alloc, spelled)?;
+    let ltype = type_in(&project).ok_or("a type")?;
+    let value = port_value(alloc, parts)?;
+    Ok(fitting(alloc, ltype, &value))
+}
+
 #[test]
 fn values_fit(rt: HostRuntime) -> Result<(), Fail> {
-    for (steps, parts, wanted) in VALUES {
-        let ltype = built(rt.alloc(), steps)?;
-        let value = port_value(rt.alloc(), parts)?;
-        assert_eq!(rt; fitting(rt.alloc(), &ltype, &value), Some(wanted));
+    for (spelled, parts, wanted) in VALUES {
+        assert_eq!(rt; is_fitting(rt.alloc(), spelled, parts)?, Some(wanted));
     }
     Ok(())
 }

@@ -33,12 +33,20 @@ fn ones_of(alloc: Global, width: usize, digits: &str) -> Result<Option<usize>, M
     Ok(Some(count_ones(&word)))
 }
 
+// The same, and whether a word is made of them.
+fn read_told(alloc: Global, width: usize, digits: &str) -> Result<(Option<usize>, bool), Memory> {
+    let ones = ones_of(alloc, width, digits)?;
+    let made = Bits::from_exact_hex(alloc, width, digits.as_bytes())?;
+    Ok((ones, made.is_some()))
+}
+
 #[test]
 fn words_are_read(rt: HostRuntime) -> Result<(), Fail> {
     for (width, digits, ones) in READINGS {
-        assert_eq!(rt; ones_of(rt.alloc(), width, digits)?, ones);
-        let made = Bits::from_exact_hex(rt.alloc(), width, digits.as_bytes())?;
-        assert_eq!(rt; made.is_some(), ones.is_some());
+        assert_eq!(rt;
+            read_told(rt.alloc(), width, digits)?,
+            (ones, ones.is_some())
+        );
     }
     Ok(())
 }
@@ -89,14 +97,21 @@ fn number_between(
     Ok(word.slice(alloc, from, to)?.number())
 }
 
+// The bits from 4 up to 12 of that word, whether its copy is the same, and the digits of that.
+fn joined_told(alloc: Global) -> Result<(Option<u128>, bool, List<u8>), Memory> {
+    let word = joined(alloc)?;
+    let cut = number_between(alloc, &word, 4, 12)?;
+    let copy = word.try_clone(alloc)?;
+    let mut text = List::new(alloc);
+    copy.write_hex(alloc, &mut text)?;
+    Ok((cut, copy == word, text))
+}
+
 #[test]
 fn words_are_joined_cut_and_spelled(rt: HostRuntime) -> Result<(), Fail> {
-    let word = joined(rt.alloc())?;
-    assert_eq!(rt; number_between(rt.alloc(), &word, 4, 12)?, Some(0x4b));
-    let mut text = List::new(rt.alloc());
-    word.write_hex(rt.alloc(), &mut text)?;
+    let (cut, is_same, text) = joined_told(rt.alloc())?;
+    assert_eq!(rt; (cut, is_same), (Some(0x4b), true));
     assert_eq!(rt; text.as_slice(), b"34b3".as_slice());
-    assert!(rt; word.try_clone(rt.alloc())? == word);
     Ok(())
 }
 

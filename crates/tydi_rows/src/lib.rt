@@ -3,6 +3,8 @@
 #![tactic(auto)]
 
 #[cfg(test)]
+mod edge;
+#[cfg(test)]
 mod project_tables;
 #[cfg(test)]
 mod refusal_tables;

@@ -4,7 +4,7 @@ use Rattle.logical_value.specs.Tree.{plain as plain_value}
 use Rattle.logical_value.proofs.LawLemmas.{unpacked_are_elements}
 use Rattle.tydi_layers.proofs.values.outcome.Goals as goal
 
-pub pack-requires-clause-element : goal.pack-requires-clause-element
-pack-requires-clause-element c =
+pub packed_again-requires-clause-element : goal.packed_again-requires-clause-element
+packed_again-requires-clause-element c =
     unpacked_are_elements (plain c.args.ltype.now) c.in-Ok.word (plain_value c.in-Ok-unpack.value) (omega (arith, c.len.ensures, c.if-len-bits.false, c.width-bits.ensures))
     c.in-Ok-unpack.ensures.agrees
