@@ -4,9 +4,11 @@ ghost use Rattle.std.specs.Prelude.{◌≡◌, IsTrue, IfOk, OnErr};
 ghost use Rattle.std.specs.List.{list_all};
 ghost use Rattle.tydi_base.specs.Name as spec;
 
+use crate::boxed::Boxed;
+use crate::few_bytes::FewBytes;
+use crate::list::List;
 use crate::memory::Memory;
 use crate::try_clone::TryClone;
-use smallvec::SmallVec;
 use std::alloc::Global;
 use std::marker::Model;
 
@@ -14,22 +16,32 @@ use std::marker::Model;
 const UNDERSCORE: u8 = b'_';
 
 /// A name (Tydi specification, names): ASCII letters, digits and `_`, with a letter first, no two `_` together, no `_`
-/// last, and not one of the words `Null`, `Bits`, `Group`, `Union` and `Stream`. Contracts see its bytes. One of up to 16 bytes takes
+/// last, and not one of the words `Null`, `Bits`, `Group`, `Union` and `Stream`. Contracts see its bytes. One of up to 15 bytes takes
 /// no memory.
 #[derive(Debug, Drop)]
 pub struct Name {
-    bytes: SmallVec<u8, 16>,
+    letters: Letters,
 }
+
+/// The bytes of a name: few in place, or more in a block of their own.
+#[derive(Debug, Drop)]
+enum Letters {
+    Few(FewBytes),
+    Many(Boxed<List<u8>>),
+}
+
+// trees hold a name for each name of a text, so that its size counts
+const _: () = prove!(size_of::<Name>() == 24);
 
 impl Model for Name {
     ghost use Rattle.std.specs.Prelude.{List, ℕ, IsTrue};
-    ghost use Rattle.tydi_base.specs.Name.{is_name};
+    ghost use Rattle.tydi_base.specs.Name.{is_name, letters_of};
 
     ghost Value = { List ℕ };
 
-    ghost view = { λ name. name.bytes.items };
+    ghost view = { λ name. letters_of name.letters };
 
-    ghost invariant = { λ name. IsTrue (is_name name.bytes.items) };
+    ghost invariant = { λ name. IsTrue (is_name (letters_of name.letters)) };
 }
 
 impl Name {
@@ -41,8 +53,8 @@ impl Name {
         if !is_name(text) {
             return Ok(None);
         }
-        let bytes = SmallVec::from_slice(alloc, text)?;
-        Ok(Some(Name { bytes }))
+        let letters = Letters::new(alloc, text)?;
+        Ok(Some(Name { letters }))
     }
 
     /// Its bytes.
@@ -50,14 +62,35 @@ impl Name {
         ensures value { result.now ≡ self.now }
         ensures name { IsTrue (spec.is_name self.now) }
     {
-        self.bytes.as_slice()
+        self.letters.as_slice()
+    }
+}
+
+impl Letters {
+    fn new(alloc: Global, text: &[u8]) -> Result<Letters, Memory>
+        ensures { IfOk result (λ letters. spec.letters_of letters ≡ text.now) }
+    {
+        if let Some(few) = FewBytes::new(text) {
+            return Ok(Letters::Few(few));
+        }
+        let many = List::from_slice(alloc, text)?;
+        Ok(Letters::Many(Boxed::new(alloc, many)?))
+    }
+
+    fn as_slice(&self) -> &[u8]
+        ensures { result.now ≡ spec.letters_of self.now }
+    {
+        match self {
+            Letters::Few(few) => few.as_slice(),
+            Letters::Many(many) => many.get().as_slice(),
+        }
     }
 }
 
 impl TryClone for Name {
     fn try_clone(&self, alloc: Global) -> Result<Name, Memory> {
         Ok(Name {
-            bytes: SmallVec::from_slice(alloc, self.bytes.as_slice())?,
+            letters: Letters::new(alloc, self.letters.as_slice())?,
         })
     }
 }

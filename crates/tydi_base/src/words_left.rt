@@ -3,8 +3,12 @@
 ghost use Rattle.std.specs.Prelude.{◌≡◌, ◌↔◌, [], ◌∷◌, IfSome, IsTrue, List, MatchOption, ℕ};
 ghost use Rattle.tydi_base.specs.Pieces.{words_of};
 ghost use Rattle.tydi_base.specs.WordsLeft.{HasNoSized, IsCut, IsSized, NoCut, words_left};
+ghost use Rattle.tydi_base.specs.declared.words_left.TheConstants.{EQUALS};
 
-use crate::pieces::first_piece;
+use crate::pieces::{SPACE, first_piece};
+
+/// The byte between a key and its value.
+pub const EQUALS: u8 = b'=';
 
 /// The words of a line that are left, with one space between each two.
 #[derive(Clone, Copy)]
@@ -35,7 +39,7 @@ impl<'a> WordsLeft<'a> {
         ensures { MatchOption result (words_left self.entry ≡ []) (λ x. words_left self.entry ≡ x.0.now ∷ words_left x.1) }
     {
         let text = self.rest?;
-        match first_piece(text, b' ') {
+        match first_piece(text, SPACE) {
             Some((word, rest)) => Some((word, WordsLeft { rest: Some(rest) })),
             None => Some((text, WordsLeft { rest: None })),
         }
@@ -48,7 +52,7 @@ impl<'a> WordsLeft<'a> {
         ensures { MatchOption result (HasNoSized key size (words_left self.entry)) (λ x. IsSized key size (words_left self.entry) x.0.now (words_left x.1)) }
     {
         let text = self.rest?;
-        if key == b' ' {
+        if key == SPACE {
             return None;
         }
         match after_key(key, text) {
@@ -61,15 +65,15 @@ impl<'a> WordsLeft<'a> {
     /// for.
     #[inline(always)]
     pub fn short_value(self, key: u8) -> Option<(&'a [u8], WordsLeft<'a>)>
-        ensures { IfSome result (λ x. words_left self.entry ≡ (key ∷ 61 ∷ x.0.now) ∷ words_left x.1) }
+        ensures { IfSome result (λ x. words_left self.entry ≡ (key ∷ EQUALS ∷ x.0.now) ∷ words_left x.1) }
     {
         if let Some((value, rest)) = self.sized_value(key, 1) {
-            if value[0] != b' ' {
+            if value[0] != SPACE {
                 return Some((value, rest));
             }
         }
         let (value, rest) = self.sized_value(key, 2)?;
-        if value[0] == b' ' || value[1] == b' ' {
+        if value[0] == SPACE || value[1] == SPACE {
             return None;
         }
         Some((value, rest))
@@ -87,9 +91,9 @@ impl<'a> WordsLeft<'a> {
 /// What follows this key and `=` at the front of a text.
 #[inline(always)]
 fn after_key(key: u8, text: &[u8]) -> Option<&[u8]>
-    ensures { MatchOption result ((after : List ℕ) → text.now ≡ key ∷ 61 ∷ after → ⊥) (λ after. text.now ≡ key ∷ 61 ∷ after.now) }
+    ensures { MatchOption result ((after : List ℕ) → text.now ≡ key ∷ EQUALS ∷ after → ⊥) (λ after. text.now ≡ key ∷ EQUALS ∷ after.now) }
 {
-    if text.len() < 2 || !are_both(text[0], text[1], key, b'=') {
+    if text.len() < 2 || !are_both(text[0], text[1], key, EQUALS) {
         return None;
     }
     Some(&text[2..])
@@ -111,7 +115,7 @@ fn cut(text: &[u8], size: usize) -> Option<(&[u8], WordsLeft<'_>)>
     if text.len() == size {
         return Some((text, WordsLeft::none()));
     }
-    if text.len() > size && text[size] == b' ' {
+    if text.len() > size && text[size] == SPACE {
         return Some((&text[..size], WordsLeft::of(&text[size + 1..])));
     }
     None
