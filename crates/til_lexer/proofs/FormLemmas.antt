@@ -1,5 +1,5 @@
 -- Each token that is found has the form of its kind.
-use Rattle.std.proofs.Common.{◌≡◌, ℕ, suc, ◌+◌, ◌<◌, ◌≤◌, inl, inr, Bool, true, false, ◌&&◌, cond, eqb, ltb, List, []}
+use Rattle.std.proofs.Common.{◌≡◌, ℕ, suc, ◌+◌, ◌<◌, ◌≤◌, inl, inr, Bool, true, false, not, ◌&&◌, cond, eqb, ltb, List, []}
 use Rattle.std.proofs.Common.{◌∷◌, ◌++◌, length, take, drop, get_or, Option, Some, None, IfSome, IfOk, refl, sym, ap, ◌∙◌, subst, arith, length-drop}
 use Rattle.std.specs.Char.{is_ascii, is_ascii_digit}
 use Rattle.std.specs.List.{list_all, position_or_len}
@@ -9,7 +9,7 @@ use Rattle.std.proofs.Math.Seq.{take-add, take-suc, take-append_seam}
 use Rattle.std.proofs.lemmas.Bool.{eqb-false}
 use Rattle.std.proofs.lemmas.List.{get_or-take, length-take-le}
 use Rattle.std.proofs.lemmas.List.Folds.{length-prefix_len}
-use Rattle.std.proofs.lemmas.List.Sums.{fails_before_first, passes_at_first}
+use Rattle.std.proofs.lemmas.List.Sums.{fails_before_first, passes_at_first, prefix_len-le-length}
 use Rattle.std.proofs.lemmas.Str.{encodes-chars, IsCharBoundary-before_ascii, IsUtf8-drop, IsUtf8-take}
 use Rattle.tydi_base.specs.declared.place.Place.{Place}
 use Rattle.tydi_base.specs.Pieces.{Lacks}
@@ -31,7 +31,7 @@ use Rattle.til_lexer.proofs.SliceLemmas.{tokens_of-are}
 use Rattle.til_lexer.proofs.WordLemmas.{IsUtf8-ascii, prefix_all}
 
 -- a piece at the front of a text, if it is a token, has its form
-abbrev Formed : List ℕ → Piece → Type 0
+abbrev pub Formed : List ℕ → Piece → Type 0
 Formed bytes (pieces.Blank count) = Unit {0}
 Formed bytes (pieces.Token kind count) = HasForm kind (take count bytes)
 
@@ -112,7 +112,7 @@ point_number bytes fraction digits is some few =
       few = omega (arith, length-prefix_len is_ascii_digit bytes);
     }
 
-number_form : (place : Place) (bytes : List ℕ) (whole fraction : ℕ) → whole ≡ digits_at bytes → 0 < whole
+pub number_form : (place : Place) (bytes : List ℕ) (whole fraction : ℕ) → whole ≡ digits_at bytes → 0 < whole
     → fraction ≡ digits_after_point (drop whole bytes) → IfOk (number_token place whole fraction) (Formed bytes)
 unfolding number_token
 number_form place bytes whole fraction counted some is = either (Formed bytes) (ltb 18 (whole + fraction)) _ _ (λ _. tt) (λ few. by_cases (eqb fraction 0) refl (grind (arith, nat_tests)))
@@ -129,6 +129,15 @@ number_form place bytes whole fraction counted some is = either (Formed bytes) (
 
 -- ---- what stands between two marks
 
+-- no such byte stands before the first
+pub lacks-before : (mark : ℕ) (bytes : List ℕ) → Lacks mark (take (position_or_len (λ byte. eqb byte mark) bytes) bytes)
+lacks-before mark bytes k d inside =
+    let most = prefix_len-le-length (λ byte. not (eqb byte mark)) bytes in
+    let size = length-take-le (position_or_len (λ byte. eqb byte mark) bytes) bytes (omega arith) in
+    let before : k < position_or_len (λ byte. eqb byte mark) bytes = omega arith in
+    let fails = fails_before_first (λ byte. eqb byte mark) bytes k d before in
+    rw (get_or-take (position_or_len (λ byte. eqb byte mark) bytes) bytes k d before) (eqb-false (get_or bytes k d) mark fails)
+
 between : (mark : ℕ) (bytes : List ℕ) → mark < 128 → IsUtf8 bytes → position_or_len (λ byte. eqb byte mark) bytes < length bytes
     → IsBetween mark (mark ∷ take (suc (position_or_len (λ byte. eqb byte mark) bytes)) bytes)
 between mark bytes ascii utf8 within =
@@ -139,16 +148,9 @@ between mark bytes ascii utf8 within =
     record {
       inside = take at bytes;
       marked = ap (λ (l : List ℕ). mark ∷ l) (take-suc bytes at 0 within ∙ ap (λ b. take at bytes ++ b ∷ []) last);
-      lacks = lacks_mark;
+      lacks = lacks-before mark bytes;
       utf8 = IsUtf8-take bytes at utf8 (IsCharBoundary-before_ascii bytes at within below);
     }
-  where
-    lacks_mark : Lacks mark (take (position_or_len (λ byte. eqb byte mark) bytes) bytes)
-    lacks_mark k d inside =
-        let size = length-take-le (position_or_len (λ byte. eqb byte mark) bytes) bytes (omega arith) in
-        let before : k < position_or_len (λ byte. eqb byte mark) bytes = omega arith in
-        let fails = fails_before_first (λ byte. eqb byte mark) bytes k d before in
-        rw (get_or-take (position_or_len (λ byte. eqb byte mark) bytes) bytes k d before) (eqb-false (get_or bytes k d) mark fails)
 
 closed_form : (kind : TokenKind) (fault : LexFault) (mark : ℕ) (bytes : List ℕ) → mark < 128 → 0 < length bytes → get_or bytes 0 0 ≡ mark
     → IsUtf8 bytes → ((text : List ℕ) → IsBetween mark text → HasForm kind text)
@@ -192,7 +194,7 @@ word_form place text utf8 some =
         ∙ take-append_seam (word_of (chars text)) front.0 in
         ap has_name_form word ∙ form
 
-piece_form : (place : Place) (text : List ℕ) → IsUtf8 text → 0 < length text → IfOk (piece_at place text) (Formed text)
+pub piece_form : (place : Place) (text : List ℕ) → IsUtf8 text → 0 < length text → IfOk (piece_at place text) (Formed text)
 unfolding piece_at
 piece_form place text utf8 some =
     either (Formed text) (is_space (get_or text 0 0)) _ _ (λ _. tt)

@@ -12,6 +12,7 @@ use Rattle.til_lexer.specs.declared.fault.LexFault.TheVariants as faults
 use Rattle.til_lexer.specs.declared.piece.Piece.{Piece}
 use Rattle.til_lexer.specs.declared.token.Token.{Token}
 use Rattle.til_lexer.specs.Faults.{fault_in}
+use Rattle.til_lexer.specs.Found.{placed}
 use Rattle.til_lexer.specs.Pieces.{piece_at}
 use Rattle.til_lexer.specs.Places.{place_after, place_past}
 use Rattle.til_lexer.specs.Tokens.{length_of, with_front, tokens_in, tokens_from}
@@ -55,12 +56,11 @@ more-at : (whole : Tokens) (tokens : List Token) (place : Place) (bytes : List �
 more-at whole tokens place bytes piece same some is size =
     sym (with_front-append tokens (tokens_in place piece) _) ∙ ap (with_front tokens) (sym (tokens_from-piece place bytes piece some is size)) ∙ same
 
-pub more : (whole : Tokens) (tokens new : List Token) (place next : Place) (bytes front rest : List ℕ) (piece : Piece) (count : ℕ)
+pub more : (whole : Tokens) (tokens new : List Token) (place next : Place) (bytes rest : List ℕ) (piece : Piece)
     → with_front tokens (tokens_from 0 place bytes) ≡ whole → 0 < length bytes → Ok piece ≡ piece_at place bytes → 0 < length_of piece
-    → new ≡ tokens ++ tokens_in place piece → count ≡ length_of piece → front ≡ take count bytes → rest ≡ drop count bytes → next ≡ place_past place front
+    → new ≡ tokens ++ tokens_in place piece → rest ≡ drop (length_of piece) bytes → next ≡ place_past place (take (length_of piece) bytes)
     → with_front new (tokens_from 0 next rest) ≡ whole
-more whole tokens new place next bytes front rest piece count same some is size added counted before after moved =
-    rw (added, moved, before, after, counted) (more-at whole tokens place bytes piece same some is size)
+more whole tokens new place next bytes rest piece same some is size added after moved = rw (added, moved, after) (more-at whole tokens place bytes piece same some is size)
 
 pub at_end : (whole : Tokens) (tokens : List Token) (place : Place) (bytes : List ℕ) → with_front tokens (tokens_from 0 place bytes) ≡ whole → true ≡ eqb (length bytes) 0 → whole ≡ Ok tokens
 unfolding with_front
@@ -86,3 +86,16 @@ pub fails : (whole : Tokens) (tokens : List Token) (place : Place) (bytes : List
 unfolding with_front
 fails whole tokens place bytes fault same some is =
     gives_fault fault whole (sym same ∙ ap (with_front tokens) (tokens_from-fault place bytes fault some is))
+
+-- what was found with the place after it
+pub piece-of : (place : Place) (bytes : List ℕ) (found : Result Piece LexFault) (piece : Piece) (after : Place) → Ok (piece, after) ≡ placed place bytes found
+    → (Ok piece ≡ found) × (after ≡ place_past place (take (length_of piece) bytes))
+piece-of place bytes (Ok other) piece after is =
+    let pair : ◌≡◌ {A = Piece × Place} (piece, after) (other, place_past place (take (length_of other) bytes)) = cc in
+    let same : piece ≡ other = ap (λ (x : Piece × Place). x.0) pair in
+    (ap Ok same, ap (λ (x : Piece × Place). x.1) pair ∙ ap (λ p. place_past place (take (length_of p) bytes)) (sym same))
+piece-of place bytes (Err fault) piece after is = absurd cc
+
+pub fault-of : (place : Place) (bytes : List ℕ) (found : Result Piece LexFault) (fault : LexFault) → Err fault ≡ placed place bytes found → Err fault ≡ found
+fault-of place bytes (Ok piece) fault is = absurd cc
+fault-of place bytes (Err other) fault is = let same : fault ≡ other = cc in ap Err same

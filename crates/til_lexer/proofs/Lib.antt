@@ -1,9 +1,11 @@
+pub mod PlaceLemmas
 pub mod CutLemmas
 pub mod WordLemmas
 pub mod LexLemmas
 pub mod PieceCuts
 pub mod SliceLemmas
 pub mod FormLemmas
+pub mod LineLemmas
 pub mod FormBegins
 pub mod SpelledPieces
 pub mod SpelledTokens

@@ -20,7 +20,7 @@ use Rattle.til_lexer.specs.Words.{starts_word, word_of}
 use Rattle.tydi_base.specs.Name.{has_name_form}
 use Rattle.til_lexer.proofs.CutLemmas.{EndsInAscii, CanCut, ends_past, ends_cut, space_cut, line_cut, digits_end, number_ends}
 
-abbrev Found : Type 0
+abbrev pub Found : Type 0
 Found = Result Piece LexFault
 
 -- both ways of a test
@@ -34,8 +34,9 @@ if_ok P Q (Err fault) further holds = tt
 
 -- ---- symbols
 
-abbrev Byte : ℕ → Type 0
-Byte byte = (0 < byte) × (byte < 128)
+-- an ASCII byte after the control characters that texts have
+abbrev pub Byte : ℕ → Type 0
+Byte byte = (10 < byte) × (byte < 128)
 
 choice : (byte symbol : ℕ) (kind : TokenKind) (rest : Option TokenKind) → Byte symbol → IfSome rest (λ _. Byte byte) → IfSome (cond (eqb byte symbol) (Some kind) rest) (λ _. Byte byte)
 choice byte symbol kind rest ascii holds = by_cases (eqb byte symbol) refl
@@ -44,20 +45,20 @@ choice byte symbol kind rest ascii holds = by_cases (eqb byte symbol) refl
     by_cases true is = let same : byte ≡ symbol = grind (arith, nat_tests) in rw same ascii
     by_cases false is = holds
 
-single_symbol-ascii : (byte : ℕ) → IfSome (single_symbol byte) (λ _. Byte byte)
+pub single_symbol-ascii : (byte : ℕ) → IfSome (single_symbol byte) (λ _. Byte byte)
 unfolding single_symbol
 single_symbol-ascii byte =
     choice byte 123 _ _ (omega arith, omega arith) (choice byte 125 _ _ (omega arith, omega arith) (choice byte 40 _ _ (omega arith, omega arith) (choice byte 41 _ _ (omega arith, omega arith)
     (choice byte 58 _ _ (omega arith, omega arith) (choice byte 59 _ _ (omega arith, omega arith) (choice byte 44 _ _ (omega arith, omega arith) (choice byte 61 _ _ (omega arith, omega arith)
     (choice byte 46 _ None (omega arith, omega arith) tt))))))))
 
-double_symbol-ascii : (first second : ℕ) → IfSome (double_symbol first second) (λ _. Byte second)
+pub double_symbol-ascii : (first second : ℕ) → IfSome (double_symbol first second) (λ _. Byte first × Byte second)
 unfolding double_symbol
 double_symbol-ascii first second = by_cases (eqb first 58 && eqb second 58) (eqb first 45 && eqb second 45) refl refl
   where
-    by_cases : (colons dashes : Bool) → (eqb first 58 && eqb second 58) ≡ colons → (eqb first 45 && eqb second 45) ≡ dashes → IfSome (cond colons (Some kinds.DoubleColon) (cond dashes (Some kinds.DoubleDash) None)) (λ (_ : TokenKind). Byte second)
-    by_cases true dashes are is = (grind (arith, nat_tests), grind (arith, nat_tests))
-    by_cases false true are is = (grind (arith, nat_tests), grind (arith, nat_tests))
+    by_cases : (colons dashes : Bool) → (eqb first 58 && eqb second 58) ≡ colons → (eqb first 45 && eqb second 45) ≡ dashes → IfSome (cond colons (Some kinds.DoubleColon) (cond dashes (Some kinds.DoubleDash) None)) (λ (_ : TokenKind). Byte first × Byte second)
+    by_cases true dashes are is = ((grind (arith, nat_tests), grind (arith, nat_tests)), (grind (arith, nat_tests), grind (arith, nat_tests)))
+    by_cases false true are is = ((grind (arith, nat_tests), grind (arith, nat_tests)), (grind (arith, nat_tests), grind (arith, nat_tests)))
     by_cases false false are is = tt
 
 within_of : (bytes : List ℕ) (at : ℕ) → 0 < get_or bytes at 0 → at < length bytes
@@ -67,18 +68,18 @@ within_of (byte ∷ bytes) (suc at) some = let within = within_of bytes at some 
 
 byte_within : (bytes : List ℕ) (at : ℕ) → Byte (get_or bytes at 0) → EndsInAscii bytes (at + 1)
 byte_within bytes at ascii =
-    let within : at < length bytes = within_of bytes at ascii.0 in
+    let within : at < length bytes = within_of bytes at (let more = ascii.0 in omega arith) in
     record { some = omega arith; within = omega arith; last = let place : at + 1 - 1 ≡ at = omega arith in rw place ascii.1 }
 
-symbol_ends : (place : Place) (bytes : List ℕ) (double single : Option TokenKind) → IfSome double (λ _. Byte (get_or bytes 1 0)) → IfSome single (λ _. Byte (get_or bytes 0 0)) → IfOk (symbol_token place double single) (λ piece. EndsInAscii bytes (length_of piece))
+symbol_ends : (place : Place) (bytes : List ℕ) (double single : Option TokenKind) → IfSome double (λ _. Byte (get_or bytes 0 0) × Byte (get_or bytes 1 0)) → IfSome single (λ _. Byte (get_or bytes 0 0)) → IfOk (symbol_token place double single) (λ piece. EndsInAscii bytes (length_of piece))
 unfolding symbol_token
-symbol_ends place bytes (Some kind) single two one = byte_within bytes 1 two
+symbol_ends place bytes (Some kind) single two one = byte_within bytes 1 two.1
 symbol_ends place bytes None (Some kind) two one = byte_within bytes 0 one
 symbol_ends place bytes None None two one = tt
 
 -- ---- numbers, and what stands between two marks
 
-number_token-ends : (place : Place) (bytes : List ℕ) (whole fraction : ℕ) → EndsInAscii bytes whole → (0 < fraction → EndsInAscii bytes (whole + 1 + fraction)) → IfOk (number_token place whole fraction) (λ piece. EndsInAscii bytes (length_of piece))
+pub number_token-ends : (place : Place) (bytes : List ℕ) (whole fraction : ℕ) → EndsInAscii bytes whole → (0 < fraction → EndsInAscii bytes (whole + 1 + fraction)) → IfOk (number_token place whole fraction) (λ piece. EndsInAscii bytes (length_of piece))
 unfolding number_token
 number_token-ends place bytes whole fraction before after = either _ (ltb 18 (whole + fraction)) _ _ (λ _. tt) (λ _. by_cases (eqb fraction 0) refl)
   where
@@ -86,7 +87,7 @@ number_token-ends place bytes whole fraction before after = either _ (ltb 18 (wh
     by_cases true is = before
     by_cases false is = after (grind (arith, nat_tests))
 
-closed_ends : (kind : TokenKind) (fault : LexFault) (mark : ℕ) (bytes : List ℕ) → mark < 128 → get_or bytes 0 0 ≡ mark → 0 < mark → IfOk (closed_token kind fault (until_mark mark (drop 1 bytes))) (λ piece. EndsInAscii bytes (length_of piece))
+closed_ends : (kind : TokenKind) (fault : LexFault) (mark : ℕ) (bytes : List ℕ) → mark < 128 → get_or bytes 0 0 ≡ mark → 10 < mark → IfOk (closed_token kind fault (until_mark mark (drop 1 bytes))) (λ piece. EndsInAscii bytes (length_of piece))
 unfolding closed_token
 closed_ends kind fault mark [] ascii first some = absurd (omega arith)
 closed_ends kind fault mark (byte ∷ bytes) ascii first some = by_cases (ltb (position_or_len (λ b. eqb b mark) bytes) (length bytes)) refl

@@ -1,5 +1,5 @@
 -- Each token of a text is the piece that stands at its place.
-use Rattle.std.proofs.Common.{◌≡◌, ℕ, zero, suc, ◌+◌, ◌-◌, ◌≤◌, Bool, true, false, cond, eqb, List, [], ◌∷◌, ◌++◌, length, take, drop, Result, Ok, Err, All, append_assoc, length-append, refl, sym, ap, ◌∙◌, subst, arith}
+use Rattle.std.proofs.Common.{◌≡◌, ℕ, zero, suc, ◌+◌, ◌-◌, ◌≤◌, List, [], ◌∷◌, ◌++◌, length, take, drop, Result, Ok, Err, All, append_assoc, length-append, refl, sym, ap, ◌∙◌, subst, arith}
 use Rattle.std.proofs.Math.Seq.{drop-append_seam, take-append_seam}
 use Rattle.std.proofs.lemmas.List.{length-take-le}
 use Rattle.std.proofs.lemmas.List.Elements.{All-append, All-nil, All-cons}
@@ -17,24 +17,8 @@ use Rattle.til_lexer.specs.Places.{IsPlaceIn, start, place_after, place_past}
 use Rattle.til_lexer.specs.Slices.{IsTokenOf, TokensAreOfTheText}
 use Rattle.til_lexer.specs.Tokens.{length_of, with_front, tokens_in, tokens_from}
 use Rattle.til_lexer.proofs.PieceCuts.{found_cut}
+use Rattle.til_lexer.proofs.PlaceLemmas.{offset_past, place_past-append}
 use Rattle.til_lexer.proofs.CutLemmas.{CanCut}
-
--- ---- places
-
-offset_after : (place : Place) (byte : ℕ) → (place_after place byte).offset ≡ place.offset + 1
-offset_after place byte = by_cases (eqb byte 10)
-  where
-    by_cases : (line_end : Bool) → (cond {A = Place} line_end (record { offset = place.offset + 1; line = place.line + 1; column = 1 }) (record { offset = place.offset + 1; line = place.line; column = place.column + 1 })).offset ≡ place.offset + 1
-    by_cases true = refl
-    by_cases false = refl
-
-pub offset_past : (place : Place) (bytes : List ℕ) → (place_past place bytes).offset ≡ place.offset + length bytes
-offset_past place [] = omega arith
-offset_past place (byte ∷ bytes) = let next = offset_past (place_after place byte) bytes in let first = offset_after place byte in omega arith
-
-place_past-append : (place : Place) (front : List ℕ) (byte : ℕ) → place_past place (front ++ byte ∷ []) ≡ place_after (place_past place front) byte
-place_past-append place [] byte = refl
-place_past-append place (first ∷ front) byte = place_past-append (place_after place first) front byte
 
 -- ---- a text that is passed up to a place
 

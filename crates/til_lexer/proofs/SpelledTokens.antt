@@ -19,7 +19,7 @@ use Rattle.til_lexer.specs.Tokens.{tokens_from, tokens_in, with_front}
 use Rattle.til_lexer.proofs.CutLemmas.{is_space-ascii}
 use Rattle.til_lexer.proofs.FormBegins.{ascii_utf8, first_of_all, form_begins, form_utf8}
 use Rattle.til_lexer.proofs.LexLemmas.{tokens_from-piece, with_front-nil}
-use Rattle.til_lexer.proofs.SliceLemmas.{offset_past}
+use Rattle.til_lexer.proofs.PlaceLemmas.{offset_past}
 use Rattle.til_lexer.proofs.SpelledPieces.{IsAfter, first_of_front, piece_is, prefix_up_to}
 use Rattle.til_lexer.proofs.WordLemmas.{all_ascii}
 

@@ -4,5 +4,6 @@ pub mod Words
 pub mod Pieces
 pub mod Faults
 pub mod Tokens
+pub mod Found
 pub mod Slices
 pub mod Spelling

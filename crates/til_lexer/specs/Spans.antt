@@ -1,9 +1,12 @@
 -- White space, comments, digits and what stands between two marks. This project's own.
-use Rattle.std.specs.Prelude.{◌≡◌, ℕ, ◌==◌, ◌&&◌, ◌||◌, nat_lt, Bool, List, [], ◌∷◌, length, slice_index, Option, Some, None, if◌then◌else◌}
+use Rattle.std.specs.Prelude.{◌≡◌, ℕ, ◌==◌, take, ◌&&◌, ◌||◌, nat_lt, Bool, List, [], ◌∷◌, length, slice_index, Option, Some, None, if◌then◌else◌}
 use Rattle.std.specs.Char.{is_ascii_digit}
 use Rattle.std.specs.List.{prefix_len, position_or_len}
 use Rattle.std.specs.Fn.{Shared}
 use denote.Ref.{Bor}
+use Rattle.tydi_base.specs.declared.place.Place.{Place}
+use Rattle.til_lexer.specs.declared.spans.Span.{Span}
+use Rattle.til_lexer.specs.Places.{place_past}
 
 -- each call of a closure gives what a test of bytes does
 abbrev pub Decides : {F : Type 0} → Shared F (Bor ℕ × Unit {0}) Bool → F → (ℕ → Bool) → Type 0
@@ -39,3 +42,11 @@ abbrev pub until_mark : ℕ → List ℕ → Option ℕ
 until_mark mark bytes =
     if nat_lt (position_or_len (λ byte. byte == mark) bytes) (length bytes)
     then Some (position_or_len (λ byte. byte == mark) bytes) else None
+
+-- so many bytes at the front of a text at this place, and the place after them
+abbrev pub IsSpan : Place → List ℕ → ℕ → Span → Type 0
+IsSpan place bytes count span = (span.count ≡ count) × (span.after ≡ place_past place (take count bytes))
+
+-- what stands before the first such mark in a text at this place
+abbrev pub IsMarked : ℕ → Place → List ℕ → Span → Type 0
+IsMarked mark place bytes span = (until_mark mark bytes ≡ Some span.count) × (span.after ≡ place_past place (take span.count bytes))

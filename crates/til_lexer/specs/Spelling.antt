@@ -8,6 +8,8 @@ use Rattle.tydi_base.specs.declared.place.Place.{Place}
 use Rattle.tydi_base.specs.Name.{is_name_byte, has_name_form}
 use Rattle.tydi_base.specs.Pieces.{Lacks}
 use Rattle.til_lexer.specs.declared.token.Token.{Token}
+use Rattle.til_lexer.specs.declared.marks.TheConstants.{HASH, QUOTE}
+use Rattle.til_lexer.specs.declared.numbers.TheConstants.{MOST_DIGITS}
 use Rattle.til_lexer.specs.declared.token.TokenKind.{TokenKind}
 use Rattle.til_lexer.specs.declared.token.TokenKind.TheVariants as kinds
 use Rattle.til_lexer.specs.Places.{start, place_past}
@@ -25,19 +27,19 @@ pub record AreDigits (digits : List ℕ) : Type 0 where
   pub some : 0 < length digits
   pub each : IsTrue (list_all is_ascii_digit digits)
 
--- a number without a point: digits, at most 18
+-- a number without a point: digits, not too many
 pub record IsWholeNumber (text : List ℕ) : Type 0 where
   pub digits : AreDigits text
-  pub few : length text ≤ 18
+  pub few : length text ≤ MOST_DIGITS
 
--- a number with a point: digits before it and digits behind it, at most 18 in all
+-- a number with a point: digits before it and digits behind it, not too many in all
 pub record IsPointNumber (text : List ℕ) : Type 0 where
   pub before : List ℕ
   pub behind : List ℕ
   pub parts : text ≡ before ++ 46 ∷ behind
   pub digits_before : AreDigits before
   pub digits_behind : AreDigits behind
-  pub few : length before + length behind ≤ 18
+  pub few : length before + length behind ≤ MOST_DIGITS
 
 -- a text in UTF-8 between two such marks, without such a mark in it
 pub record IsBetween (mark : ℕ) (text : List ℕ) : Type 0 where
@@ -50,8 +52,8 @@ pub record IsBetween (mark : ℕ) (text : List ℕ) : Type 0 where
 abbrev pub HasForm : TokenKind → List ℕ → Type 0
 HasForm kinds.Word text = IsTrue (has_name_form text)
 HasForm kinds.Number text = IsWholeNumber text ⊎ IsPointNumber text
-HasForm kinds.Quoted text = IsBetween 34 text
-HasForm kinds.Doc text = IsBetween 35 text
+HasForm kinds.Quoted text = IsBetween QUOTE text
+HasForm kinds.Doc text = IsBetween HASH text
 HasForm kinds.OpenBrace text = text ≡ codes "{"
 HasForm kinds.CloseBrace text = text ≡ codes "}"
 HasForm kinds.OpenParen text = text ≡ codes "("

@@ -8,7 +8,7 @@ ghost use Rattle.til_lexer.specs.Tokens.{length_of, tokens_in, tokens_of};
 use crate::fault::LexFault;
 use crate::piece::Piece;
 use crate::pieces::piece_at;
-use crate::places::{place_past, start};
+use crate::places::start;
 use crate::token::Token;
 use std::alloc::Global;
 use tydi_base::{List, Memory, Place};
@@ -23,11 +23,10 @@ pub fn lex(alloc: Global, text: &str) -> Result<List<Token>, LexFault>
     let mut place = start();
     let mut rest = text;
     'pieces: while !rest.is_empty() {
-        let piece = piece_at(place, rest)?;
+        let (piece, after) = piece_at(place, rest)?;
         push_token(&mut tokens, place, piece)?;
-        let (front, after) = rest.split_at(piece.len());
-        place = place_past(place, front.as_bytes());
-        rest = after;
+        rest = &rest[piece.len()..];
+        place = after;
     }
     Ok(tokens)
 }

@@ -10,7 +10,7 @@ use crate::token::TokenKind;
 use tydi_base::Place;
 
 /// The most digits of a number.
-const MOST_DIGITS: usize = 18;
+pub(crate) const MOST_DIGITS: usize = 18;
 
 /// The number that begins a text: digits, and then a point and digits where both stand there.
 #[tactic(auto, unfolding(crate::specs::Pieces::number_token))]

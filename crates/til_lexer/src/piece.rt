@@ -1,7 +1,13 @@
-ghost use Rattle.std.specs.Prelude.{◌≡◌};
+//! Pieces: what a text falls into.
+
+ghost use Rattle.std.specs.Prelude.{◌≡◌, ◌+◌, ◌-◌, ◌^◌, ◌<◌, ◌≤◌, IfOk};
+ghost use Rattle.til_lexer.specs.Found.{along_line};
 ghost use Rattle.til_lexer.specs.Tokens.{length_of};
 
+use crate::fault::LexFault;
+use crate::places::along;
 use crate::token::TokenKind;
+use tydi_base::Place;
 
 /// What stands at the front of a text, and how many bytes it has.
 #[derive(Clone, Copy, Debug, PartialEq, Eq)]
@@ -22,4 +28,17 @@ impl Piece {
             Piece::Token(_, count) => *count,
         }
     }
+}
+
+/// A piece in one line at this place, and the place after it.
+pub(crate) fn on_line(
+    place: Place,
+    found: Result<Piece, LexFault>,
+) -> Result<(Piece, Place), LexFault>
+    requires fits { IfOk found (λ piece. place.offset + length_of piece < 2 ^ 32 - 1) }
+    requires column { place.column ≤ place.offset + 1 }
+    ensures { result ≡ along_line place found }
+{
+    let piece = found?;
+    Ok((piece, along(place, piece.len())))
 }

@@ -1,9 +1,9 @@
 //! Places, moved over bytes.
 
-ghost use Rattle.std.specs.Prelude.{◌≡◌, ◌+◌, ◌-◌, ◌^◌, ◌<◌, ◌≤◌, length};
-ghost use Rattle.til_lexer.specs.Places.{place_after, place_past, start};
+ghost use Rattle.std.specs.Prelude.{◌≡◌, ◌+◌, ◌-◌, ◌^◌, ◌<◌, ◌≤◌};
+ghost use Rattle.til_lexer.specs.Places.{along, place_after, start};
 
-use tydi_base::Place;
+use tydi_base::{LINE_FEED, Place};
 
 /// The place of a text's first byte.
 pub(crate) fn start() -> Place
@@ -16,40 +16,33 @@ pub(crate) fn start() -> Place
     }
 }
 
-/// The place after bytes of which the first stands at this place.
-pub(crate) fn place_past(place: Place, bytes: &[u8]) -> Place
-    requires fits { place.offset + length bytes.now < 2 ^ 32 - 1 }
-    requires line { place.line ≤ place.offset + 1 }
-    requires column { place.column ≤ place.offset + 1 }
-    ensures value { result ≡ place_past place bytes.now }
-    ensures offset { result.offset ≡ place.offset + length bytes.now }
-    ensures line { result.line ≤ result.offset + 1 }
-    ensures column { result.column ≤ result.offset + 1 }
-{
-    let mut after = place;
-    'bytes: for byte in bytes {
-        after = place_after(after, *byte);
-    }
-    after
-}
-
-fn place_after(place: Place, byte: u8) -> Place
+/// The place after a byte at this place.
+pub(crate) fn place_after(place: Place, byte: u8) -> Place
     requires fits { place.offset < 2 ^ 32 - 2 }
     requires line { place.line ≤ place.offset + 1 }
     requires column { place.column ≤ place.offset + 1 }
     ensures { result ≡ place_after place byte }
 {
-    if byte == b'\n' {
+    if byte == LINE_FEED {
         Place {
             offset: place.offset + 1,
             line: place.line + 1,
             column: 1,
         }
     } else {
-        Place {
-            offset: place.offset + 1,
-            line: place.line,
-            column: place.column + 1,
-        }
+        along(place, 1)
+    }
+}
+
+/// The place so many bytes further on in the line.
+pub(crate) fn along(place: Place, count: usize) -> Place
+    requires fits { place.offset + count < 2 ^ 32 - 1 }
+    requires column { place.column ≤ place.offset + 1 }
+    ensures { result ≡ along place count }
+{
+    Place {
+        offset: place.offset + count as u32,
+        line: place.line,
+        column: place.column + count as u32,
     }
 }

@@ -1,11 +1,14 @@
 //! How far white space, a comment, digits and what stands before a mark reach.
 
-ghost use Rattle.std.specs.Prelude.{◌≡◌, ◌==◌, ◌<◌, ◌≤◌, ℕ, Bool, not, length, slice_index, IfSome};
+ghost use Rattle.std.specs.Prelude.{◌≡◌, ◌==◌, ◌+◌, ◌-◌, ◌^◌, ◌<◌, ◌≤◌, ℕ, Bool, not, length, slice_index, None, MatchOption};
 ghost use Rattle.std.specs.Char.{is_ascii_digit};
 ghost use Rattle.std.specs.List.{prefix_len};
 ghost use Rattle.tydi_base.specs.Name.{is_name_byte};
 ghost use Rattle.til_lexer.specs.Spans as spec;
-ghost use Rattle.til_lexer.specs.Spans.{Decides};
+ghost use Rattle.til_lexer.specs.Spans.{Decides, IsMarked, IsSpan};
+
+use crate::places::place_after;
+use tydi_base::Place;
 
 /// Whether a byte is white space.
 pub(crate) fn is_space(byte: u8) -> bool
@@ -19,6 +22,13 @@ pub(crate) fn begins_comment(bytes: &[u8]) -> bool
     ensures { result ≡ spec.begins_comment bytes.now }
 {
     matches!(bytes, [b'/', b'/', ..])
+}
+
+/// Bytes at the front of a text: how many, and the place after them.
+#[derive(Clone, Copy)]
+pub(crate) struct Span {
+    pub(crate) count: usize,
+    pub(crate) after: Place,
 }
 
 /// How many bytes that pass a test begin a text.
@@ -37,12 +47,40 @@ fn count_while<F: Fn(&u8) -> bool>(bytes: &[u8], passes: F) -> usize
     count
 }
 
-/// How many bytes of white space begin a text.
-pub(crate) fn space_length(bytes: &[u8]) -> usize
-    ensures value { result ≡ spec.space_length bytes.now }
-    ensures within { result ≤ length bytes.now }
+/// The bytes that pass a test and begin a text at this place, of which some may be LFs.
+fn span_while<F: Fn(&u8) -> bool>(place: Place, bytes: &[u8], passes: F) -> Span
+    requires calls { F.IsAlwaysCallable passes }
+    requires fits { place.offset + length bytes.now < 2 ^ 32 - 1 }
+    requires line { place.line ≤ place.offset + 1 }
+    requires column { place.column ≤ place.offset + 1 }
+    ensures value { (test : ℕ → Bool) → Decides F.Fn passes test → IsSpan place bytes.now (prefix_len test bytes.now) result }
+    ensures within { result.count ≤ length bytes.now }
 {
-    count_while(
+    let mut span = Span {
+        count: 0,
+        after: place,
+    };
+    'bytes: for byte in bytes {
+        if !passes(byte) {
+            return span;
+        }
+        span = Span {
+            count: span.count + 1,
+            after: place_after(span.after, *byte),
+        };
+    }
+    span
+}
+
+/// The white space that begins a text at this place.
+pub(crate) fn space_span(place: Place, bytes: &[u8]) -> Span
+    requires fits { place.offset + length bytes.now < 2 ^ 32 - 1 }
+    requires line { place.line ≤ place.offset + 1 }
+    requires column { place.column ≤ place.offset + 1 }
+    ensures { IsSpan place bytes.now (spec.space_length bytes.now) result }
+{
+    span_while(
+        place,
         bytes,
         |byte: &u8| -> bool
             ensures { result ≡ spec.is_space byte.now }
@@ -100,19 +138,22 @@ pub(crate) fn name_bytes_at(bytes: &[u8]) -> usize
     )
 }
 
-/// How many bytes stand before the first such mark. None where there is none.
-pub(crate) fn until_mark(mark: u8, bytes: &[u8]) -> Option<usize>
-    ensures value { result ≡ spec.until_mark mark bytes.now }
-    ensures within { IfSome result (λ inside. inside < length bytes.now) }
+/// What stands before the first such mark in a text at this place. None where there is none.
+pub(crate) fn until_mark(mark: u8, place: Place, bytes: &[u8]) -> Option<Span>
+    requires fits { place.offset + length bytes.now < 2 ^ 32 - 1 }
+    requires line { place.line ≤ place.offset + 1 }
+    requires column { place.column ≤ place.offset + 1 }
+    ensures { MatchOption result (spec.until_mark mark bytes.now ≡ None) (λ span. IsMarked mark place bytes.now span) }
 {
-    let inside = count_while(
+    let span = span_while(
+        place,
         bytes,
         |byte: &u8| -> bool
             ensures { result ≡ not (byte.now == mark) }
         { *byte != mark },
     );
-    if inside < bytes.len() {
-        Some(inside)
+    if span.count < bytes.len() {
+        Some(span)
     } else {
         None
     }
