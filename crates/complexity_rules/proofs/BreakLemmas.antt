@@ -118,16 +118,16 @@ BreaksEmpty-misses p done t = (
 
 -- ---- the tests
 
-pub Empty-test : (p : Parameters) (done : List Item) (t : Transfer) (tail : Option Tail) (walk : Walk) (test : Bool) → tail ≡ tail_of done → Finds p.dims tail (items_of p t) walk →
+pub empty_test : (p : Parameters) (done : List Item) (t : Transfer) (tail : Option Tail) (walk : Walk) (test : Bool) → tail ≡ tail_of done → Finds p.dims tail (items_of p t) walk →
     test ≡ (not walk.active && misses_empty tail walk.first_close) → IsTrue test ↔ BreaksEmpty p done t
-Empty-test p done t tail walk test last_is found is =
+empty_test p done t tail walk test last_is found is =
     let same : test ≡ (not (has_element (items_of p t)) && misses_empty (tail_of done) (first_close (items_of p t))) =
     is ∙ ap (λ (b : Bool). not b && misses_empty tail walk.first_close) found.active
     ∙ ap (λ (first : Option ℕ). not (has_element (items_of p t)) && misses_empty tail first) found.first
     ∙ ap (λ (o : Option Tail). not (has_element (items_of p t)) && misses_empty o (first_close (items_of p t))) last_is in
     subst (λ (b : Bool). IsTrue b ↔ BreaksEmpty p done t) (sym same) (BreaksEmpty-misses p done t)
 
-pub Nest-test : (p : Parameters) (done : List Item) (t : Transfer) (tail : Option Tail) (walk : Walk) → tail ≡ tail_of done → Finds p.dims tail (items_of p t) walk →
+pub nest_test : (p : Parameters) (done : List Item) (t : Transfer) (tail : Option Tail) (walk : Walk) → tail ≡ tail_of done → Finds p.dims tail (items_of p t) walk →
     IsTrue walk.misplaced ↔ BreaksNest p done t
-Nest-test p done t tail walk last_is found =
+nest_test p done t tail walk last_is found =
     subst (λ (b : Bool). IsTrue b ↔ BreaksNest p done t) (sym (found.misplaced ∙ ap (λ (o : Option Tail). has_misplaced o (items_of p t)) last_is)) (BreaksNest-misplaced p done t)

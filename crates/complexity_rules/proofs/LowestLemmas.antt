@@ -1,10 +1,10 @@
 -- The lowest rule of a cycle, from a test for each rule.
-use Rattle.std.proofs.Common.{◌≡◌, ◌∙◌, ◌↔◌, ℕ, ◌+◌, ◌^◌, ◌<◌, ◌≤◌, inl, inr, ◌⊎◌, Bool, true, false, nat_le, if◌then◌else◌, IsTrue, List, Option, None, Some, refl, sym, ap, subst, arith}
+use Rattle.std.proofs.Common.{◌≡◌, ◌∙◌, ◌↔◌, ℕ, ◌+◌, ◌^◌, ◌<◌, ◌≤◌, inl, inr, ◌⊎◌, Bool, true, false, not, ◌&&◌, nat_le, if◌then◌else◌, IsTrue, List, Option, None, Some, refl, sym, ap, subst, arith}
 use Rattle.std.proofs.lemmas.Bool.{cases_lt, and_parts, and_from, le-leb, leb-true}
 use Rattle.tydi_base.specs.Level.{number_of}
 use Rattle.physical_stream.specs.Params.{Parameters}
 use Rattle.physical_stream.specs.Cycles.{Cycle, items_done, waiting_of}
-use Rattle.physical_stream.specs.Breaks.{BreaksAfter, Forbids, BreaksHold, BreaksIndex, BreaksLaneLast, BreaksStrobe, BreaksStart, BreaksEnd, BreaksEmpty, BreaksInnerPause, BreaksOuterPause, BreaksNest}
+use Rattle.physical_stream.specs.Breaks.{BreaksAfter, Forbids, BreaksHold, BreaksIndex, BreaksLaneLast, BreaksStrobe, BreaksStart, BreaksEnd}
 use Rattle.physical_stream.specs.Rules.{Binds, number_of_rule, binds_up_to}
 use Rattle.physical_stream.specs.Shape.{tail_of}
 use Rattle.physical_stream.specs.Signals.{Fits}
@@ -16,15 +16,20 @@ use Rattle.physical_stream.specs.declared.rule.Rule.{Rule}
 use Rattle.physical_stream.specs.declared.rule.Rule.TheVariants.{Hold, Index, LaneLast, Strobe, Start, End, Empty, InnerPause, OuterPause, Nest, Tag}
 use Rattle.physical_stream.proofs.FirstLemmas.{same_rule}
 use Rattle.complexity_rules.specs.Checking.{IsLowestBroken}
-use Rattle.complexity_rules.specs.Lowest.{is_broken, or_higher, IsLowestFrom}
+use Rattle.complexity_rules.specs.Walk.{Finds, misses_empty}
+use Rattle.complexity_rules.specs.declared.walk.Walk.{Walk}
+use Rattle.physical_stream.specs.Items.{items_of}
+use Rattle.complexity_rules.proofs.BreakLemmas.{empty_test, nest_test}
+use Rattle.complexity_rules.specs.Lowest.{is_broken, IsLowestFrom}
 use Rattle.complexity_rules.specs.Waiting.{IsLowestShown}
 
 module _ (p : Parameters) (before : List Cycle) (now : Cycle) where
   abbrev From : ℕ → Option Rule → Type 0
   From n lowest = IsLowestFrom p before now n lowest
 
-  broken_forbids : (rule : Rule) (forbidden : Bool) → (IsTrue forbidden ↔ Forbids rule p before now) → IsTrue (is_broken p.level rule forbidden) ↔ BreaksAfter rule p before now
-  broken_forbids rule forbidden tells = (
+  -- a test of a rule that looks at the level first
+  pub broken_test : (rule : Rule) (forbidden broken : Bool) → broken ≡ is_broken p.level rule forbidden → (IsTrue forbidden ↔ Forbids rule p before now) → IsTrue broken ↔ BreaksAfter rule p before now
+  broken_test rule forbidden broken is tells = subst (λ (b : Bool). IsTrue b ↔ BreaksAfter rule p before now) (sym is) (
     λ holds.
         let parts = and_parts (nat_le (number_of p.level) (binds_up_to rule)) forbidden holds in (leb-true (number_of p.level) (binds_up_to rule) parts.0, tells.0 parts.1),
     λ b. and_from (nat_le (number_of p.level) (binds_up_to rule)) forbidden (le-leb (number_of p.level) (binds_up_to rule) b.0) (tells.1 b.1),
@@ -52,15 +57,10 @@ module _ (p : Parameters) (before : List Cycle) (now : Cycle) where
       by_number other (inr more) b = higher.1 other more b
 
   -- a rule with its test
-  pub lowest_step : (n level : ℕ) (rule : Rule) (forbidden : Bool) (higher result : Option Rule) → level ≡ p.level → number_of_rule rule ≡ n →
-      result ≡ or_higher level rule forbidden higher → (IsTrue forbidden ↔ Forbids rule p before now) → From (n + 1) higher → From n result
-  lowest_step n level rule forbidden higher result at is gives tells from =
-      subst (From n) (sym (gives ∙ ap (λ (l : ℕ). or_higher l rule forbidden higher) at)) (by_test (is_broken p.level rule forbidden) refl)
-    where
-      by_test : (test : Bool) → is_broken p.level rule forbidden ≡ test → From n (if test then Some rule else higher)
-      by_test true holds = ((broken_forbids rule forbidden tells).0 holds, λ other above b. subst (λ (k : ℕ). k ≤ number_of_rule other) (sym is) above)
-      by_test false not_holds =
-          lowest_skip n rule higher is (λ b. let clash : false ≡ true = sym not_holds ∙ (broken_forbids rule forbidden tells).1 b in cc) from
+  pub lowest_step : (n : ℕ) (rule : Rule) (broken : Bool) (higher : Option Rule) → number_of_rule rule ≡ n → (IsTrue broken ↔ BreaksAfter rule p before now) →
+      (broken ≡ false → From (n + 1) higher) → From n (if broken then Some rule else higher)
+  lowest_step n rule true higher is tells from = (tells.0 refl, λ other above b. subst (λ (k : ℕ). k ≤ number_of_rule other) (sym is) above)
+  lowest_step n rule false higher is tells from = lowest_skip n rule higher is (λ b. let clash : false ≡ true = tells.1 b in cc) (from refl)
 
   -- no rule has a greater number than Tag, which needs types
   pub lowest_top : From 11 None
@@ -104,25 +104,39 @@ pausing ready = record { ready = ready; shown = None }
 not_held : (before : List Cycle) (now : Cycle) → waiting_of before ≡ None → BreaksHold before now → ⊥
 not_held before now free b = let clash : None ≡ Some b.offered = sym free ∙ b.waits in cc
 
-pub lowest_shown : (p : Parameters) (before : List Cycle) (ready : Bool) (t : Transfer) (level : ℕ) (index lane_last strobe start end empty nest : Bool)
-    (from_index from_lane_last from_strobe from_start from_end from_empty from_nest : Option Rule) → level ≡ p.level →
-    from_nest ≡ or_higher level Nest nest None → from_empty ≡ or_higher level Empty empty from_nest → from_end ≡ or_higher level End end from_empty →
-    from_start ≡ or_higher level Start start from_end → from_strobe ≡ or_higher level Strobe strobe from_start → from_lane_last ≡ or_higher level LaneLast lane_last from_strobe →
-    from_index ≡ or_higher level Index index from_lane_last →
-    (IsTrue index ↔ BreaksIndex p t) → (IsTrue lane_last ↔ BreaksLaneLast p t) → (IsTrue strobe ↔ BreaksStrobe p t) → (IsTrue start ↔ BreaksStart t) → (IsTrue end ↔ BreaksEnd p t) →
-    (IsTrue empty ↔ BreaksEmpty p (items_done p before) t) → (IsTrue nest ↔ BreaksNest p (items_done p before) t) →
-    IsLowestFrom p before (showing ready t) 2 from_index
-lowest_shown p before ready t level index lane_last strobe start end empty nest from_index from_lane_last from_strobe from_start from_end from_empty from_nest at
-    g_nest g_empty g_end g_start g_strobe g_lane_last g_index is_index is_lane_last is_strobe is_start is_end is_empty is_nest =
-    let now = showing ready t in
-    let top = lowest_step p before now 10 level Nest nest None from_nest at refl g_nest is_nest (lowest_top p before now) in
-    let above_pauses = lowest_skip p before now 8 InnerPause from_nest refl (λ b. b.1) (lowest_skip p before now 9 OuterPause from_nest refl (λ b. b.1) top) in
-    let at_empty = lowest_step p before now 7 level Empty empty from_nest from_empty at refl g_empty is_empty above_pauses in
-    let at_end = lowest_step p before now 6 level End end from_empty from_end at refl g_end is_end at_empty in
-    let at_start = lowest_step p before now 5 level Start start from_end from_start at refl g_start is_start at_end in
-    let at_strobe = lowest_step p before now 4 level Strobe strobe from_start from_strobe at refl g_strobe is_strobe at_start in
-    let at_lane_last = lowest_step p before now 3 level LaneLast lane_last from_strobe from_lane_last at refl g_lane_last is_lane_last at_strobe in
-    lowest_step p before now 2 level Index index from_lane_last from_index at refl g_index is_index at_lane_last
+module _ (p : Parameters) (before : List Cycle) (ready : Bool) (t : Transfer) where
+  abbrev FromShown : ℕ → Option Rule → Type 0
+  FromShown n lowest = IsLowestFrom p before (showing ready t) n lowest
+
+  -- the last rules that a cycle can break which shows a transfer: a pause is none
+  pub lowest_nest : (tail : Option Tail) (walk : Walk) (nest : Bool) → tail ≡ tail_of (items_done p before) → Finds p.dims tail (items_of p t) walk →
+      nest ≡ is_broken p.level Nest walk.misplaced → FromShown 8 (if nest then Some Nest else None)
+  lowest_nest tail walk nest last_is found is =
+      let now = showing ready t in
+      let lowest = if nest then Some Nest else None in
+      let is_nest = broken_test p before now Nest walk.misplaced nest is (nest_test p (items_done p before) t tail walk last_is found) in
+      lowest_skip p before now 8 InnerPause lowest refl (λ b. b.1) (lowest_skip p before now 9 OuterPause lowest refl (λ b. b.1) (
+      lowest_step p before now 10 Nest nest None refl is_nest (λ no. lowest_top p before now)
+      ))
+
+  pub lowest_empty : (tail : Option Tail) (walk : Walk) (empty : Bool) (higher : Option Rule) → tail ≡ tail_of (items_done p before) → Finds p.dims tail (items_of p t) walk →
+      empty ≡ is_broken p.level Empty (not walk.active && misses_empty tail walk.first_close) → (empty ≡ false → FromShown 8 higher) → FromShown 7 (if empty then Some Empty else higher)
+  lowest_empty tail walk empty higher last_is found is above =
+      let now = showing ready t in
+      let misses = not walk.active && misses_empty tail walk.first_close in
+      lowest_step p before now 7 Empty empty higher refl (broken_test p before now Empty misses empty is (empty_test p (items_done p before) t tail walk misses last_is found refl)) above
+
+  -- the rules before them, none of which is broken
+  pub lowest_lanes : (early : Bool) (higher : Option Rule) → (IsTrue false ↔ (Binds Index p.level × BreaksIndex p t)) → false ≡ is_broken p.level LaneLast early → (IsTrue early ↔ BreaksLaneLast p t) →
+      (IsTrue false ↔ (Binds Strobe p.level × BreaksStrobe p t)) → (IsTrue false ↔ (Binds Start p.level × BreaksStart t)) → (IsTrue false ↔ (Binds End p.level × BreaksEnd p t)) →
+      FromShown 7 higher → FromShown 2 higher
+  lowest_lanes early higher no_index no_early is_early no_strobe no_start no_end above =
+      let now = showing ready t in
+      let at_end = lowest_step p before now 6 End false higher refl no_end (λ no. above) in
+      let at_start = lowest_step p before now 5 Start false higher refl no_start (λ no. at_end) in
+      let at_strobe = lowest_step p before now 4 Strobe false higher refl no_strobe (λ no. at_start) in
+      let at_lane_last = lowest_step p before now 3 LaneLast false higher refl (broken_test p before now LaneLast early false no_early is_early) (λ no. at_strobe) in
+      lowest_step p before now 2 Index false higher refl no_index (λ no. at_lane_last)
 
 -- of one lane there are no two strobe bits, no two indices and no lane before the last one
 zero_index : (lanes n : ℕ) → lanes ≡ 1 → n < 2 ^ index_width lanes → n ≡ 0
@@ -137,33 +151,15 @@ no_strobe p t one b =
     let same : b.one ≡ b.other = omega (arith, one, b.one_within, b.other_within) in
     let clash : ◌≡◌ {A = ℕ} 1 0 = sym b.one_set ∙ ap (λ (n : ℕ). bit_at t.strb n) same ∙ b.other_clear in omega (arith, clash)
 
-pub lowest_one_lane : (p : Parameters) (before : List Cycle) (ready : Bool) (t : Transfer) (level : ℕ) (empty nest : Bool) (from_empty from_nest : Option Rule) → p.lanes ≡ 1 → Fits p t → level ≡ p.level →
-    from_nest ≡ or_higher level Nest nest None → from_empty ≡ or_higher level Empty empty from_nest →
-    (IsTrue empty ↔ BreaksEmpty p (items_done p before) t) → (IsTrue nest ↔ BreaksNest p (items_done p before) t) → IsLowestFrom p before (showing ready t) 2 from_empty
-lowest_one_lane p before ready t level empty nest from_empty from_nest one fits at g_nest g_empty is_empty is_nest =
+pub lowest_one_lane : (p : Parameters) (before : List Cycle) (ready : Bool) (t : Transfer) (higher : Option Rule) → p.lanes ≡ 1 → Fits p t →
+    IsLowestFrom p before (showing ready t) 7 higher → IsLowestFrom p before (showing ready t) 2 higher
+lowest_one_lane p before ready t higher one fits above =
     let now = showing ready t in
-    let top = lowest_step p before now 10 level Nest nest None from_nest at refl g_nest is_nest (lowest_top p before now) in
-    let above_pauses = lowest_skip p before now 8 InnerPause from_nest refl (λ b. b.1) (lowest_skip p before now 9 OuterPause from_nest refl (λ b. b.1) top) in
-    let at_empty = lowest_step p before now 7 level Empty empty from_nest from_empty at refl g_empty is_empty above_pauses in
-    let above_end = lowest_skip p before now 6 End from_empty refl (λ b. b.1.0 (omega (arith, one, zero_index p.lanes t.endi one fits.endi))) at_empty in
-    let above_start = lowest_skip p before now 5 Start from_empty refl (λ b. omega (arith, b.1, zero_index p.lanes t.stai one fits.stai)) above_end in
-    let above_strobe = lowest_skip p before now 4 Strobe from_empty refl (λ b. no_strobe p t one b.1) above_start in
-    let above_lanes = lowest_skip p before now 3 LaneLast from_empty refl (λ b. omega (arith, one, b.1.early)) above_strobe in
-    lowest_skip p before now 2 Index from_empty refl (λ b. no_index p t one fits b.1) above_lanes
-
-pub lowest_pause : (p : Parameters) (before : List Cycle) (ready : Bool) (level : ℕ) (inner outer : Bool) (from_inner from_outer : Option Rule) → waiting_of before ≡ None → level ≡ p.level →
-    from_outer ≡ or_higher level OuterPause outer None → from_inner ≡ or_higher level InnerPause inner from_outer →
-    (IsTrue inner ↔ BreaksInnerPause p (items_done p before)) → (IsTrue outer ↔ BreaksOuterPause p (items_done p before)) →
-    IsLowestBroken p before (pausing ready) from_inner
-lowest_pause p before ready level inner outer from_inner from_outer free at g_outer g_inner is_inner is_outer =
-    let now = pausing ready in
-    let top = lowest_skip p before now 10 Nest None refl (λ b. b.1) (lowest_top p before now) in
-    let at_outer = lowest_step p before now 9 level OuterPause outer None from_outer at refl g_outer is_outer top in
-    let at_inner = lowest_step p before now 8 level InnerPause inner from_outer from_inner at refl g_inner is_inner at_outer in
-    let above_six = lowest_skip p before now 6 End from_inner refl (λ b. b.1) (lowest_skip p before now 7 Empty from_inner refl (λ b. b.1) at_inner) in
-    let above_four = lowest_skip p before now 4 Strobe from_inner refl (λ b. b.1) (lowest_skip p before now 5 Start from_inner refl (λ b. b.1) above_six) in
-    let above_hold = lowest_skip p before now 2 Index from_inner refl (λ b. b.1) (lowest_skip p before now 3 LaneLast from_inner refl (λ b. b.1) above_four) in
-    lowest_of_all p before now from_inner (lowest_skip p before now 1 Hold from_inner refl (λ b. not_held before now free b.1) above_hold)
+    let above_end = lowest_skip p before now 6 End higher refl (λ b. b.1.0 (omega (arith, one, zero_index p.lanes t.endi one fits.endi))) above in
+    let above_start = lowest_skip p before now 5 Start higher refl (λ b. omega (arith, b.1, zero_index p.lanes t.stai one fits.stai)) above_end in
+    let above_strobe = lowest_skip p before now 4 Strobe higher refl (λ b. no_strobe p t one b.1) above_start in
+    let above_lanes = lowest_skip p before now 3 LaneLast higher refl (λ b. omega (arith, one, b.1.early)) above_strobe in
+    lowest_skip p before now 2 Index higher refl (λ b. no_index p t one fits b.1) above_lanes
 
 -- ---- Hold
 
@@ -184,7 +180,3 @@ pub lowest_held : (p : Parameters) (before : List Cycle) (ready : Bool) (shown :
     (shown ≡ Some offered → ⊥) → IsLowestBroken p before (record { ready = ready; shown = shown }) (Some Hold)
 lowest_held p before ready shown offered binds waits changed =
     ((binds, record { offered = offered; waits = waits; changed = changed }), λ rule b. one_least p before (record { ready = ready; shown = shown }) rule)
-
--- a test that is another one
-pub test_is : (test other : Bool) (Broken : Type 0) → test ≡ other → (IsTrue other ↔ Broken) → IsTrue test ↔ Broken
-test_is test other Broken is tells = subst (λ (b : Bool). IsTrue b ↔ Broken) (sym is) tells

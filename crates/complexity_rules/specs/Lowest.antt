@@ -1,5 +1,5 @@
 -- The lowest rule of those that are broken (this project's own).
-use Rattle.std.specs.Prelude.{Bool, ◌&&◌, nat_le, ℕ, ◌≤◌, if◌then◌else◌, List, Option, Some, None}
+use Rattle.std.specs.Prelude.{Bool, ◌&&◌, nat_le, ℕ, ◌≤◌, List, Option, Some, None}
 use Rattle.tydi_base.specs.Level.{number_of}
 use Rattle.physical_stream.specs.Params.{Parameters}
 use Rattle.physical_stream.specs.Cycles.{Cycle}
@@ -10,10 +10,6 @@ use Rattle.physical_stream.specs.declared.rule.Rule.{Rule}
 -- a rule binds at this level, and what it forbids is there
 abbrev pub is_broken : ℕ → Rule → Bool → Bool
 is_broken level rule forbidden = nat_le (number_of level) (binds_up_to rule) && forbidden
-
--- the rule, where it is broken; else what a rule of a greater number says
-abbrev pub or_higher : ℕ → Rule → Bool → Option Rule → Option Rule
-or_higher level rule forbidden higher = if is_broken level rule forbidden then Some rule else higher
 
 -- of the rules from this number on, the cycle breaks none, or this is the lowest one
 abbrev pub IsLowestFrom : Parameters → List Cycle → Cycle → ℕ → Option Rule → Type 0

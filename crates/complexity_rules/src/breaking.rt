@@ -8,9 +8,9 @@ ghost use Rattle.physical_stream.specs.Items.{items_of};
 ghost use Rattle.physical_stream.specs.Rules.{Binds};
 ghost use Rattle.physical_stream.specs.Shape.{closes_empty, tail_of};
 ghost use Rattle.physical_stream.specs.Signals.{Fits};
-ghost use Rattle.physical_stream.specs.declared.rule.Rule.TheVariants.{Hold};
+ghost use Rattle.physical_stream.specs.declared.rule.Rule.TheVariants.{Empty, End, Hold, Index, LaneLast, Nest, Start, Strobe};
 ghost use Rattle.complexity_rules.specs.Checking.{IsLowestBroken};
-ghost use Rattle.complexity_rules.specs.Lowest.{or_higher};
+ghost use Rattle.complexity_rules.specs.Lowest.{is_broken};
 ghost use Rattle.complexity_rules.specs.Waiting.{IsLowestShown};
 ghost use Rattle.complexity_rules.specs.Walk.{Finds, first_close, misses_empty};
 
@@ -20,12 +20,11 @@ use crate::walk::{Shown, Walk};
 use physical_stream::{Params, Rule, Tail, Transfer, all_lanes};
 use tydi_base::Level;
 
-/// A row for each rule, in the order of their numbers: its name, and the condition under which a cycle does what it forbids. The
-/// lowest rule that binds at this level and whose condition holds.
+/// A row for each rule, in the order of their numbers: its name, and whether a cycle breaks it. The lowest rule that is broken.
 macro_rules! lowest_broken {
-    ($level:expr;) => { None };
-    ($level:expr; $rule:ident if $forbidden:expr, $($rest:tt)*) => {
-        or_higher($level, Rule::$rule, $forbidden, lowest_broken!($level; $($rest)*))
+    () => { None };
+    ($rule:ident if $broken:expr, $($rest:tt)*) => {
+        if $broken { Some(Rule::$rule) } else { lowest_broken!($($rest)*) }
     };
 }
 
@@ -42,14 +41,14 @@ pub(crate) fn lowest_of_shown(
     requires early { IsTrue items.now.early ↔ BreaksLaneLast p.now transfer.now }
     ensures { IsLowestShown p.now tail transfer.now result }
 {
-    lowest_broken! { p.level;
+    lowest_broken! {
         Index if breaks_index(p, transfer),
-        LaneLast if items.early,
+        LaneLast if breaks_lane_last(p, items),
         Strobe if breaks_strobe(p, transfer),
-        Start if breaks_start(transfer),
+        Start if breaks_start(p, transfer),
         End if breaks_end(p, transfer, &items.walk),
-        Empty if breaks_empty(tail, &items.walk),
-        Nest if items.walk.misplaced,
+        Empty if breaks_empty(p, tail, &items.walk),
+        Nest if breaks_nest(p, &items.walk),
     }
 }
 
@@ -58,7 +57,7 @@ pub(crate) fn lowest_of_pause(p: &Params, tail: Option<Tail>) -> Option<Rule>
     ensures { (before : List Cycle) (ready : Bool) → waiting_of before ≡ None → tail ≡ tail_of (items_done p.now before)
         → IsLowestBroken p.now before (record { ready = ready; shown = None }) result }
 {
-    lowest_broken! { p.level;
+    lowest_broken! {
         InnerPause if breaks_inner_pause(p, tail),
         OuterPause if breaks_outer_pause(p, tail),
     }
@@ -74,32 +73,33 @@ pub(crate) fn hold(level: Level) -> Rule
     Rule::Hold
 }
 
-/// The rule, where it binds at this level and the cycle does what it forbids; else what a rule of a greater number says.
-#[inline(always)]
-pub(crate) fn or_higher(
-    level: Level,
-    rule: Rule,
-    forbidden: bool,
-    higher: Option<Rule>,
-) -> Option<Rule>
-    ensures { result ≡ or_higher level rule forbidden higher }
-{
-    if forbidden && binds(rule, level) {
-        Some(rule)
-    } else {
-        higher
-    }
-}
+// Whether a cycle breaks a rule. The level is looked at first, so that nothing else is done for a rule that does not bind; it is looked at
+// last for Index and Nest, which bind at every level.
 
-/// Whether not stai ≤ endi ≤ N-1.
+/// Whether Index is broken: not stai ≤ endi ≤ N-1.
 fn breaks_index(p: &Params, transfer: &Transfer) -> bool
-    ensures { IsTrue result ↔ BreaksIndex p.now transfer.now }
+    ensures { IsTrue result ↔ (Binds Index p.now.level × BreaksIndex p.now transfer.now) }
 {
-    transfer.endi < transfer.stai || p.lanes <= transfer.endi
+    (transfer.endi < transfer.stai || p.lanes <= transfer.endi) && binds(Rule::Index, p.level)
 }
 
-/// Whether some strobe bit is 1 and another is 0.
+/// Whether LaneLast is broken: some lane but the last one has a last bit.
+fn breaks_lane_last(p: &Params, items: &Shown) -> bool
+    ensures { result ≡ is_broken p.now.level LaneLast items.now.early }
+{
+    binds(Rule::LaneLast, p.level) && items.early
+}
+
+/// Whether Strobe is broken: some strobe bit is 1 and another is 0.
 fn breaks_strobe(p: &Params, transfer: &Transfer) -> bool
+    requires { Fits p.now transfer.now }
+    ensures { IsTrue result ↔ (Binds Strobe p.now.level × BreaksStrobe p.now transfer.now) }
+{
+    binds(Rule::Strobe, p.level) && has_mixed_strobe(p, transfer)
+}
+
+/// Whether some strobe bit is 1 and another is 0, whether or not the rule on it binds.
+fn has_mixed_strobe(p: &Params, transfer: &Transfer) -> bool
     requires { Fits p.now transfer.now }
     ensures { IsTrue result ↔ BreaksStrobe p.now transfer.now }
 {
@@ -120,15 +120,24 @@ fn is_all_ones(number: u128, bits: u16) -> bool
     }
 }
 
-/// Whether stai is not 0.
-fn breaks_start(transfer: &Transfer) -> bool
-    ensures { IsTrue result ↔ BreaksStart transfer.now }
+/// Whether Start is broken: stai is not 0.
+fn breaks_start(p: &Params, transfer: &Transfer) -> bool
+    ensures { IsTrue result ↔ (Binds Start p.now.level × BreaksStart transfer.now) }
 {
-    transfer.stai > 0
+    binds(Rule::Start, p.level) && transfer.stai > 0
 }
 
-/// Whether endi is not N-1, and no last bit is set.
+/// Whether End is broken: endi is not N-1, and no last bit is set.
 fn breaks_end(p: &Params, transfer: &Transfer, walk: &Walk) -> bool
+    requires fits { Fits p.now transfer.now }
+    requires found { walk.now.first_close ≡ first_close (items_of p.now transfer.now) }
+    ensures { IsTrue result ↔ (Binds End p.now.level × BreaksEnd p.now transfer.now) }
+{
+    binds(Rule::End, p.level) && ends_early(p, transfer, walk)
+}
+
+/// Whether endi is not N-1, and no last bit is set, whether or not the rule on it binds.
+fn ends_early(p: &Params, transfer: &Transfer, walk: &Walk) -> bool
     requires fits { Fits p.now transfer.now }
     requires found { walk.now.first_close ≡ first_close (items_of p.now transfer.now) }
     ensures { IsTrue result ↔ BreaksEnd p.now transfer.now }
@@ -136,12 +145,20 @@ fn breaks_end(p: &Params, transfer: &Transfer, walk: &Walk) -> bool
     transfer.endi != p.lanes - 1 && walk.first_close.is_none()
 }
 
-/// Whether no lane is active, and nothing is closed or not an empty sequence first.
+/// Whether Empty is broken: no lane is active, and nothing is closed or not an empty sequence first.
 #[inline(always)]
-pub(crate) fn breaks_empty(tail: Option<Tail>, walk: &Walk) -> bool
-    ensures { result ≡ (not walk.now.active && misses_empty tail walk.now.first_close) }
+pub(crate) fn breaks_empty(p: &Params, tail: Option<Tail>, walk: &Walk) -> bool
+    ensures { result ≡ is_broken p.now.level Empty (not walk.now.active && misses_empty tail walk.now.first_close) }
 {
-    !walk.active && misses_empty(tail, walk.first_close)
+    binds(Rule::Empty, p.level) && !walk.active && misses_empty(tail, walk.first_close)
+}
+
+/// Whether Nest is broken: a Close is not where it may be.
+#[inline(always)]
+pub(crate) fn breaks_nest(p: &Params, walk: &Walk) -> bool
+    ensures { result ≡ is_broken p.now.level Nest walk.now.misplaced }
+{
+    walk.misplaced && binds(Rule::Nest, p.level)
 }
 
 /// Whether nothing is closed first, or what is closed first is no empty sequence.

@@ -7,7 +7,7 @@ ghost use Rattle.physical_stream.specs.declared.transfer.Transfer.{Transfer};
 ghost use Rattle.complexity_rules.specs.Waiting.{IsLowestShown};
 ghost use Rattle.complexity_rules.specs.Walk.{Finds};
 
-use crate::breaking::{breaks_empty, or_higher};
+use crate::breaking::{breaks_empty, breaks_nest};
 use crate::walk::Walk;
 use physical_stream::{Params, Rule, Tail, Transfer};
 
@@ -28,6 +28,11 @@ pub(crate) fn lowest_of_one(p: &Params, tail: Option<Tail>, walk: &Walk) -> Opti
     requires one { p.now.lanes ≡ 1 }
     ensures { (t : Transfer) → Fits p.now t → Finds p.now.dims tail (items_of p.now t) walk.now → IsLowestShown p.now tail t result }
 {
-    let nest = or_higher(p.level, Rule::Nest, walk.misplaced, None);
-    or_higher(p.level, Rule::Empty, breaks_empty(tail, walk), nest)
+    if breaks_empty(p, tail, walk) {
+        Some(Rule::Empty)
+    } else if breaks_nest(p, walk) {
+        Some(Rule::Nest)
+    } else {
+        None
+    }
 }

@@ -1,6 +1,8 @@
 ghost use Rattle.std.specs.Prelude.{◌≡◌, ◌↔◌, List, IsTrue};
 ghost use Rattle.physical_stream.specs.Shape.{tail_of};
 ghost use Rattle.physical_stream.specs.declared.item.Item.{Item};
+ghost use Rattle.physical_stream.specs.declared.rule.Rule.TheVariants.{InnerPause, OuterPause};
+ghost use Rattle.complexity_rules.specs.Lowest.{is_broken};
 ghost use Rattle.complexity_rules.specs.Pauses.{MayPause, is_inside_packet, is_inside_sequence};
 
 use crate::table::binds;
@@ -11,13 +13,25 @@ use physical_stream::{Params, Rule, Tail};
 pub fn may_pause(p: &Params, tail: Option<Tail>) -> bool
     ensures { (done : List Item) → tail ≡ tail_of done → IsTrue result ↔ MayPause p.now done }
 {
-    let inner = binds(Rule::InnerPause, p.level) && breaks_inner_pause(p, tail);
-    let outer = binds(Rule::OuterPause, p.level) && breaks_outer_pause(p, tail);
-    !inner && !outer
+    !breaks_inner_pause(p, tail) && !breaks_outer_pause(p, tail)
 }
 
-/// Whether a pause here is inside an innermost sequence, whether or not the rule on it binds.
+/// Whether a pause here breaks InnerPause: it is inside an innermost sequence.
 pub(crate) fn breaks_inner_pause(p: &Params, tail: Option<Tail>) -> bool
+    ensures { result ≡ is_broken p.now.level InnerPause (is_inside_sequence p.now.dims tail) }
+{
+    binds(Rule::InnerPause, p.level) && is_inside_sequence(p, tail)
+}
+
+/// Whether a pause here breaks OuterPause: it is inside a packet.
+pub(crate) fn breaks_outer_pause(p: &Params, tail: Option<Tail>) -> bool
+    ensures { result ≡ is_broken p.now.level OuterPause (is_inside_packet p.now.dims tail) }
+{
+    binds(Rule::OuterPause, p.level) && is_inside_packet(p, tail)
+}
+
+/// Whether there are dimensions, and the innermost sequence has elements and is open.
+fn is_inside_sequence(p: &Params, tail: Option<Tail>) -> bool
     ensures { result ≡ is_inside_sequence p.now.dims tail }
 {
     match tail {
@@ -27,8 +41,8 @@ pub(crate) fn breaks_inner_pause(p: &Params, tail: Option<Tail>) -> bool
     }
 }
 
-/// Whether a pause here is inside a packet, whether or not the rule on it binds.
-pub(crate) fn breaks_outer_pause(p: &Params, tail: Option<Tail>) -> bool
+/// Whether there are dimensions, and a packet is begun and open.
+fn is_inside_packet(p: &Params, tail: Option<Tail>) -> bool
     ensures { result ≡ is_inside_packet p.now.dims tail }
 {
     match tail {

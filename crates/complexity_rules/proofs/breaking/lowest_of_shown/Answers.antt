@@ -1,17 +1,36 @@
-use Rattle.std.proofs.Common.{ap}
-use Rattle.physical_stream.specs.Params.{Parameters}
-use Rattle.physical_stream.specs.Cycles.{items_done}
-use Rattle.complexity_rules.proofs.BreakLemmas.{Empty-test, Nest-test}
-use Rattle.complexity_rules.proofs.LowestLemmas.{lowest_shown}
+use Rattle.std.proofs.Common.{true, false, None, Some}
+use Rattle.physical_stream.specs.declared.rule.Rule.TheVariants.{Empty, Nest}
+use Rattle.complexity_rules.proofs.LowestLemmas.{lowest_empty, lowest_lanes, lowest_nest}
 use Rattle.complexity_rules.proofs.breaking.lowest_of_shown.Goals as goal
 
-pub returns : goal.returns
-returns c before ready last_is =
+pub returns-then-breaks_empty : goal.returns-then-breaks_empty
+returns-then-breaks_empty c before ready last_is =
+    let p = c.args.p.now in
+    let t = c.args.transfer.now in
+    let tail = c.args.tail in
     let walk = c.args.items.now.walk in
-    let done = items_done c.args.p.now before in
-    lowest_shown c.args.p.now before ready c.args.transfer.now c.p.inside.level c.breaks_index.result c.args.items.now.early c.breaks_strobe.result c.breaks_start.result c.breaks_end.result
-    c.breaks_empty.result walk.misplaced c.or_higher-7.result c.or_higher-6.result c.or_higher-5.result c.or_higher-4.result c.or_higher-3.result c.or_higher-2.result
-    c.or_higher.result (ap (λ (p : Parameters). p.level) c.p.view_is) c.or_higher.ensures c.or_higher-2.ensures c.or_higher-3.ensures c.or_higher-4.ensures
-    c.or_higher-5.ensures c.or_higher-6.ensures c.or_higher-7.ensures c.breaks_index.ensures c.requires.early c.breaks_strobe.ensures c.breaks_start.ensures c.breaks_end.ensures
-    (Empty-test c.args.p.now done c.args.transfer.now c.args.tail walk c.breaks_empty.result last_is c.requires.found c.breaks_empty.ensures)
-    (Nest-test c.args.p.now done c.args.transfer.now c.args.tail walk last_is c.requires.found)
+    let empty = lowest_empty p before ready t tail walk true None last_is c.requires.found (c.if-breaks_empty.ensures {u = tt}) (λ no. cc) in
+    lowest_lanes p before ready t c.args.items.now.early (Some Empty) c.if-breaks_index.ensures (c.if-breaks_lane_last.ensures {u = tt}) c.requires.early
+    c.if-breaks_strobe.ensures c.if-breaks_start.ensures c.if-breaks_end.ensures empty
+
+pub returns-then-breaks_nest : goal.returns-then-breaks_nest
+returns-then-breaks_nest c before ready last_is =
+    let p = c.args.p.now in
+    let t = c.args.transfer.now in
+    let tail = c.args.tail in
+    let walk = c.args.items.now.walk in
+    let nest = lowest_nest p before ready t tail walk true last_is c.requires.found (c.if-breaks_nest.ensures {u = tt}) in
+    let empty = lowest_empty p before ready t tail walk false (Some Nest) last_is c.requires.found (c.if-breaks_empty.ensures {u = tt}) (λ no. nest) in
+    lowest_lanes p before ready t c.args.items.now.early (Some Nest) c.if-breaks_index.ensures (c.if-breaks_lane_last.ensures {u = tt}) c.requires.early
+    c.if-breaks_strobe.ensures c.if-breaks_start.ensures c.if-breaks_end.ensures empty
+
+pub returns-else-breaks_nest : goal.returns-else-breaks_nest
+returns-else-breaks_nest c before ready last_is =
+    let p = c.args.p.now in
+    let t = c.args.transfer.now in
+    let tail = c.args.tail in
+    let walk = c.args.items.now.walk in
+    let nest = lowest_nest p before ready t tail walk false last_is c.requires.found (c.if-breaks_nest.ensures {u = tt}) in
+    let empty = lowest_empty p before ready t tail walk false (None) last_is c.requires.found (c.if-breaks_empty.ensures {u = tt}) (λ no. nest) in
+    lowest_lanes p before ready t c.args.items.now.early None c.if-breaks_index.ensures (c.if-breaks_lane_last.ensures {u = tt}) c.requires.early
+    c.if-breaks_strobe.ensures c.if-breaks_start.ensures c.if-breaks_end.ensures empty

@@ -1,14 +1,30 @@
-use Rattle.std.proofs.Common.{ap}
-use Rattle.physical_stream.specs.Params.{Parameters}
-use Rattle.physical_stream.specs.Cycles.{items_done}
-use Rattle.complexity_rules.proofs.BreakLemmas.{Empty-test, Nest-test}
-use Rattle.complexity_rules.proofs.LowestLemmas.{lowest_one_lane}
+use Rattle.std.proofs.Common.{true, false, None, Some}
+use Rattle.physical_stream.specs.declared.rule.Rule.TheVariants.{Empty, Nest}
+use Rattle.complexity_rules.proofs.LowestLemmas.{lowest_empty, lowest_one_lane, lowest_nest}
 use Rattle.complexity_rules.proofs.one_lane.lowest_of_one.Goals as goal
 
-pub returns : goal.returns
-returns c t fits found before ready last_is =
-    let done = items_done c.args.p.now before in
-    lowest_one_lane c.args.p.now before ready t c.p.inside.level c.breaks_empty.result c.args.walk.now.misplaced c.or_higher.result c.or_higher-nest.result c.requires.one fits
-    (ap (λ (p : Parameters). p.level) c.p.view_is) c.or_higher-nest.ensures c.or_higher.ensures
-    (Empty-test c.args.p.now done t c.args.tail c.args.walk.now c.breaks_empty.result last_is found c.breaks_empty.ensures)
-    (Nest-test c.args.p.now done t c.args.tail c.args.walk.now last_is found)
+pub returns-then-breaks_empty : goal.returns-then-breaks_empty
+returns-then-breaks_empty c t fits found before ready last_is =
+    let p = c.args.p.now in
+    let tail = c.args.tail in
+    let walk = c.args.walk.now in
+    let empty = lowest_empty p before ready t tail walk true None last_is found (c.if-breaks_empty.ensures {u = tt}) (λ no. cc) in
+    lowest_one_lane p before ready t (Some Empty) c.requires.one fits empty
+
+pub returns-then-breaks_nest : goal.returns-then-breaks_nest
+returns-then-breaks_nest c t fits found before ready last_is =
+    let p = c.args.p.now in
+    let tail = c.args.tail in
+    let walk = c.args.walk.now in
+    let nest = lowest_nest p before ready t tail walk true last_is found (c.if-breaks_nest.ensures {u = tt}) in
+    let empty = lowest_empty p before ready t tail walk false (Some Nest) last_is found (c.if-breaks_empty.ensures {u = tt}) (λ no. nest) in
+    lowest_one_lane p before ready t (Some Nest) c.requires.one fits empty
+
+pub returns-else-breaks_nest : goal.returns-else-breaks_nest
+returns-else-breaks_nest c t fits found before ready last_is =
+    let p = c.args.p.now in
+    let tail = c.args.tail in
+    let walk = c.args.walk.now in
+    let nest = lowest_nest p before ready t tail walk false last_is found (c.if-breaks_nest.ensures {u = tt}) in
+    let empty = lowest_empty p before ready t tail walk false (None) last_is found (c.if-breaks_empty.ensures {u = tt}) (λ no. nest) in
+    lowest_one_lane p before ready t None c.requires.one fits empty

@@ -1,7 +1,7 @@
 use Rattle.std.proofs.Common.{ap}
 use Rattle.physical_stream.specs.Params.{Parameters}
 use Rattle.complexity_rules.proofs.StrobeLemmas.{BreaksStrobe-test}
-use Rattle.complexity_rules.proofs.breaking.breaks_strobe.Goals as goal
+use Rattle.complexity_rules.proofs.breaking.has_mixed_strobe.Goals as goal
 
 pub returns-then-transfer-ne0 : goal.returns-then-transfer-ne0
 returns-then-transfer-ne0 c =

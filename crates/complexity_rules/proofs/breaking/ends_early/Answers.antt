@@ -1,7 +1,7 @@
 use Rattle.std.proofs.Common.{ap, arith}
 use Rattle.physical_stream.specs.Params.{Parameters}
 use Rattle.complexity_rules.proofs.LaneLemmas.{no_close-All}
-use Rattle.complexity_rules.proofs.breaking.breaks_end.Goals as goal
+use Rattle.complexity_rules.proofs.breaking.ends_early.Goals as goal
 
 pub returns-then-transfer-p : goal.returns-then-transfer-p
 returns-then-transfer-p c =
