@@ -1,5 +1,5 @@
 -- What a checker stands for, and what it says of one cycle more (this project's own).
-use Rattle.std.specs.Prelude.{◌≡◌, ℕ, ◌+◌, ◌≤◌, if◌then◌else◌, List, [], ◌∷◌, ◌++◌, length, Option, Some, None, is_some, OnSome}
+use Rattle.std.specs.Prelude.{◌≡◌, ℕ, ◌+◌, ◌-◌, ◌^◌, ◌≤◌, if◌then◌else◌, List, [], ◌∷◌, ◌++◌, length, Option, Some, None, is_some, OnSome}
 use Rattle.physical_stream.specs.Params.{Parameters}
 use Rattle.physical_stream.specs.Cycles.{Cycle, items_done, waiting_of}
 use Rattle.physical_stream.specs.Shape.{tail_of}
@@ -24,6 +24,10 @@ params_in checker = checker.params
 -- how many cycles it has seen
 abbrev pub seen_in : Checker → ℕ
 seen_in checker = checker.seen
+
+-- the most cycles that it counts
+abbrev pub most_seen : ℕ
+most_seen = 2 ^ 32 - 1
 
 -- the transfer that waits to be taken
 abbrev pub waiting_in : Checker → Option Transfer

@@ -2,6 +2,7 @@ ghost use Rattle.std.specs.Prelude.{◌≡◌, ◌↔◌, ◌+◌, ◌-◌, ◌*
 ghost use Rattle.std.specs.Option.{option_copied};
 ghost use Rattle.physical_stream.specs.Cycles.{Cycle};
 ghost use Rattle.physical_stream.specs.Signals.{Fits};
+ghost use Rattle.complexity_rules.specs.Effect.{most_packets};
 ghost use Rattle.complexity_rules.specs.Tails.{IsTailIn};
 ghost use Rattle.complexity_rules.specs.Waiting.{IsJudged};
 
@@ -33,5 +34,5 @@ pub struct Checker {
     ghost judged: { IsJudged params waits offered tail effect },
     ghost tail_in: { IsTailIn params.dims tail },
     ghost few_transfers: { transfers ≤ seen },
-    ghost few_packets: { packets ≤ 4224 * seen },
+    ghost few_packets: { packets ≤ most_packets * seen },
 }

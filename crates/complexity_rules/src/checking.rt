@@ -11,8 +11,8 @@ ghost use Rattle.physical_stream.specs.Shape.{is_whole, tail_of};
 ghost use Rattle.physical_stream.specs.Signals.{Fits};
 ghost use Rattle.physical_stream.specs.declared.rule.Rule.TheVariants.{Hold};
 ghost use Rattle.physical_stream.specs.declared.transfer.Transfer.{Transfer};
-ghost use Rattle.complexity_rules.specs.Checking.{IsLowestBroken, IsStep, Sees, StandsFor, Steps, params_in, seen_in};
-ghost use Rattle.complexity_rules.specs.Effect.{IsEffect};
+ghost use Rattle.complexity_rules.specs.Checking.{IsLowestBroken, IsStep, Sees, StandsFor, Steps, most_seen, params_in, seen_in};
+ghost use Rattle.complexity_rules.specs.Effect.{IsEffect, most_packets};
 ghost use Rattle.complexity_rules.specs.Waiting.{IsLowestShown};
 
 use crate::breaking::{hold, lowest_of_pause, lowest_of_shown};
@@ -65,7 +65,7 @@ impl Checker {
     /// One cycle more: the lowest of rules 1 to 10 that it breaks, and the checker is as before; or None, and the cycle is seen.
     pub fn step(&mut self, row: Row<'_>) -> Option<Rule>
         requires fits { IfSome (option_copied row.shown) (Fits (params_in self.old)) }
-        requires room { seen_in self.old < 2 ^ 32 - 1 }
+        requires room { seen_in self.old < most_seen }
         ensures params { params_in self.new ≡ params_in self.old }
         ensures steps { (cycles : List Cycle) → StandsFor self.old cycles → Steps self.old self.new cycles (cycle_in row.entry) result }
         ensures kept { OnSome result (self.new ≡ self.old) }
@@ -80,7 +80,7 @@ impl Checker {
     /// One cycle more, which shows this transfer.
     fn step_shown(&mut self, transfer: &Transfer, ready: bool) -> Option<Rule>
         requires fits { Fits (params_in self.old) transfer.now }
-        requires room { seen_in self.old < 2 ^ 32 - 1 }
+        requires room { seen_in self.old < most_seen }
         ensures { IsStep self.old self.new (record { ready = ready; shown = Some transfer.now }) result }
     {
         if self.has_waiting() {
@@ -93,7 +93,7 @@ impl Checker {
     /// One cycle more, which shows this transfer while one waits.
     fn step_again(&mut self, transfer: &Transfer, ready: bool) -> Option<Rule>
         requires waits { self.old.waits ≡ true }
-        requires room { seen_in self.old < 2 ^ 32 - 1 }
+        requires room { seen_in self.old < most_seen }
         ensures { IsStep self.old self.new (record { ready = ready; shown = Some transfer.now }) result }
     {
         if !self.has_offered(transfer) {
@@ -107,7 +107,7 @@ impl Checker {
     fn step_first(&mut self, transfer: &Transfer, ready: bool) -> Option<Rule>
         requires free { self.old.waits ≡ false }
         requires fits { Fits (params_in self.old) transfer.now }
-        requires room { seen_in self.old < 2 ^ 32 - 1 }
+        requires room { seen_in self.old < most_seen }
         ensures { IsStep self.old self.new (record { ready = ready; shown = Some transfer.now }) result }
     {
         let judged = self.judge_shown(transfer);
@@ -119,7 +119,7 @@ impl Checker {
 
     /// One cycle more, which shows no transfer.
     fn step_pause(&mut self, _ready: bool) -> Option<Rule>
-        requires room { seen_in self.old < 2 ^ 32 - 1 }
+        requires room { seen_in self.old < most_seen }
         ensures { IsStep self.old self.new (record { ready = _ready; shown = None }) result }
     {
         if self.has_waiting() {
@@ -162,7 +162,7 @@ impl Checker {
         requires { Fits (params_in self.now) transfer.now }
         ensures lowest { IsLowestShown (params_in self.now) self.now.tail transfer.now result.broken }
         ensures changes { IsEffect (params_in self.now).dims self.now.tail (items_of (params_in self.now) transfer.now) result.effect }
-        ensures few { result.effect.packets ≤ 4224 }
+        ensures few { result.effect.packets ≤ most_packets }
     {
         if self.has_one_lane() {
             self.judge_one(transfer)
@@ -185,7 +185,7 @@ impl Checker {
         requires { Fits (params_in self.now) transfer.now }
         ensures lowest { IsLowestShown (params_in self.now) self.now.tail transfer.now result.broken }
         ensures changes { IsEffect (params_in self.now).dims self.now.tail (items_of (params_in self.now) transfer.now) result.effect }
-        ensures few { result.effect.packets ≤ 4224 }
+        ensures few { result.effect.packets ≤ most_packets }
     {
         let items = walk_over(&self.params, transfer, self.tail);
         Judged {
@@ -201,7 +201,7 @@ impl Checker {
         requires fits { Fits (params_in self.now) transfer.now }
         ensures lowest { IsLowestShown (params_in self.now) self.now.tail transfer.now result.broken }
         ensures changes { IsEffect (params_in self.now).dims self.now.tail (items_of (params_in self.now) transfer.now) result.effect }
-        ensures few { result.effect.packets ≤ 4224 }
+        ensures few { result.effect.packets ≤ most_packets }
     {
         let walk = walk_over_one(&self.params, transfer, self.tail);
         Judged {
@@ -221,7 +221,7 @@ impl Checker {
     /// Sees a cycle that shows no transfer.
     fn see_pause(&mut self)
         requires free { self.old.waits ≡ false }
-        requires room { seen_in self.old < 2 ^ 32 - 1 }
+        requires room { seen_in self.old < most_seen }
         ensures { (ready : Bool) → Sees self.old self.new (record { ready = ready; shown = None }) }
     {
         self.seen += 1;
@@ -230,9 +230,9 @@ impl Checker {
     /// Sees a cycle that shows this transfer, which breaks no rule, where none waits.
     fn see_first(&mut self, transfer: &Transfer, ready: bool, effect: Effect)
         requires fits { Fits (params_in self.old) transfer.now }
-        requires room { seen_in self.old < 2 ^ 32 - 1 }
+        requires room { seen_in self.old < most_seen }
         requires changes { IsEffect (params_in self.old).dims self.old.tail (items_of (params_in self.old) transfer.now) effect }
-        requires few { effect.packets ≤ 4224 }
+        requires few { effect.packets ≤ most_packets }
         requires kept { IsLowestShown (params_in self.old) self.old.tail transfer.now None }
         ensures { Sees self.old self.new (record { ready = ready; shown = Some transfer.now }) }
     {
@@ -246,7 +246,7 @@ impl Checker {
     /// Sees a cycle that shows the transfer that waits.
     fn see_again(&mut self, ready: bool)
         requires waits { self.old.waits ≡ true }
-        requires room { seen_in self.old < 2 ^ 32 - 1 }
+        requires room { seen_in self.old < most_seen }
         ensures { Sees self.old self.new (record { ready = ready; shown = Some self.old.offered }) }
     {
         if ready {
@@ -259,9 +259,9 @@ impl Checker {
 
     /// Sees a cycle in which a transfer is done that changes this.
     fn see_done(&mut self, effect: Effect)
-        requires room { seen_in self.old < 2 ^ 32 - 1 }
+        requires room { seen_in self.old < most_seen }
         requires changes { (t : Transfer) × IsEffect (params_in self.old).dims self.old.tail (items_of (params_in self.old) t) effect }
-        requires few { effect.packets ≤ 4224 }
+        requires few { effect.packets ≤ most_packets }
         ensures { (t : Transfer) → IsEffect (params_in self.old).dims self.old.tail (items_of (params_in self.old) t) effect
             → Sees self.old self.new (record { ready = true; shown = Some t }) }
     {
@@ -275,9 +275,9 @@ impl Checker {
     /// Sees a cycle that offers this transfer, which is not taken and changes this when it is done.
     fn see_offered(&mut self, transfer: &Transfer, effect: Effect)
         requires fits { Fits (params_in self.old) transfer.now }
-        requires room { seen_in self.old < 2 ^ 32 - 1 }
+        requires room { seen_in self.old < most_seen }
         requires changes { IsEffect (params_in self.old).dims self.old.tail (items_of (params_in self.old) transfer.now) effect }
-        requires few { effect.packets ≤ 4224 }
+        requires few { effect.packets ≤ most_packets }
         requires kept { IsLowestShown (params_in self.old) self.old.tail transfer.now None }
         ensures { Sees self.old self.new (record { ready = false; shown = Some transfer.now }) }
     {

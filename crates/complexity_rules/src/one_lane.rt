@@ -4,6 +4,7 @@ ghost use Rattle.std.specs.Prelude.{◌≡◌, ◌≤◌};
 ghost use Rattle.physical_stream.specs.Items.{items_of};
 ghost use Rattle.physical_stream.specs.Signals.{Fits};
 ghost use Rattle.physical_stream.specs.declared.transfer.Transfer.{Transfer};
+ghost use Rattle.complexity_rules.specs.Effect.{most_of_lane};
 ghost use Rattle.complexity_rules.specs.Waiting.{IsLowestShown};
 ghost use Rattle.complexity_rules.specs.Walk.{Finds};
 
@@ -17,7 +18,7 @@ pub(crate) fn walk_over_one(p: &Params, transfer: &Transfer, tail: Option<Tail>)
     requires one { p.now.lanes ≡ 1 }
     requires fits { Fits p.now transfer.now }
     ensures found { Finds p.now.dims tail (items_of p.now transfer.now) result }
-    ensures few { result.packets ≤ 33 }
+    ensures few { result.packets ≤ most_of_lane }
 {
     Walk::after(tail).over_lane(p, transfer, 0)
 }

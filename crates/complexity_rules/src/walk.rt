@@ -8,7 +8,7 @@ ghost use Rattle.physical_stream.specs.Signals.{Fits};
 ghost use Rattle.physical_stream.specs.declared.item.Item.{Item};
 ghost use Rattle.physical_stream.specs.declared.item.Item.TheVariants as items;
 ghost use Rattle.physical_stream.specs.declared.item.Tail.{Tail};
-ghost use Rattle.complexity_rules.specs.Effect.{IsEffect};
+ghost use Rattle.complexity_rules.specs.Effect.{IsEffect, most_of_lane, most_packets};
 ghost use Rattle.complexity_rules.specs.Unmarked.{AreUnmarked, ShowsMarks};
 ghost use Rattle.complexity_rules.specs.Walk.{Finds, first_of_two};
 
@@ -62,7 +62,7 @@ impl Walk {
     /// The walk goes over an element.
     #[inline(always)]
     fn over_element(self, p: &Params) -> Walk
-        requires room { self.packets < 2 * 4224 }
+        requires room { self.packets < 2 * most_packets }
         ensures found { (begins : Option Tail) (over : List Item) (word : List Bool) → Finds p.now.dims begins over self → Finds p.now.dims begins (over ++ items.Elem word ∷ []) result }
         ensures few { result.packets ≤ self.packets + 1 }
     {
@@ -78,7 +78,7 @@ impl Walk {
     #[inline(always)]
     fn over_close(self, p: &Params, dim: u8) -> Walk
         requires within { dim < p.now.dims }
-        requires room { self.packets < 2 * 4224 }
+        requires room { self.packets < 2 * most_packets }
         ensures found { (begins : Option Tail) (over : List Item) → Finds p.now.dims begins over self → Finds p.now.dims begins (over ++ items.Close dim ∷ []) result }
         ensures few { result.packets ≤ self.packets + 1 }
     {
@@ -97,7 +97,7 @@ impl Walk {
         requires fits { Fits p.now transfer.now }
         requires within { lane < p.now.lanes }
         requires in_lane { dim < p.now.dims }
-        requires room { self.packets < 2 * 4224 }
+        requires room { self.packets < 2 * most_packets }
         ensures found { (begins : Option Tail) (over : List Item) → Finds p.now.dims begins over self
             → Finds p.now.dims begins (over ++ (if last_bit p.now transfer.now lane dim then items.Close dim ∷ [] else [])) result }
         ensures few { result.packets ≤ self.packets + 1 }
@@ -119,7 +119,7 @@ impl Walk {
     fn over_marks(self, p: &Params, transfer: &Transfer, lane: u16) -> Walk
         requires fits { Fits p.now transfer.now }
         requires within { lane < p.now.lanes }
-        requires room { self.packets ≤ 4224 + 1 }
+        requires room { self.packets ≤ most_packets + 1 }
         ensures found { (begins : Option Tail) (over : List Item) → Finds p.now.dims begins over self → Finds p.now.dims begins (over ++ lane_closes p.now transfer.now lane) result }
         ensures few { result.packets ≤ self.packets + 32 }
     {
@@ -137,7 +137,7 @@ impl Walk {
     #[inline(always)]
     fn over_lane_element(self, p: &Params, transfer: &Transfer, lane: u16) -> Walk
         requires numbered { lane < 128 }
-        requires room { self.packets ≤ 4224 }
+        requires room { self.packets ≤ most_packets }
         ensures found { (begins : Option Tail) (over : List Item) → Finds p.now.dims begins over self
             → Finds p.now.dims begins (over ++ (if is_active transfer.now lane then items.Elem (lane_word p.now transfer.now lane) ∷ [] else [])) result }
         ensures few { result.packets ≤ self.packets + 1 }
@@ -155,9 +155,9 @@ impl Walk {
         requires fits { Fits p.now transfer.now }
         requires within { lane < p.now.lanes }
         requires numbered { lane < 128 }
-        requires room { self.packets ≤ 33 * lane }
+        requires room { self.packets ≤ most_of_lane * lane }
         ensures found { (begins : Option Tail) (over : List Item) → Finds p.now.dims begins over self → Finds p.now.dims begins (over ++ lane_items p.now transfer.now lane) result }
-        ensures few { result.packets ≤ 33 * (lane + 1) }
+        ensures few { result.packets ≤ most_of_lane * (lane + 1) }
     {
         self.over_lane_element(p, transfer, lane)
             .over_marks(p, transfer, lane)
@@ -169,10 +169,10 @@ impl Walk {
         requires order { from ≤ to }
         requires numbered { to ≤ 128 }
         requires unmarked { AreUnmarked p.now transfer.now from to }
-        requires room { self.packets ≤ 33 * from }
+        requires room { self.packets ≤ most_of_lane * from }
         ensures found { (begins : Option Tail) → Finds p.now.dims begins (parts_below (lane_items p.now transfer.now) from) self
             → Finds p.now.dims begins (parts_below (lane_items p.now transfer.now) to) result }
-        ensures few { result.packets ≤ 33 * to }
+        ensures few { result.packets ≤ most_of_lane * to }
     {
         let elements = active_between(transfer, from, to);
         if elements == 0 {
@@ -195,7 +195,7 @@ impl Walk {
         requires numbered { count ≤ 128 }
         requires fresh { self.packets ≡ 0 }
         ensures found { (begins : Option Tail) → Finds p.now.dims begins [] self → Finds p.now.dims begins (parts_below (lane_items p.now transfer.now) count) result }
-        ensures few { result.packets ≤ 33 * count }
+        ensures few { result.packets ≤ most_of_lane * count }
     {
         if count == 0 {
             return self;
@@ -230,7 +230,7 @@ pub(crate) fn walk_over(p: &Params, transfer: &Transfer, tail: Option<Tail>) -> 
     requires fits { Fits p.now transfer.now }
     ensures found { Finds p.now.dims tail (items_of p.now transfer.now) result.walk }
     ensures early { IsTrue result.early ↔ BreaksLaneLast p.now transfer.now }
-    ensures few { result.walk.packets ≤ 4224 }
+    ensures few { result.walk.packets ≤ most_packets }
 {
     let marks = marks_of(transfer);
     if next_marked(p, marks, 0, p.lanes) == p.lanes {
@@ -254,7 +254,7 @@ fn walk_over_marked(
     requires shows { ShowsMarks marks transfer.now }
     ensures found { Finds p.now.dims tail (items_of p.now transfer.now) result.walk }
     ensures early { IsTrue result.early ↔ BreaksLaneLast p.now transfer.now }
-    ensures few { result.walk.packets ≤ 4224 }
+    ensures few { result.walk.packets ≤ most_packets }
 {
     let last = p.lanes - 1;
     let before = Walk::after(tail).over_lanes(p, transfer, marks, last);
