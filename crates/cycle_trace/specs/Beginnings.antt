@@ -11,7 +11,9 @@ use Rattle.cycle_trace.specs.HeaderText.{HeaderStart, heads_from, header_start_o
 use Rattle.cycle_trace.specs.Trace.{TraceText, owed, params_of_heads}
 use Rattle.cycle_trace.specs.TraceText.{rows_from, trace_of}
 use Rattle.tydi_base.specs.TextSet.{HasTexts}
+use Rattle.tydi_base.specs.declared.pieces.TheConstants.{LINE_FEED}
 use Rattle.cycle_trace.specs.declared.fault.TraceFault.{TraceFault}
+use Rattle.cycle_trace.specs.declared.header_text.TheConstants.{MOST_STREAMS}
 
 -- the fault is the one that reading gives, unless memory ran out
 abbrev pub IsFault : {A : Type 0} → Result A TraceFault → TraceFault → Type 0
@@ -33,7 +35,7 @@ heads_on cycles heads paths lines = heads_from (3 + length heads) paths lines >>
 pub record OpensWith {Y : Type 0} (bytes begun : List ℕ) (cycles : ℕ) (heads : List Head) (set : BTreeSet (Vec ℕ Y)) : Type 0 where
   pub paths : List (List ℕ)
   pub many : length paths ≡ length heads
-  pub few : length heads ≤ 65536
+  pub few : length heads ≤ MOST_STREAMS
   pub told : HasTexts set paths
   pub opens : Opens bytes begun (heads_on cycles heads paths)
 
@@ -53,7 +55,7 @@ GoesOn bytes begun t = (more : List ℕ) → trace_of (bytes ++ more) ≡ rows_o
 
 -- the same, where a whole line comes first
 abbrev pub GoesOnLine : (bytes line : List ℕ) → TraceText → Type 0
-GoesOnLine bytes line t = (more : List ℕ) → trace_of ((bytes ++ 10 ∷ []) ++ more) ≡ rows_on t (line ∷ lines_of more)
+GoesOnLine bytes line t = (more : List ℕ) → trace_of ((bytes ++ LINE_FEED ∷ []) ++ more) ≡ rows_on t (line ∷ lines_of more)
 
 -- the trace of a text that ends in this line, without an LF
 abbrev pub EndsIn : (bytes line : List ℕ) → TraceText → Type 0

@@ -9,11 +9,12 @@ use Rattle.physical_stream.specs.StreamLine.{head_of, header_number}
 use Rattle.physical_stream.specs.declared.head.Head.{Head}
 use Rattle.cycle_trace.specs.declared.fault.TraceFault.{TraceFault}
 use Rattle.cycle_trace.specs.declared.fault.TraceFault.TheVariants.{BadHeader}
+use Rattle.cycle_trace.specs.declared.header_text.TheConstants.{MOST_STREAMS}
 
 -- the head that a stream line spells after stream lines of these paths: not one of these, and not one too many
 unfoldable pub head_after : List (List ℕ) → List ℕ → Result Head (Unit {0})
 head_after paths line = head_of line >>= λ head.
-    if nat_lt (length paths) 65536 && not (list_any (bytes_eq (path_text head.path)) paths) then Ok head else Err tt
+    if nat_lt (length paths) MOST_STREAMS && not (list_any (bytes_eq (path_text head.path)) paths) then Ok head else Err tt
 
 -- a line that begins with `stream` and a space
 abbrev pub is_head_line : List ℕ → Bool

@@ -11,8 +11,10 @@ use Rattle.cycle_trace.specs.LineBegun.{Begins}
 use Rattle.cycle_trace.specs.RowLayout.{rows_room}
 use Rattle.cycle_trace.specs.Surveying.{IsNextRow}
 use Rattle.tydi_base.specs.TextSet.{HasTexts}
+use Rattle.tydi_base.specs.declared.pieces.TheConstants.{LINE_FEED}
 use Rattle.cycle_trace.specs.Trace.{TraceText, most_cycles, params_of_heads}
 use Rattle.cycle_trace.specs.declared.fault.TraceFault.{TraceFault}
+use Rattle.cycle_trace.specs.declared.header_text.TheConstants.{MOST_STREAMS}
 use Rattle.cycle_trace.specs.declared.line_begun.LineBegun.{LineBegun}
 use Rattle.cycle_trace.specs.declared.fault.TraceFault.TheVariants.{Memory}
 use Rattle.cycle_trace.specs.declared.row_fields.RowBits.{RowBits}
@@ -27,7 +29,7 @@ use Rattle.cycle_trace.specs.declared.trace_reader.TraceReader.{TraceReader}
 pub record ReadsRows (rows : RowsRead) (t : TraceText) : Type 0 where
   pub params : map (λ stream. stream.layout.params) rows.streams.items ≡ params_of_heads t.heads
   pub few_cycles : t.cycles ≤ most_cycles
-  pub few_streams : length t.heads ≤ 65536
+  pub few_streams : length t.heads ≤ MOST_STREAMS
   pub want : rows.want ≡ t.cycles * length t.heads
   pub got : rows.got ≡ length t.rows
   pub within : length t.rows ≤ t.cycles * length t.heads
@@ -58,10 +60,10 @@ header_read text = begun text.cycles text.heads
 
 -- what is known where the line that is begun is this
 abbrev pub StandsAt : {K : Type 0} → (K → Option TraceText → Type 0) → K → TextRead → Stage → (line bytes : List ℕ) → Type 0
-StandsAt stands sink text stages.Title line bytes = stands sink None × Lacks 10 line × HasNoHeads text × Opens bytes line header_start_of
-StandsAt stands sink text stages.Cycles line bytes = stands sink None × Lacks 10 line × HasNoHeads text × Opens bytes line header_start_after
-StandsAt stands sink text stages.Heads line bytes = stands sink None × Lacks 10 line × OpensText text line bytes
-StandsAt stands sink text stages.Rows line bytes = (t : TraceText) × (stands sink (Some t) × Lacks 10 line × ReadsRows text.rows t × GoesOn bytes line t)
+StandsAt stands sink text stages.Title line bytes = stands sink None × Lacks LINE_FEED line × HasNoHeads text × Opens bytes line header_start_of
+StandsAt stands sink text stages.Cycles line bytes = stands sink None × Lacks LINE_FEED line × HasNoHeads text × Opens bytes line header_start_after
+StandsAt stands sink text stages.Heads line bytes = stands sink None × Lacks LINE_FEED line × OpensText text line bytes
+StandsAt stands sink text stages.Rows line bytes = (t : TraceText) × (stands sink (Some t) × Lacks LINE_FEED line × ReadsRows text.rows t × GoesOn bytes line t)
 StandsAt stands sink text (stages.Failed fault) line bytes = Fails bytes fault
 
 abbrev pub Stands : {K : Type 0} → (K → Option TraceText → Type 0) → K → TextRead → (line bytes : List ℕ) → Type 0
@@ -126,13 +128,13 @@ MayLackMemory text bytes = (text.stage ≡ stages.Failed Memory) ⊎ EndsInHeade
 
 -- after a line: what is known where the next one begins, or the fault of every text that begins so
 abbrev pub AfterLine : {K : Type 0} → (K → Option TraceText → Type 0) → K → TextRead → List ℕ → Result (Unit {0}) TraceFault → Type 0
-AfterLine stands sink text bytes (Ok fine) = Stands stands sink text [] (bytes ++ 10 ∷ [])
-AfterLine stands sink text bytes (Err e) = Fails (bytes ++ 10 ∷ []) e
+AfterLine stands sink text bytes (Ok fine) = Stands stands sink text [] (bytes ++ LINE_FEED ∷ [])
+AfterLine stands sink text bytes (Err e) = Fails (bytes ++ LINE_FEED ∷ []) e
 
 -- after the line of a row
 abbrev pub AfterRow : {K : Type 0} → (K → Option TraceText → Type 0) → K → RowsRead → List ℕ → Result (Unit {0}) TraceFault → Type 0
-AfterRow stands sink rows bytes (Ok fine) = (t : TraceText) × (stands sink (Some t) × ReadsRows rows t × GoesOn (bytes ++ 10 ∷ []) [] t)
-AfterRow stands sink rows bytes (Err e) = Fails (bytes ++ 10 ∷ []) e
+AfterRow stands sink rows bytes (Ok fine) = (t : TraceText) × (stands sink (Some t) × ReadsRows rows t × GoesOn (bytes ++ LINE_FEED ∷ []) [] t)
+AfterRow stands sink rows bytes (Err e) = Fails (bytes ++ LINE_FEED ∷ []) e
 
 -- at the end of a text that is read so: the sink stands for the trace, or this is the fault
 abbrev pub Finishes : {K : Type 0} → (K → Option TraceText → Type 0) → Result TraceText TraceFault → Result K TraceFault → Type 0

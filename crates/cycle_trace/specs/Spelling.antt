@@ -3,12 +3,14 @@ use Rattle.std.specs.Prelude.{◌≡◌, ℕ, Bool, if◌then◌else◌, List, [
 use Rattle.std.specs.List.{flat_map}
 use Rattle.tydi_base.specs.Bits.{bits_of}
 use Rattle.tydi_base.specs.Hex.{hex_of}
+use Rattle.tydi_base.specs.declared.words_left.TheConstants.{EQUALS}
 use Rattle.physical_stream.specs.Params.{Parameters}
 use Rattle.physical_stream.specs.StreamLine.{IsHead, LF, head_text, words_text}
 use Rattle.physical_stream.specs.Signals.{has_content, has_last, has_stai, has_endi, has_strb, has_user}
 use Rattle.physical_stream.specs.Cycles.{Cycle}
 use Rattle.physical_stream.specs.declared.transfer.Transfer.{Transfer}
 use Rattle.physical_stream.specs.declared.head.Head.{Head}
+use Rattle.cycle_trace.specs.declared.row_bytes.TheConstants.{DATA_KEY, ENDI_KEY, LAST_KEY, STAI_KEY, STRB_KEY, USER_KEY}
 use Rattle.cycle_trace.specs.Trace.{TraceText, IsTrace, params_of_heads, owed}
 use Rattle.cycle_trace.specs.TraceText.{trace_of}
 
@@ -18,13 +20,13 @@ header_text cycles heads = codes "tydi-trace 1\ncycles " ++ decimal cycles ++ LF
 
 -- a signal: its key, `=` and its value, where the stream has it
 abbrev pub signal_words : Bool → ℕ → List ℕ → List (List ℕ)
-signal_words present key value = if present then (key ∷ 61 ∷ value) ∷ [] else []
+signal_words present key value = if present then (key ∷ EQUALS ∷ value) ∷ [] else []
 
 -- the signals that a stream has, in their order, with these strobe bits
 abbrev pub words_of_signals : Parameters → Transfer → List Bool → List (List ℕ)
 words_of_signals p t strb =
-    signal_words (has_content p) 100 (hex_of t.content) ++ signal_words (has_last p) 108 (hex_of t.last) ++ signal_words (has_stai p) 115 (decimal t.stai)
-    ++ signal_words (has_endi p) 101 (decimal t.endi) ++ signal_words (has_strb p) 98 (hex_of strb) ++ signal_words (has_user p) 117 (hex_of t.user)
+    signal_words (has_content p) DATA_KEY (hex_of t.content) ++ signal_words (has_last p) LAST_KEY (hex_of t.last) ++ signal_words (has_stai p) STAI_KEY (decimal t.stai)
+    ++ signal_words (has_endi p) ENDI_KEY (decimal t.endi) ++ signal_words (has_strb p) STRB_KEY (hex_of strb) ++ signal_words (has_user p) USER_KEY (hex_of t.user)
 
 -- the signals that a stream has of a transfer
 abbrev pub transfer_words : Parameters → Transfer → List (List ℕ)

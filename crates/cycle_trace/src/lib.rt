@@ -16,6 +16,7 @@ mod line_taking;
 mod own_row;
 mod reading;
 mod replaying;
+mod row_bytes;
 mod row_fields;
 mod row_form;
 mod row_layout;

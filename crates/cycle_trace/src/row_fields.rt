@@ -4,6 +4,7 @@ ghost use Rattle.std.specs.Prelude.{◌≡◌, ◌≢◌, ◌≤◌, ◌+◌, �
 ghost use Rattle.tydi_base.specs.Pieces.{words_of};
 ghost use Rattle.tydi_base.specs.Reading.{Gives};
 ghost use Rattle.tydi_base.specs.WordsLeft.{words_left};
+ghost use Rattle.tydi_base.specs.declared.pieces.TheConstants.{SPACE};
 ghost use Rattle.physical_stream.specs.StreamLine.{not_form_in};
 ghost use Rattle.cycle_trace.specs.Faults.{fault_in};
 ghost use Rattle.cycle_trace.specs.RowStart.{row_start};
@@ -12,10 +13,13 @@ ghost use Rattle.cycle_trace.specs.RowKept.{cycle_in, shown_in};
 ghost use Rattle.cycle_trace.specs.Widths.{HasWidths};
 
 use crate::fault::TraceFault;
+use crate::row_bytes::{
+    DATA_KEY, ENDI_KEY, LAST_KEY, ONE_BIT, STAI_KEY, STRB_KEY, USER_KEY, ZERO_BIT,
+};
 use crate::row_form::row_fault;
 use crate::row_layout::{RowLayout, WordSignal};
 use physical_stream::{NotForm, Transfer};
-use tydi_base::{Bits, WordsLeft, hex_number, read_decimal};
+use tydi_base::{Bits, EQUALS, SPACE, WordsLeft, hex_number, read_decimal};
 
 /// The value of the first word, which is this key, `=` and the value; and the words after it.
 #[cold]
@@ -25,7 +29,7 @@ fn value_of<'a>(key: u8, words: WordsLeft<'a>) -> Result<(&'a [u8], WordsLeft<'a
     ensures { Gives not_form_in (λ x. (x.0.now, words_left x.1)) result (spec.value_of key (words_left words.entry)) }
 {
     match words.next_word() {
-        Some(([k, b'=', value @ ..], rest)) if *k == key => Ok((value, rest)),
+        Some(([k, EQUALS, value @ ..], rest)) if *k == key => Ok((value, rest)),
         _ => Err(NotForm),
     }
 }
@@ -120,7 +124,7 @@ fn strobe_field<'a>(
     if !layout.strb.present {
         return Ok((layout.all_lanes, words));
     }
-    let Some((digits, rest)) = words.sized_value(b'b', layout.strb.digits) else {
+    let Some((digits, rest)) = words.sized_value(STRB_KEY, layout.strb.digits) else {
         return Err(NotForm);
     };
     let Some(number) = hex_number(digits) else {
@@ -153,15 +157,15 @@ fn read_transfer(layout: &RowLayout, kept: &mut Transfer, words: WordsLeft) -> R
     ensures widths { HasWidths layout.now.params kept.new }
 {
     let limit = layout.index_limit;
-    let words = read_word(&mut kept.content, layout.content, b'd', words)?;
-    let words = read_word(&mut kept.last, layout.last, b'l', words)?;
-    let (stai, words) = index_field(layout.has_stai, b's', limit, 0, words)?;
+    let words = read_word(&mut kept.content, layout.content, DATA_KEY, words)?;
+    let words = read_word(&mut kept.last, layout.last, LAST_KEY, words)?;
+    let (stai, words) = index_field(layout.has_stai, STAI_KEY, limit, 0, words)?;
     kept.stai = stai;
-    let (endi, words) = index_field(layout.has_endi, b'e', limit, layout.last_lane, words)?;
+    let (endi, words) = index_field(layout.has_endi, ENDI_KEY, limit, layout.last_lane, words)?;
     kept.endi = endi;
     let (strb, words) = strobe_field(layout, words)?;
     kept.strb = strb;
-    let words = read_word(&mut kept.user, layout.user, b'u', words)?;
+    let words = read_word(&mut kept.user, layout.user, USER_KEY, words)?;
     no_more(words)
 }
 
@@ -227,11 +231,11 @@ fn bit_of(word: &[u8]) -> Result<bool, NotForm>
 #[tactic(auto, unfolding(crate::specs::RowText::bit_of))]
 fn bit_in(byte: u8) -> Option<bool>
     ensures bit { IfSome result (λ bit. spec.bit_of (byte ∷ []) ≡ Ok bit) }
-    ensures plain { IfSome result (λ bit. byte ≢ 32) }
+    ensures plain { IfSome result (λ bit. byte ≢ SPACE) }
 {
-    if byte == b'1' {
+    if byte == ONE_BIT {
         Some(true)
-    } else if byte == b'0' {
+    } else if byte == ZERO_BIT {
         Some(false)
     } else {
         None
@@ -243,7 +247,7 @@ fn bit_in(byte: u8) -> Option<bool>
 fn two_bits(line: &[u8]) -> Option<(bool, bool, &[u8])>
     ensures { IfSome result (λ x. row_start (words_of line.now) ≡ Ok (x.0, x.1, words_of x.2.now)) }
 {
-    if line.len() < 4 || line[1] != b' ' || line[3] != b' ' {
+    if line.len() < 4 || line[1] != SPACE || line[3] != SPACE {
         return None;
     }
     let valid = bit_in(line[0])?;

@@ -6,10 +6,13 @@ ghost use Rattle.tydi_base.specs.Hex.{digit_of};
 ghost use Rattle.tydi_base.specs.Pieces.{words_of};
 ghost use Rattle.cycle_trace.specs.RowForm.{Goes, IsForm, fits, is_spelled, row_keys, step};
 ghost use Rattle.cycle_trace.specs.RowText as spec;
+ghost use Rattle.cycle_trace.specs.declared.row_bytes.TheConstants.{ONE_BIT, ZERO_BIT};
 ghost use Rattle.cycle_trace.specs.declared.row_form.RowForm.TheVariants as forms;
 ghost use Rattle.cycle_trace.specs.declared.row_form.ValueKind.TheVariants as kinds;
 
 use crate::fault::TraceFault;
+use crate::row_bytes::{ENDI_KEY, KEYS, ONE_BIT, STAI_KEY, ZERO_BIT};
+use tydi_base::{EQUALS, SPACE};
 
 /// What the value of a key is spelled with.
 #[derive(Clone, Copy, Debug, PartialEq, Eq)]
@@ -66,7 +69,12 @@ impl RowForm {
             RowForm::Dash => RowForm::No,
             RowForm::Signal(next) => after_signal(next, byte),
             RowForm::Sign(next, kind) => {
-                step(byte, RowForm::No, byte == b'=', RowForm::Value(next, kind))
+                step(
+                    byte,
+                    RowForm::No,
+                    byte == EQUALS,
+                    RowForm::Value(next, kind),
+                )
             }
             RowForm::Value(next, ValueKind::Hex) => {
                 step(byte, RowForm::No, is_hex_digit(byte), RowForm::Hex(next))
@@ -131,7 +139,7 @@ pub(crate) fn row_fault(number: u64, line: &[u8]) -> TraceFault
 fn step(byte: u8, at_space: RowForm, test: bool, otherwise: RowForm) -> RowForm
     ensures { result ≡ step byte at_space test otherwise }
 {
-    if byte == b' ' {
+    if byte == SPACE {
         at_space
     } else if test {
         otherwise
@@ -167,14 +175,14 @@ fn key_at(number: u8) -> u8
     requires { number < 6 }
     ensures { result ≡ slice_index row_keys number }
 {
-    b"dlsebu"[usize::from(number)]
+    KEYS[usize::from(number)]
 }
 
 /// What the value of this key is spelled with.
 fn kind_of(key: u8) -> ValueKind
     ensures { (digits : List ℕ) → spec.is_value key digits ≡ is_spelled result digits }
 {
-    if key == b's' || key == b'e' {
+    if key == STAI_KEY || key == ENDI_KEY {
         ValueKind::Index
     } else {
         ValueKind::Hex
@@ -214,9 +222,9 @@ fn after_digit(next: u8, left: u8, byte: u8) -> RowForm
 
 /// Whether a byte is a bit.
 fn is_bit(byte: u8) -> bool
-    ensures { result ≡ ((byte == 48) || (byte == 49)) }
+    ensures { result ≡ ((byte == ZERO_BIT) || (byte == ONE_BIT)) }
 {
-    byte == b'0' || byte == b'1'
+    byte == ZERO_BIT || byte == ONE_BIT
 }
 
 /// Whether a byte is a hexadecimal digit, `0` to `9` or `a` to `f`.

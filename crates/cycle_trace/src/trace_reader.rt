@@ -14,7 +14,7 @@ use crate::line_taking::{finish_text, take_begun, take_line};
 use crate::row_sink::RowSink;
 use crate::text_read::{Stage, TextRead};
 use std::alloc::Global;
-use tydi_base::{Memory, first_piece};
+use tydi_base::{LINE_FEED, Memory, first_piece};
 
 /// Reads a trace whose text comes in pieces. Its rows go into a sink as they come.
 #[derive(Debug, Drop)]
@@ -50,7 +50,7 @@ impl<K: RowSink> TraceReader<K> {
         ensures calm { (bytes : List ℕ) → StandsFor K.stands_for self.old bytes → K.fixed self.old.sink ≡ true → HoldsHeader bytes → IsSpent self.new → IsSpent self.old }
     {
         let mut rest = piece;
-        'lines: while let Some((front, after)) = first_piece(rest, b'\n') {
+        'lines: while let Some((front, after)) = first_piece(rest, LINE_FEED) {
             self.end_line(alloc, front);
             rest = after;
         }

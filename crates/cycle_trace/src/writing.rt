@@ -12,10 +12,11 @@ ghost use Rattle.cycle_trace.specs.Spelling.{bit_text, header_text, or_dash, row
 ghost use Rattle.cycle_trace.specs.Trace.{are_heads, most_cycles};
 ghost use Rattle.cycle_trace.specs.Writing.{spaced};
 
+use crate::row_bytes::{DATA_KEY, ENDI_KEY, LAST_KEY, STAI_KEY, STRB_KEY, USER_KEY};
 use physical_stream::{Head, Header, Params, Row, StreamLine, Transfer};
 use signal_layout::Signals;
 use std::alloc::Global;
-use tydi_base::{Bits, Hex, List, Memory, Written, emit};
+use tydi_base::{Bits, EQUALS, Hex, List, Memory, SPACE, Written, emit};
 
 /// Adds the text of a header at the end. After `Memory` the list is as before.
 pub fn write_header(_alloc: Global, out: &mut List<u8>, header: &Header) -> Result<(), Memory>
@@ -113,12 +114,12 @@ impl Payload<'_> {
         let transfer = self.transfer;
         emit!(
             out;
-            SignalWord { width: widths.content, key: b'd', value: Hex(&transfer.content) },
-            SignalWord { width: widths.last, key: b'l', value: Hex(&transfer.last) },
-            SignalWord { width: widths.stai, key: b's', value: transfer.stai },
-            SignalWord { width: widths.endi, key: b'e', value: transfer.endi },
-            SignalWord { width: widths.strb, key: b'b', value: Hex(self.strb) },
-            SignalWord { width: widths.user, key: b'u', value: Hex(&transfer.user) },
+            SignalWord { width: widths.content, key: DATA_KEY, value: Hex(&transfer.content) },
+            SignalWord { width: widths.last, key: LAST_KEY, value: Hex(&transfer.last) },
+            SignalWord { width: widths.stai, key: STAI_KEY, value: transfer.stai },
+            SignalWord { width: widths.endi, key: ENDI_KEY, value: transfer.endi },
+            SignalWord { width: widths.strb, key: STRB_KEY, value: Hex(self.strb) },
+            SignalWord { width: widths.user, key: USER_KEY, value: Hex(&transfer.user) },
         )
     }
 }
@@ -138,7 +139,7 @@ impl<T: Written> Written for SignalWord<T> {
         if self.width.is_none() {
             return Ok(());
         }
-        out.extend_from_slice(&[b' ', self.key, b'='])?;
+        out.extend_from_slice(&[SPACE, self.key, EQUALS])?;
         self.value.write_to(out)
     }
 }
