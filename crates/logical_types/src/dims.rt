@@ -1,6 +1,6 @@
 //! How many dimensions the Streams in a type have, whatever is around it.
 
-ghost use Rattle.std.specs.Prelude.{IsTrue};
+ghost use Rattle.std.specs.Prelude.{◌≡◌, IsTrue};
 ghost use Rattle.logical_types.specs.Faults.{outermost};
 ghost use Rattle.logical_types.specs.Summary.{AreDimsIn, AreDimsJoined, HasDims};
 
@@ -17,7 +17,10 @@ pub struct Dims {
 }
 
 /// The dimensions of a type without Streams.
-pub fn no_dims() -> Dims {
+pub fn no_dims() -> Dims
+    ensures over { result.over ≡ 0 }
+    ensures own { result.own ≡ 0 }
+{
     Dims { over: 0, own: 0 }
 }
 
