@@ -1,6 +1,7 @@
 //! Bytes of which few are kept in place.
 
-ghost use Rattle.std.specs.Prelude.{◌≡◌, ◌≤◌, IfSome, IsNone, ◌↔◌, ◌<◌, length};
+ghost use Rattle.std.specs.Prelude.{◌≡◌, ◌<◌, MatchOption, length};
+ghost use Rattle.tydi_base.specs.declared.few_bytes.TheConstants.{IN_PLACE};
 
 use std::marker::Model;
 
@@ -26,9 +27,9 @@ impl Model for FewBytes {
 }
 
 impl FewBytes {
-    /// These bytes, where they have room in place. It takes no memory.
+    /// These bytes. None exactly where they have no room in place. It takes no memory.
     pub(crate) fn new(bytes: &[u8]) -> Option<FewBytes>
-        ensures { IfSome result (λ few. few ≡ bytes.now) }
+        ensures { MatchOption result (IN_PLACE < length bytes.now) (λ few. few ≡ bytes.now) }
     {
         if bytes.len() > IN_PLACE {
             return None;
