@@ -93,13 +93,10 @@ module _ (p : Parameters) (before : List Cycle) (now : Cycle) where
   lowest_of_all None from = λ rule b. from rule (one_least rule) b
   lowest_of_all (Some lowest) from = (from.0, λ rule b. from.1 rule (one_least rule) b)
 
--- ---- the rules on a cycle with valid, and on one without
+-- ---- the rules on a cycle with valid
 
 abbrev showing : Bool → Transfer → Cycle
 showing ready t = record { ready = ready; shown = Some t }
-
-abbrev pausing : Bool → Cycle
-pausing ready = record { ready = ready; shown = None }
 
 not_held : (before : List Cycle) (now : Cycle) → waiting_of before ≡ None → BreaksHold before now → ⊥
 not_held before now free b = let clash : None ≡ Some b.offered = sym free ∙ b.waits in cc
@@ -109,22 +106,23 @@ module _ (p : Parameters) (before : List Cycle) (ready : Bool) (t : Transfer) wh
   FromShown n lowest = IsLowestFrom p before (showing ready t) n lowest
 
   -- the last rules that a cycle can break which shows a transfer: a pause is none
-  pub lowest_nest : (tail : Option Tail) (walk : Walk) (nest : Bool) → tail ≡ tail_of (items_done p before) → Finds p.dims tail (items_of p t) walk →
+  lowest_nest : (tail : Option Tail) (walk : Walk) (nest : Bool) → tail ≡ tail_of (items_done p before) → Finds p.dims tail (items_of p t) walk →
       nest ≡ is_broken p.level Nest walk.misplaced → FromShown 8 (if nest then Some Nest else None)
   lowest_nest tail walk nest last_is found is =
       let now = showing ready t in
       let lowest = if nest then Some Nest else None in
       let is_nest = broken_test p before now Nest walk.misplaced nest is (nest_test p (items_done p before) t tail walk last_is found) in
-      lowest_skip p before now 8 InnerPause lowest refl (λ b. b.1) (lowest_skip p before now 9 OuterPause lowest refl (λ b. b.1) (
-      lowest_step p before now 10 Nest nest None refl is_nest (λ no. lowest_top p before now)
-      ))
+      let at_nest = lowest_step p before now 10 Nest nest None refl is_nest (λ no. lowest_top p before now) in
+      lowest_skip p before now 8 InnerPause lowest refl (λ b. b.1) (lowest_skip p before now 9 OuterPause lowest refl (λ b. b.1) at_nest)
 
-  pub lowest_empty : (tail : Option Tail) (walk : Walk) (empty : Bool) (higher : Option Rule) → tail ≡ tail_of (items_done p before) → Finds p.dims tail (items_of p t) walk →
-      empty ≡ is_broken p.level Empty (not walk.active && misses_empty tail walk.first_close) → (empty ≡ false → FromShown 8 higher) → FromShown 7 (if empty then Some Empty else higher)
-  lowest_empty tail walk empty higher last_is found is above =
+  pub lowest_items : (tail : Option Tail) (walk : Walk) (empty nest : Bool) → tail ≡ tail_of (items_done p before) → Finds p.dims tail (items_of p t) walk →
+      empty ≡ is_broken p.level Empty (not walk.active && misses_empty tail walk.first_close) → (empty ≡ false → nest ≡ is_broken p.level Nest walk.misplaced) →
+      FromShown 7 (if empty then Some Empty else (if nest then Some Nest else None))
+  lowest_items tail walk empty nest last_is found is_empty is_nest =
       let now = showing ready t in
       let misses = not walk.active && misses_empty tail walk.first_close in
-      lowest_step p before now 7 Empty empty higher refl (broken_test p before now Empty misses empty is (empty_test p (items_done p before) t tail walk misses last_is found refl)) above
+      let tells = broken_test p before now Empty misses empty is_empty (empty_test p (items_done p before) t tail walk misses last_is found refl) in
+      lowest_step p before now 7 Empty empty (if nest then Some Nest else None) refl tells (λ no. lowest_nest tail walk nest last_is found (is_nest no))
 
   -- the rules before them, none of which is broken
   pub lowest_lanes : (early : Bool) (higher : Option Rule) → (IsTrue false ↔ (Binds Index p.level × BreaksIndex p t)) → false ≡ is_broken p.level LaneLast early → (IsTrue early ↔ BreaksLaneLast p t) →
