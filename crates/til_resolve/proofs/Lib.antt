@@ -25,6 +25,7 @@ pub mod StableLemmas
 mod ShapeLemmas
 mod ChainLemmas
 mod TableLemmas
+mod EntryLemmas
 mod SummaryLemmas
 mod WrittenLemmas
 mod MisshapenLemmas

@@ -14,9 +14,9 @@ use Rattle.logical_types.specs.Tree.{Ltype, Parts}
 use Rattle.til_resolve.specs.declared.shape.Shape.{Shape}
 use Rattle.til_resolve.specs.Cycles.{NamesType, paths_of_alias}
 use Rattle.til_resolve.specs.Declarations.{Declaration, declaration, named_as, is_type}
-use Rattle.til_resolve.specs.Graph.{rank_of, type_graph}
+use Rattle.til_resolve.specs.Tables.{IsMadeOf}
 use Rattle.til_resolve.specs.Names.{paths_in, paths_in_parts}
-use Rattle.til_resolve.specs.Shapes.{shape_of, leaf, nothing, beside, around, shape_by, shape_by_parts, shape_by_list, shape_at, shape_of_number, shape_named, shape_of_kind, declared_shape, round, type_at, HasShape, IsTable, IsOwnRound, IsRanked}
+use Rattle.til_resolve.specs.Shapes.{shape_of, leaf, nothing, beside, around, shape_by, shape_by_parts, shape_by_list, shape_at, shape_of_number, shape_named, shape_of_kind, declared_shape, type_at, IsShape, IsTable}
 use Rattle.til_resolve.specs.Types.{number_of_nodes, nodes_in_parts, depth_of, depth_of_parts, replaced, replaced_parts, type_by, meaning_of, type_of}
 use Rattle.til_resolve.proofs.MeaningLemmas.{type_of_named, meant-named}
 use Rattle.til_resolve.proofs.TypeGraphLemmas.{each-at, length-type_graph, Leads-NamesType, named-within}
@@ -133,17 +133,17 @@ mutual
 -- ---- what a path means
 
 shape-meant : (all : List Declaration) (depth : ℕ) (table : List Shape) (space : List (List ℕ)) (path : AstPath)
-    → ((n : ℕ) → named_as is_type all space path ≡ Some n → HasShape all depth table n)
+    → ((n : ℕ) → named_as is_type all space path ≡ Some n → IsShape all depth n (shape_at table n))
     → shape_named all table space path.names ≡ shape_of (meaning_of all depth space path.names)
 shape-meant all depth table space path has = by (named_as is_type all space path) has ∙ ap shape_of (sym (meant-named all depth space path))
   where
-    by : (o : Option ℕ) → ((n : ℕ) → o ≡ Some n → HasShape all depth table n) → shape_of_number table o ≡ shape_of (type_of_named all depth o)
+    by : (o : Option ℕ) → ((n : ℕ) → o ≡ Some n → IsShape all depth n (shape_at table n)) → shape_of_number table o ≡ shape_of (type_of_named all depth o)
     by None is = refl
     by (Some n) is = is n refl
 
 -- the shape of a written type is right where it is for the types that are named
 shape-written : (all : List Declaration) (depth : ℕ) (table : List Shape) (space : List (List ℕ)) (t : tree.Ltype)
-    → ((path : AstPath) (n : ℕ) → Contains (paths_in t) path → named_as is_type all space path ≡ Some n → HasShape all depth table n)
+    → ((path : AstPath) (n : ℕ) → Contains (paths_in t) path → named_as is_type all space path ≡ Some n → IsShape all depth n (shape_at table n))
     → shape_by (shape_named all table space) t ≡ shape_of (replaced (meaning_of all depth space) t)
 shape-written all depth table space t has =
     shape_by-same (shape_named all table space) (λ names. shape_of (meaning_of all depth space names)) t
@@ -151,14 +151,14 @@ shape-written all depth table space t has =
     ∙ sym (shape-replaced (meaning_of all depth space) t)
 
 -- the same of a declaration, whose type has one name more replaced
-shape-declared : (all : List Declaration) (depth : ℕ) (table : List Shape) (one : ℕ) → ((n : ℕ) → NamesType all one n → HasShape all depth table n)
+shape-declared : (all : List Declaration) (depth : ℕ) (table : List Shape) (one : ℕ) → ((n : ℕ) → NamesType all one n → IsShape all depth n (shape_at table n))
     → declared_shape all table (declaration all one) ≡ shape_of (type_at all (suc depth) one)
 shape-declared all depth table one has =
     let d = declaration all one in
     by d.space d.name d.kind (λ path n there is. has n (record { path = path; written = there; names = is }))
   where
     by : (space : List (List ℕ)) (name : AstName) (kind : AstKind)
-        → ((path : AstPath) (n : ℕ) → Contains (paths_of_alias kind) path → named_as is_type all space path ≡ Some n → HasShape all depth table n)
+        → ((path : AstPath) (n : ℕ) → Contains (paths_of_alias kind) path → named_as is_type all space path ≡ Some n → IsShape all depth n (shape_at table n))
         → shape_of_kind all table space kind ≡ shape_of (type_by (meaning_of all depth) (record { space = space; name = name; kind = kind }))
     by space name (decls.Alias ltype) there = shape-written all depth table space (plain ltype) there
     by space name (decls.Interface listed) there = refl
@@ -168,45 +168,9 @@ shape-declared all depth table one has =
 
 -- ---- tables
 
--- before the first round each type is the least
-pub table-none : (all : List Declaration) → IsTable all 0 []
-table-none all = record { each = λ one within. refl }
-
-pub table-next : (all : List Declaration) (depth : ℕ) (table next : List Shape) → next ≡ round all table (length all) → IsTable all depth table → IsTable all (depth + 1) next
-table-next all depth table next is so = record { each = λ one within. by one within }
-  where
-    more : suc depth ≡ depth + 1
-    more = omega arith
-
-    by : (one : ℕ) → one < length all → HasShape all (depth + 1) next one
-    by one within =
-        ap (λ (l : List Shape). shape_at l one) is
-        ∙ each-at (λ n. declared_shape all table (declaration all n)) (length all) one leaf within
-        ∙ shape-declared all depth table one (λ n names. so.each n (named-within is_type all (declaration all one).space names.path n names.names))
-        ∙ ap (λ k. shape_of (type_at all k one)) more
-
--- a table that is its own next round is right up to each rank
-up_to : (all : List Declaration) (ranks : List ℕ) (table : List Shape) → ((one : ℕ) → one < length all → IsRanked ranks (type_graph all (length all)) one)
-    → IsOwnRound all table (length all) → (depth one : ℕ) → one < length all → rank_of ranks one ≤ depth → HasShape all depth table one
-up_to all ranks table ranked own zero one within low = absurd (omega (arith, low, (ranked one within).above))
-up_to all ranks table ranked own (suc less) one within low =
-    own one within
-    ∙ shape-declared all less table one (λ n names.
-    up_to all ranks table ranked own less n (named-within is_type all (declaration all one).space names.path n names.names)
-    (omega (arith, low, (ranked one within).falls n (Leads-NamesType all one n names))))
-
-pub table-by_ranks : (all : List Declaration) (ranks : List ℕ) (table : List Shape) (graph : List (List ℕ)) → graph ≡ type_graph all (length all)
-    → ((one : ℕ) → one < length graph → IsRanked ranks graph one) → IsOwnRound all table (length all) → IsTable all (length all) table
-table-by_ranks all ranks table graph is ranked own = record { each = λ one within. up_to all ranks table by own (length all) one within (bound one within) }
-  where
-    long : length graph ≡ length all
-    long = ap (λ (g : List (List ℕ)). length g) is ∙ length-type_graph all
-
-    by : (one : ℕ) → one < length all → IsRanked ranks (type_graph all (length all)) one
-    by one within = subst (λ (g : List (List ℕ)). IsRanked ranks g one) is (ranked one (omega (arith, within, long)))
-
-    bound : (one : ℕ) → one < length all → rank_of ranks one ≤ length all
-    bound one within = omega (arith, (by one within).within, length-type_graph all)
+-- a shape that is made of a table that is ready for that
+pub shape-made : (all : List Declaration) (table : List Shape) (one : ℕ) (made : Shape) → made ≡ declared_shape all table (declaration all one) → IsMadeOf leaf IsShape all one table made
+shape-made all table one made is = λ depth ready. is ∙ shape-declared all depth table one ready.named
 
 -- the shape of a written type by a table of all
 pub shape-by_table : (all : List Declaration) (table : List Shape) (space : List (List ℕ)) (t : tree.Ltype) → IsTable all (length all) table

@@ -22,13 +22,13 @@ use Rattle.logical_types.specs.Tree.{Ltype, null, bits, group, union, stream, Pa
 use Rattle.logical_types.proofs.PlainLemmas.{plain-Null, plain-Bits, plain-Group, plain-Union, plain-Stream}
 use Rattle.til_resolve.specs.Cycles.{NamesType, paths_of_alias}
 use Rattle.til_resolve.specs.Declarations.{Declaration, declaration, named_as, is_type}
-use Rattle.til_resolve.specs.Graph.{rank_of, type_graph}
 use Rattle.til_resolve.specs.Names.{paths_in}
-use Rattle.til_resolve.specs.Shapes.{type_at, IsRanked}
-use Rattle.til_resolve.specs.SharedTypes.{ltype_at, ltype_of_number, type_named, replaced_list, type_of_kind, declared_type, AreTypes, IsNextRound, AreOrdered, AreTypesBelow}
+use Rattle.til_resolve.specs.Shapes.{type_at}
+use Rattle.til_resolve.specs.SharedTypes.{ltype_at, ltype_of_number, type_named, replaced_list, type_of_kind, declared_type, AreTypes, IsTypeAt}
+use Rattle.til_resolve.specs.Tables.{IsMadeOf}
 use Rattle.til_resolve.specs.Types.{replaced, replaced_parts, settings_of, is_stream, type_by, meaning_of, type_of}
 use Rattle.til_resolve.proofs.MeaningLemmas.{type_of_named, meant-named, replaced-same}
-use Rattle.til_resolve.proofs.TypeGraphLemmas.{length-type_graph, Leads-NamesType, named-within}
+use Rattle.til_resolve.proofs.TypeGraphLemmas.{named-within}
 
 -- ---- written types as plain data, their names replaced
 
@@ -129,6 +129,10 @@ type-declared all depth table one has =
     by space name (decls.Impl target body) there = refl
     by space name (decls.Test target port value plan) there = refl
 
+-- a type that is made of a table that is ready for that
+pub type-made : (all : List Declaration) (table : List LType) (one : ℕ) (made : LType) → plain made ≡ declared_type all table (declaration all one) → IsMadeOf types.Null IsTypeAt all one table made
+type-made all table one made is = λ depth ready. is ∙ type-declared all depth table one ready.named
+
 -- a written type by a table of all
 pub type-by_table : (all : List Declaration) (table : List LType) (space : List (List ℕ)) (t : tree.Ltype) → AreTypes all (length all) table
     → replaced (type_named all table space) t ≡ type_of all space t
@@ -149,106 +153,3 @@ no_stream made (inl is) = ap (λ (t : LType). is_stream (plain t)) is ∙ ap is_
 no_stream made (inr (inl is)) = ap (λ (t : LType). is_stream (plain t)) is.1 ∙ ap is_stream (plain-Bits is.0)
 no_stream made (inr (inr (inl is))) = ap (λ (t : LType). is_stream (plain t)) is.1 ∙ ap is_stream (plain-Group is.0)
 no_stream made (inr (inr (inr is))) = ap (λ (t : LType). is_stream (plain t)) is.1 ∙ ap is_stream (plain-Union is.0)
-
--- ---- round by round
-
--- before the first round each type is Null
-pub AreTypes-none : (all : List Declaration) → AreTypes all 0 []
-AreTypes-none all = record { each = λ one within. plain-Null }
-
-pub IsNextRound-none : (all : List Declaration) (table : List LType) → IsNextRound all table 0 []
-IsNextRound-none all table = record { long = refl; each = λ one within. absurd (omega (arith, within)) }
-
-pub IsNextRound-more : (all : List Declaration) (table next new : List LType) (number : ℕ) (made : LType) → new ≡ next ++ made ∷ []
-    → plain made ≡ declared_type all table (declaration all number) → IsNextRound all table number next → IsNextRound all table (number + 1) new
-IsNextRound-more all table next new number made pushes is so = record {
-  long = ap (λ (l : List LType). length l) pushes ∙ length-append next (made ∷ []) ∙ ap (λ (n : ℕ). n + 1) so.long;
-  each = λ one within. ap (λ (l : List LType). ltype_at l one) pushes ∙ by one (omega (arith, within)) (cases_eq one number);
-}
-  where
-    by : (one : ℕ) → one ≤ number → (one ≡ number) ⊎ (one ≢ number) → ltype_at (next ++ made ∷ []) one ≡ declared_type all table (declaration all one)
-    by one within (inl same) =
-        ap (λ (k : ℕ). ltype_at (next ++ made ∷ []) k) (same ∙ sym so.long) ∙ ap plain (get_or-append_seam next made [] types.Null) ∙ is
-        ∙ ap (λ (k : ℕ). declared_type all table (declaration all k)) (sym same)
-    by one within (inr other) =
-        ap plain (get_or_append_left next (made ∷ []) types.Null one (omega (arith, within, other, so.long))) ∙ so.each one (omega (arith, within, other))
-
-pub AreTypes-next : (all : List Declaration) (depth : ℕ) (table next : List LType) → IsNextRound all table (length all) next → AreTypes all depth table → AreTypes all (depth + 1) next
-AreTypes-next all depth table next is so = record { each = λ one within. by one within }
-  where
-    more : suc depth ≡ depth + 1
-    more = omega arith
-
-    by : (one : ℕ) → one < length all → ltype_at next one ≡ type_at all (depth + 1) one
-    by one within =
-        is.each one within
-        ∙ type-declared all depth table one (λ n names. so.each n (named-within is_type all (declaration all one).space names.path n names.names))
-        ∙ ap (λ k. type_at all k one) more
-
--- ---- by ranks
-
-ltype_at-set_same : (table : List LType) (number : ℕ) (made : LType) → number < length table → ltype_at (set table number made) number ≡ plain made
-ltype_at-set_same table number made within = ap plain (get_or-set_same table number made types.Null within)
-
-ltype_at-set_other : (table : List LType) (number one : ℕ) (made : LType) → one ≢ number → ltype_at (set table number made) one ≡ ltype_at table one
-ltype_at-set_other table number one made other = ap plain (get_or-set_other table number one made types.Null other)
-
-module _ (all : List Declaration) (ranks order : List ℕ) (graph : List (List ℕ)) (is : graph ≡ type_graph all (length all))
-    (ranked : (one : ℕ) → one < length graph → IsRanked ranks graph one) (ordered : AreOrdered ranks order (length all)) where
-  here : (one : ℕ) → one < length all → IsRanked ranks (type_graph all (length all)) one
-  here one within =
-      let long = ap (λ (g : List (List ℕ)). length g) is ∙ length-type_graph all in
-      subst (λ (g : List (List ℕ)). IsRanked ranks g one) is (ranked one (omega (arith, within, long)))
-
-  pub AreTypesBelow-none : (table : List LType) → length table ≡ length all → AreTypesBelow all ranks table 0
-  AreTypesBelow-none table long = record { long = long; each = λ one depth within low enough. absurd (omega (arith, low)) }
-
-  -- the type of a declaration whose rank is no higher than what is reached, by what it names
-  declared-right : (table : List LType) (end one depth : ℕ) → AreTypesBelow all ranks table end → one < length all → rank_of ranks one ≤ end → rank_of ranks one ≤ depth
-      → declared_type all table (declaration all one) ≡ type_at all depth one
-  declared-right table end one zero so within low enough = absurd (omega (arith, enough, (here one within).above))
-  declared-right table end one (suc depth) so within low enough =
-      type-declared all depth table one
-      (λ n names.
-      let falls = (here one within).falls n (Leads-NamesType all one n names) in
-      so.each n depth (named-within is_type all (declaration all one).space names.path n names.names) (omega (arith, falls, low)) (omega (arith, falls, enough)))
-
-  -- the number that stands at a rank
-  at_rank : (one i number : ℕ) → one < length all → rank_of ranks one ≡ i → number ≡ get_or order i 0 → one ≡ number
-  at_rank one i number within rank item =
-      sym (get_or_from_slice_get order (rank_of ranks one) one 0 (ordered one within)) ∙ ap (λ (k : ℕ). get_or order k 0) rank ∙ sym item
-
-  pub AreTypesBelow-more : (table new : List LType) (i number : ℕ) (made : LType) → number ≡ get_or order i 0 → number < length all
-      → plain made ≡ declared_type all table (declaration all number) → new ≡ set table number made → AreTypesBelow all ranks table i → AreTypesBelow all ranks new (i + 1)
-  AreTypesBelow-more table new i number made item inside made_is new_is so = record {
-    long = ap (λ (l : List LType). length l) new_is ∙ length-set table number made ∙ so.long;
-    each = λ one depth within low enough. ap (λ (l : List LType). ltype_at l one) new_is ∙ by one depth within (omega (arith, low)) enough (cases_eq one number);
-  }
-    where
-      by : (one depth : ℕ) → one < length all → rank_of ranks one ≤ i → rank_of ranks one ≤ depth → (one ≡ number) ⊎ (one ≢ number)
-          → ltype_at (set table number made) one ≡ type_at all depth one
-      by one depth within low enough (inl same) =
-          ap (λ (k : ℕ). ltype_at (set table number made) k) same ∙ ltype_at-set_same table number made (omega (arith, inside, so.long)) ∙ made_is
-          ∙ ap (λ (k : ℕ). declared_type all table (declaration all k)) (sym same) ∙ declared-right table i one depth so within low enough
-      by one depth within low enough (inr other) =
-          ltype_at-set_other table number one made other ∙ so.each one depth within (below (cases_eq (rank_of ranks one) i)) enough
-        where
-          below : (rank_of ranks one ≡ i) ⊎ (rank_of ranks one ≢ i) → rank_of ranks one < i
-          below (inl rank) = absurd (other (at_rank one i number within rank item))
-          below (inr apart) = omega (arith, low, apart)
-
-  -- what stands there is no declaration
-  pub AreTypesBelow-past : (table : List LType) (i number : ℕ) → number ≡ get_or order i 0 → length all ≤ number → AreTypesBelow all ranks table i → AreTypesBelow all ranks table (i + 1)
-  AreTypesBelow-past table i number item past so = record { long = so.long; each = λ one depth within low enough. so.each one depth within (below one within (omega (arith, low)) (cases_eq (rank_of ranks one) i)) enough }
-    where
-      below : (one : ℕ) → one < length all → rank_of ranks one ≤ i → (rank_of ranks one ≡ i) ⊎ (rank_of ranks one ≢ i) → rank_of ranks one < i
-      below one within low (inl rank) = absurd (omega (arith, within, past, at_rank one i number within rank item))
-      below one within low (inr apart) = omega (arith, low, apart)
-
-  pub AreTypesBelow-all : (table : List LType) (i : ℕ) → length order ≤ i → AreTypesBelow all ranks table i → AreTypes all (length all) table
-  AreTypesBelow-all table i done so = record {
-    each = λ one within.
-        let stands = slice_get_within order (rank_of ranks one) one (ordered one within) in
-        let bound = (here one within).within in
-        so.each one (length all) within (omega (arith, stands, done)) (omega (arith, bound, length-type_graph all));
-  }

@@ -1,23 +1,23 @@
 -- Summaries of written types, and tables of the summaries of declarations.
-use Rattle.std.proofs.Common.{◌≡◌, ℕ, suc, ◌+◌, ◌<◌, ◌≤◌, List, [], ◌∷◌, length, get_or, set, drop, replicate, Option, None, IfSome, refl, sym, ap, subst, ◌∙◌, arith}
+use Rattle.std.proofs.Common.{◌≡◌, ℕ, suc, ◌+◌, ◌<◌, ◌≤◌, ◌⊎◌, inl, inr, List, [], ◌∷◌, length, get_or, drop, Option, Some, None, IfSome, refl, sym, ap, subst, ◌∙◌}
 use Rattle.std.proofs.lemmas.List.{drop_more, drop_all}
 use Rattle.til_parser.specs.declared.ltype.AstPart.{AstPart}
 use Rattle.til_parser.specs.declared.ltype.AstType.{AstType}
 use Rattle.til_parser.specs.declared.ltype.AstType.TheVariants as written
 use Rattle.til_parser.specs.declared.tree.AstName.{AstName}
+use Rattle.til_parser.specs.declared.tree.AstPath.{AstPath}
 use Rattle.til_parser.specs.Tree as tree
 use Rattle.logical_types.specs.Summary.{IsSummary}
 use Rattle.logical_types.specs.declared.summary.Summary.{Summary}
 use Rattle.logical_types.specs.Tree.{Ltype, group, union, no_parts, part, names_of, number_of_parts}
 use Rattle.til_resolve.specs.SharedTypes.{replaced_list}
-use Rattle.til_resolve.specs.Summaries.{AreSummaries, summary_at, written_names}
-use Rattle.til_resolve.specs.BadTypes.{AreAcyclic}
-use Rattle.til_resolve.specs.Declarations.{Declaration}
-use Rattle.til_resolve.specs.Shapes.{type_at}
-use Rattle.til_resolve.specs.Types.{replaced}
+use Rattle.til_resolve.specs.Summaries.{AreSummaries, IsSummaryAt, summary_at, written_names}
+use Rattle.til_resolve.specs.Tables.{IsReady}
+use Rattle.til_resolve.specs.Declarations.{Declaration, named_as, is_type}
+use Rattle.til_resolve.specs.Types.{meaning_of, replaced}
+use Rattle.til_resolve.proofs.MeaningLemmas.{type_of_named, meant-named}
 use Rattle.til_resolve.proofs.SharedTypeLemmas.{replaced-Group, replaced-Union}
-use Rattle.til_resolve.proofs.StableLemmas.{still}
-use Rattle.til_resolve.proofs.TableLemmas.{get_or-replicate, each-kept}
+use Rattle.til_resolve.proofs.TypeGraphLemmas.{named-within}
 
 -- ---- written parts
 
@@ -52,15 +52,17 @@ union-written meaning ltype parts listed_parts is same =
 
 -- ---- tables
 
-pub AreSummaries-none : (all : List Declaration) (n : ℕ) (table : List (Option Summary)) → table ≡ replicate n None → AreSummaries all table
-AreSummaries-none all n table is = record {
-  each = λ one. subst (λ (o : Option Summary). IfSome o (IsSummary (type_at all (length all) one))) (sym (ap (λ (l : List (Option Summary)). summary_at l one) is ∙ get_or-replicate None n one)) tt;
-}
+-- a table that is ready for a declaration has a summary of each other, or none
+pub AreSummaries-ready : (all : List Declaration) (depth number : ℕ) (table : List (Option Summary)) → IsReady None IsSummaryAt all depth number table → AreSummaries all depth table
+AreSummaries-ready all depth number table ready = record { each = λ one within. by one (ready.rest one within) }
+  where
+    by : (one : ℕ) → (summary_at table one ≡ None) ⊎ IsSummaryAt all depth one (summary_at table one) → IsSummaryAt all depth one (summary_at table one)
+    by one (inl none) = subst (λ (o : Option Summary). IsSummaryAt all depth one o) (sym none) tt
+    by one (inr is) = is
 
--- one summary more, of a declaration whose type stays as it is with one name more replaced
-pub AreSummaries-more : (all : List Declaration) (old new : List (Option Summary)) (number : ℕ) (summary : Option Summary) → AreAcyclic all → number < length all → new ≡ set old number summary
-    → IfSome summary (IsSummary (type_at all (suc (length all)) number)) → AreSummaries all old → AreSummaries all new
-AreSummaries-more all old new number summary acyclic within is right so = record {
-  each = each-kept None (λ one o. IfSome o (IsSummary (type_at all (length all) one))) old new number summary is
-      (subst (λ (t : Ltype). IfSome summary (IsSummary t)) (still all acyclic (length all) number within (omega arith)) right) so.each;
-}
+-- the summary of what a path names
+pub summary-named : (all : List Declaration) (depth : ℕ) (table : List (Option Summary)) (space : List (List ℕ)) (path : AstPath) (target : ℕ) → named_as is_type all space path ≡ Some target
+    → AreSummaries all depth table → IfSome (summary_at table target) (IsSummary (meaning_of all depth space path.names))
+summary-named all depth table space path target names so =
+    subst (λ (t : Ltype). IfSome (summary_at table target) (IsSummary t)) (sym (meant-named all depth space path ∙ ap (type_of_named all depth) names))
+    (so.each target (named-within is_type all space path target names))

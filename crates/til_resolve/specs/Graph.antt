@@ -1,5 +1,5 @@
 -- Things that lead to one another, by their numbers. It serves the search for cycles, and no public clause.
-use Rattle.std.specs.Prelude.{◌≡◌, ℕ, ◌+◌, ◌<◌, ◌≤◌, ◌⊎◌, Bool, false, true, not, List, [], ◌∷◌, ◌++◌, length, slice_index_or, Contains, if◌then◌else◌}
+use Rattle.std.specs.Prelude.{◌≡◌, ℕ, ◌+◌, ◌<◌, ◌≤◌, ◌⊎◌, Bool, false, true, not, List, [], ◌∷◌, ◌++◌, length, slice_get, slice_index_or, Some, Contains, if◌then◌else◌}
 use Rattle.std.specs.List.{count_by, filter_map}
 use Rattle.til_parser.specs.declared.tree.AstPath.{AstPath}
 use Rattle.til_resolve.specs.Declarations.{Declaration, declaration, before, named_as, is_type, is_streamlet}
@@ -54,6 +54,16 @@ Falls ranks graph one = (other : ℕ) → Leads graph one other → rank_of rank
 -- nothing has a higher rank than what leads to it
 abbrev pub NeverRises : List ℕ → List (List ℕ) → Type 0
 NeverRises ranks graph = (one other : ℕ) → Leads graph one other → rank_of ranks other ≤ rank_of ranks one
+
+-- a number has a rank from 1 to the number of all, and what it leads to at once has a lower one
+pub record IsRanked (ranks : List ℕ) (graph : List (List ℕ)) (one : ℕ) : Type 0 where
+  pub above : 0 < rank_of ranks one
+  pub within : rank_of ranks one ≤ length graph
+  pub falls : Falls ranks graph one
+
+-- each number before this one stands at its rank
+abbrev pub AreOrdered : List ℕ → List ℕ → ℕ → Type 0
+AreOrdered ranks order end = (one : ℕ) → one < end → slice_get order (rank_of ranks one) ≡ Some one
 
 -- ---- the graph of types
 

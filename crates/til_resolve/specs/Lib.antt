@@ -15,6 +15,7 @@ pub mod PathsWritten
 pub mod Sought
 pub mod Graph
 pub mod Suspects
+pub mod Tables
 pub mod Shapes
 pub mod Written
 pub mod Chains

@@ -13,7 +13,7 @@ use Rattle.til_resolve.specs.declared.misshapen.Sort.{Sort}
 use Rattle.til_resolve.specs.declared.misshapen.Sort.TheVariants as sorts
 use Rattle.til_resolve.specs.Declarations.{Declaration, declaration, before, named_as, is_type}
 use Rattle.til_resolve.specs.Faults.{WrittenType, IsTooLarge}
-use Rattle.til_resolve.specs.Graph.{Falls, rank_of}
+use Rattle.til_resolve.specs.Tables.{AreEntries}
 use Rattle.til_resolve.specs.Types.{number_of_nodes, depth_of, is_stream, type_by, meaning_of}
 
 -- ---- shapes
@@ -83,32 +83,18 @@ shape_of_kind all table space (decls.Test target port value plan) = leaf
 abbrev pub declared_shape : List Declaration → List Shape → Declaration → Shape
 declared_shape all table one = shape_of_kind all table one.space one.kind
 
--- the shapes of the declarations before a number, by a table
-abbrev pub round : List Declaration → List Shape → ℕ → List Shape
-round all table end = before (λ one. declared_shape all table (declaration all one) ∷ []) end
-
 -- the type of a declaration, with so many names replaced inside one another at most
 abbrev pub type_at : List Declaration → ℕ → ℕ → Ltype
 type_at all zero one = null
 type_at all (suc less) one = type_by (meaning_of all less) (declaration all one)
 
--- a table has the shape of this declaration
-abbrev pub HasShape : List Declaration → ℕ → List Shape → ℕ → Type 0
-HasShape all depth table one = shape_at table one ≡ shape_of (type_at all depth one)
+-- the shape of a declaration, as an entry of a table
+abbrev pub IsShape : List Declaration → ℕ → ℕ → Shape → Type 0
+IsShape all depth one shape = shape ≡ shape_of (type_at all depth one)
 
 -- a table has the shape of each declaration
-pub record IsTable (all : List Declaration) (depth : ℕ) (table : List Shape) : Type 0 where
-  pub each : (one : ℕ) → one < length all → HasShape all depth table one
-
--- a table is its own next round, up to a number
-abbrev pub IsOwnRound : List Declaration → List Shape → ℕ → Type 0
-IsOwnRound all table end = (one : ℕ) → one < end → shape_at table one ≡ declared_shape all table (declaration all one)
-
--- a number has a rank from 1 to the number of all, and what it leads to at once has a lower one
-pub record IsRanked (ranks : List ℕ) (graph : List (List ℕ)) (one : ℕ) : Type 0 where
-  pub above : 0 < rank_of ranks one
-  pub within : rank_of ranks one ≤ length graph
-  pub falls : Falls ranks graph one
+abbrev pub IsTable : List Declaration → ℕ → List Shape → Type 0
+IsTable = AreEntries leaf IsShape
 
 -- ---- what is wrong with a shape
 

@@ -1,5 +1,5 @@
 -- The types of declarations in a table, and written types that are made of them. It serves the making of types, and no public clause.
-use Rattle.std.specs.Prelude.{◌≡◌, ℕ, ◌<◌, ◌≤◌, List, [], ◌∷◌, length, slice_get, slice_index_or, Option, Some, None}
+use Rattle.std.specs.Prelude.{◌≡◌, ℕ, List, [], ◌∷◌, slice_index_or, Option, Some, None}
 use Rattle.til_parser.specs.declared.ltype.AstPart.{AstPart}
 use Rattle.til_parser.specs.declared.tree.AstKind.{AstKind}
 use Rattle.til_parser.specs.declared.tree.AstKind.TheVariants as decls
@@ -9,8 +9,8 @@ use Rattle.logical_types.specs.declared.ltype.LType.{LType}
 use Rattle.logical_types.specs.declared.ltype.LType.TheVariants as types
 use Rattle.logical_types.specs.Tree.{Ltype, null, Parts, no_parts, part, plain}
 use Rattle.til_resolve.specs.Declarations.{Declaration, declaration, named_as, is_type}
-use Rattle.til_resolve.specs.Graph.{rank_of}
 use Rattle.til_resolve.specs.Shapes.{type_at}
+use Rattle.til_resolve.specs.Tables.{AreEntries}
 use Rattle.til_resolve.specs.Types.{replaced}
 
 -- ---- written types, by a table of the types of declarations
@@ -45,21 +45,10 @@ declared_type all table one = type_of_kind all table one.space one.kind
 
 -- ---- tables of the types of declarations
 
+-- the type of a declaration, as an entry of a table
+abbrev pub IsTypeAt : List Declaration → ℕ → ℕ → LType → Type 0
+IsTypeAt all depth one ltype = plain ltype ≡ type_at all depth one
+
 -- a table has the type of each declaration, with so many names replaced inside one another at most
-pub record AreTypes (all : List Declaration) (depth : ℕ) (table : List LType) : Type 0 where
-  pub each : (one : ℕ) → one < length all → ltype_at table one ≡ type_at all depth one
-
--- the entries of a table are the types of the declarations before a number, by another table
-pub record IsNextRound (all : List Declaration) (table : List LType) (end : ℕ) (next : List LType) : Type 0 where
-  pub long : length next ≡ end
-  pub each : (one : ℕ) → one < end → ltype_at next one ≡ declared_type all table (declaration all one)
-
--- each number before this one stands at its rank
-abbrev pub AreOrdered : List ℕ → List ℕ → ℕ → Type 0
-AreOrdered ranks order end = (one : ℕ) → one < end → slice_get order (rank_of ranks one) ≡ Some one
-
--- a table has the type of each declaration whose rank is lower than this, however many names are replaced inside one another from
--- its rank on
-pub record AreTypesBelow (all : List Declaration) (ranks : List ℕ) (table : List LType) (end : ℕ) : Type 0 where
-  pub long : length table ≡ length all
-  pub each : (one depth : ℕ) → one < length all → rank_of ranks one < end → rank_of ranks one ≤ depth → ltype_at table one ≡ type_at all depth one
+abbrev pub AreTypes : List Declaration → ℕ → List LType → Type 0
+AreTypes = AreEntries types.Null IsTypeAt

@@ -1,5 +1,5 @@
 -- Summaries of types, by those of the declarations that they name. It serves the search for types that have a fault, and no public clause.
-use Rattle.std.specs.Prelude.{ℕ, List, map, length, slice_index_or, Option, None, IfSome}
+use Rattle.std.specs.Prelude.{ℕ, List, map, slice_index_or, Option, None, IfSome}
 use Rattle.til_parser.specs.declared.ltype.AstPart.{AstPart}
 use Rattle.til_parser.specs.declared.ltype.AstStream.{AstStream}
 use Rattle.til_parser.specs.declared.tree.AstName.{AstName}
@@ -9,22 +9,31 @@ use Rattle.logical_types.specs.Summary.{IsSummary}
 use Rattle.logical_types.specs.declared.summary.Summary.{Summary}
 use Rattle.til_resolve.specs.Declarations.{Declaration, declaration}
 use Rattle.til_resolve.specs.Shapes.{type_at}
+use Rattle.til_resolve.specs.Tables.{AreEntries}
 use Rattle.til_resolve.specs.Types.{replaced, settings_of, meaning_of}
 
 abbrev pub summary_at : List (Option Summary) → ℕ → Option Summary
 summary_at table one = slice_index_or table one None
 
--- what a table has of a declaration is a summary of its type
-pub record AreSummaries (all : List Declaration) (table : List (Option Summary)) : Type 0 where
-  pub each : (one : ℕ) → IfSome (summary_at table one) (IsSummary (type_at all (length all) one))
+-- a summary of the type of a declaration, if it is one, as an entry of a table
+abbrev pub IsSummaryAt : List Declaration → ℕ → ℕ → Option Summary → Type 0
+IsSummaryAt all depth one summary = IfSome summary (IsSummary (type_at all depth one))
+
+-- what a table has of each declaration is a summary of its type, with so many names replaced inside one another at most
+abbrev pub AreSummaries : List Declaration → ℕ → List (Option Summary) → Type 0
+AreSummaries = AreEntries None IsSummaryAt
 
 -- the names of written parts
 abbrev pub written_names : List AstPart → List (List ℕ)
 written_names parts = map (λ one. one.name.name) parts
 
 -- what paths in the declaration of a number mean
-abbrev pub meaning_in : List Declaration → ℕ → List AstName → Ltype
-meaning_in all number names = meaning_of all (length all) (declaration all number).space names
+abbrev pub meaning_in : List Declaration → ℕ → ℕ → List AstName → Ltype
+meaning_in all depth number names = meaning_of all depth (declaration all number).space names
+
+-- this is so of what paths in the declaration of a number mean, where a table has the summaries of what is named
+abbrev pub BySummaries : List Declaration → ℕ → List (Option Summary) → ((List AstName → Ltype) → Type 0) → Type 0
+BySummaries all number table IsSo = (depth : ℕ) → AreSummaries all depth table → IsSo (meaning_in all depth number)
 
 -- the Stream that a written one stands for
 abbrev pub stream_in : (List AstName → Ltype) → AstStream → Ltype

@@ -75,7 +75,7 @@ fn are_shown_valid<'a>(
 ) -> bool
     requires written { AreWritten (declarations_of scope.now.declared) written.now }
     requires acyclic { AreAcyclic (declarations_of scope.now.declared) }
-    requires table { AreSummaries (declarations_of scope.now.declared) table.now }
+    requires table { AreSummaries (declarations_of scope.now.declared) (length (declarations_of scope.now.declared)) table.now }
     ensures { IsTrue result → IsFirstBad (written_types (declarations_of scope.now.declared)) None }
 {
     'written: for one in written {
@@ -95,7 +95,7 @@ fn first_checked<'a>(
 ) -> Result<Option<BadType>, Memory>
     requires written { AreWritten (declarations_of scope.now.declared) written.now }
     requires acyclic { AreAcyclic (declarations_of scope.now.declared) }
-    requires table { AreSummaries (declarations_of scope.now.declared) table.now }
+    requires table { AreSummaries (declarations_of scope.now.declared) (length (declarations_of scope.now.declared)) table.now }
     ensures { IfOk result (IsFirstBad (written_types (declarations_of scope.now.declared))) }
 {
     let mut findings = nothing_found(alloc, scope)?;
@@ -126,7 +126,7 @@ fn or_bad<'a>(
     findings: &mut Findings,
     found: Option<BadType>,
 ) -> Result<Option<BadType>, Memory>
-    requires table { AreSummaries (declarations_of scope.now.declared) table.now }
+    requires table { AreSummaries (declarations_of scope.now.declared) (length (declarations_of scope.now.declared)) table.now }
     requires within { IsWithin (declarations_of scope.now.declared) one.now }
     requires acyclic { AreAcyclic (declarations_of scope.now.declared) }
     requires findings { AreFindings (declarations_of scope.now.declared) findings.old }

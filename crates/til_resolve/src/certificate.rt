@@ -2,8 +2,7 @@
 
 ghost use Rattle.std.specs.Prelude.{◌≡◌, ◌<◌, ◌≤◌, ◌↔◌, ℕ, IsTrue, IfOk, length, slice_index};
 ghost use Rattle.til_resolve.specs.Cycles.{LeadsTo};
-ghost use Rattle.til_resolve.specs.Graph.{AreNumbers, Leads, Falls, NeverRises, rank_of};
-ghost use Rattle.til_resolve.specs.Shapes.{IsRanked};
+ghost use Rattle.til_resolve.specs.Graph.{AreNumbers, Leads, Falls, IsRanked, NeverRises, rank_of};
 
 use crate::ranks::find_ranks;
 use crate::search::leads_to_itself;

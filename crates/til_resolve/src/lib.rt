@@ -42,6 +42,7 @@ mod statements;
 mod streamlets;
 mod summaries;
 mod summarizing;
+mod tables;
 mod twice;
 mod type_graph;
 mod written;

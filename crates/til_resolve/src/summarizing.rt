@@ -1,16 +1,15 @@
 //! The summary of a written type, by a table of the summaries of declarations.
 
-ghost use Rattle.std.specs.Prelude.{◌≡◌, suc, ◌<◌, length, IfSome};
+ghost use Rattle.std.specs.Prelude.{◌≡◌, ℕ, suc, ◌<◌, length, IfSome};
 ghost use Rattle.logical_types.specs.Summary.{IsSummary, IsSummed};
 ghost use Rattle.logical_types.specs.Tree.{group, no_parts, union};
 ghost use Rattle.til_parser.specs.Tree.{plain};
 ghost use Rattle.til_resolve.specs.SharedTypes.{replaced_list};
-ghost use Rattle.til_resolve.specs.Declarations.{declaration};
 ghost use Rattle.til_resolve.specs.Scope.{declarations_of};
 ghost use Rattle.til_resolve.specs.Shapes.{type_at};
 ghost use Rattle.til_resolve.specs.Summaries as spec;
-ghost use Rattle.til_resolve.specs.Summaries.{AreSummaries, meaning_in, stream_in, written_names};
-ghost use Rattle.til_resolve.specs.Types.{type_of};
+ghost use Rattle.til_resolve.specs.Summaries.{AreSummaries, BySummaries, stream_in, written_names};
+ghost use Rattle.til_resolve.specs.Types.{replaced};
 
 use crate::kinds::Asked;
 use crate::replacing::sync_of;
@@ -43,9 +42,8 @@ pub fn declared_summary(
     number: usize,
     table: &[Option<Summary>],
 ) -> Option<Summary>
-    requires within { number < length (declarations_of scope.now.declared) }
-    requires table { AreSummaries (declarations_of scope.now.declared) table.now }
-    ensures { IfSome result (IsSummary (type_at (declarations_of scope.now.declared) (suc (length (declarations_of scope.now.declared))) number)) }
+    requires { number < length (declarations_of scope.now.declared) }
+    ensures { (depth : ℕ) → AreSummaries (declarations_of scope.now.declared) depth table.now → IfSome result (IsSummary (type_at (declarations_of scope.now.declared) (suc depth) number)) }
 {
     match scope.get(number).kind {
         AstKind::Alias(ltype) => summary_in(scope, number, ltype, table),
@@ -61,9 +59,8 @@ pub fn summary_in<'a>(
     ltype: &'a AstType,
     table: &[Option<Summary>],
 ) -> Option<Summary>
-    requires within { number < length (declarations_of scope.now.declared) }
-    requires table { AreSummaries (declarations_of scope.now.declared) table.now }
-    ensures { IfSome result (IsSummary (type_of (declarations_of scope.now.declared) (declaration (declarations_of scope.now.declared) number).space (plain ltype.now))) }
+    requires { number < length (declarations_of scope.now.declared) }
+    ensures { BySummaries (declarations_of scope.now.declared) number table.now (λ meaning. IfSome result (IsSummary (replaced meaning (plain ltype.now)))) }
 {
     match ltype {
         AstType::Null => Some(summary_of_null()),
@@ -82,9 +79,8 @@ fn summary_in_group<'a>(
     parts: &'a [AstPart],
     table: &[Option<Summary>],
 ) -> Option<Summary>
-    requires within { number < length (declarations_of scope.now.declared) }
-    requires table { AreSummaries (declarations_of scope.now.declared) table.now }
-    ensures { IfSome result (IsSummary (group (replaced_list (meaning_in (declarations_of scope.now.declared) number) parts.now))) }
+    requires { number < length (declarations_of scope.now.declared) }
+    ensures { BySummaries (declarations_of scope.now.declared) number table.now (λ meaning. IfSome result (IsSummary (group (replaced_list meaning parts.now)))) }
 {
     let summed = summed_parts(scope, number, parts, table)?;
     if has_name_twice(&WrittenParts(parts)) {
@@ -100,9 +96,8 @@ fn summary_in_union<'a>(
     parts: &'a [AstPart],
     table: &[Option<Summary>],
 ) -> Option<Summary>
-    requires within { number < length (declarations_of scope.now.declared) }
-    requires table { AreSummaries (declarations_of scope.now.declared) table.now }
-    ensures { IfSome result (IsSummary (union (replaced_list (meaning_in (declarations_of scope.now.declared) number) parts.now))) }
+    requires { number < length (declarations_of scope.now.declared) }
+    ensures { BySummaries (declarations_of scope.now.declared) number table.now (λ meaning. IfSome result (IsSummary (union (replaced_list meaning parts.now)))) }
 {
     let summed = summed_parts(scope, number, parts, table)?;
     if has_name_twice(&WrittenParts(parts)) {
@@ -119,9 +114,8 @@ fn summed_parts<'a>(
     parts: &'a [AstPart],
     table: &[Option<Summary>],
 ) -> Option<PartsSummary>
-    requires within { number < length (declarations_of scope.now.declared) }
-    requires table { AreSummaries (declarations_of scope.now.declared) table.now }
-    ensures { IfSome result (IsSummed (replaced_list (meaning_in (declarations_of scope.now.declared) number) parts.now) no_parts) }
+    requires { number < length (declarations_of scope.now.declared) }
+    ensures { BySummaries (declarations_of scope.now.declared) number table.now (λ meaning. IfSome result (IsSummed (replaced_list meaning parts.now) no_parts)) }
 {
     let mut summed = summary_of_no_parts();
     'parts: for part in parts {
@@ -138,9 +132,8 @@ fn summary_in_stream<'a>(
     stream: &'a AstStream,
     table: &[Option<Summary>],
 ) -> Option<Summary>
-    requires within { number < length (declarations_of scope.now.declared) }
-    requires table { AreSummaries (declarations_of scope.now.declared) table.now }
-    ensures { IfSome result (IsSummary (stream_in (meaning_in (declarations_of scope.now.declared) number) stream.now)) }
+    requires { number < length (declarations_of scope.now.declared) }
+    ensures { BySummaries (declarations_of scope.now.declared) number table.now (λ meaning. IfSome result (IsSummary (stream_in meaning stream.now))) }
 {
     let element = summary_in(scope, number, &stream.element, table)?;
     let user = summary_in(scope, number, &stream.user, table)?;
@@ -160,9 +153,8 @@ fn summary_named<'a>(
     path: &'a AstPath,
     table: &[Option<Summary>],
 ) -> Option<Summary>
-    requires within { number < length (declarations_of scope.now.declared) }
-    requires table { AreSummaries (declarations_of scope.now.declared) table.now }
-    ensures { IfSome result (IsSummary (meaning_in (declarations_of scope.now.declared) number path.now.names)) }
+    requires { number < length (declarations_of scope.now.declared) }
+    ensures { BySummaries (declarations_of scope.now.declared) number table.now (λ meaning. IfSome result (IsSummary (meaning path.now.names))) }
 {
     let target = scope.named_as(number, path, Asked::Type)?;
     summary_at(table, target)

@@ -1,5 +1,5 @@
 use Rattle.std.proofs.Common.{ℕ, ◌<◌}
-use Rattle.til_resolve.specs.Shapes.{IsRanked}
+use Rattle.til_resolve.specs.Graph.{IsRanked}
 use Rattle.til_resolve.proofs.certificate.are_ranked.Given as goal
 
 abbrev pub invariant-numbers : goal.invariant-numbers

@@ -11,6 +11,7 @@ pub returns-in-Declared : goal.returns-in-Declared
 returns-in-Declared c =
     let all = declarations_of c.args.scope.now.declared in
     let number = c.in-Declared.number in
-    let same = ap (ltype_of all) c.in-Declared.is ∙ still all c.requires.acyclic (length all) number (subst (IsWithin all) c.in-Declared.is c.requires.within) (omega arith) in
+    let within = subst (IsWithin all) c.in-Declared.is c.requires.within in
+    let same = ap (ltype_of all) c.in-Declared.is ∙ still all c.requires.acyclic (length all) number within (omega arith) in
     subst (λ o. IfSome o (IsSummary (ltype_of all c.args.one.now))) (sym c.summary_at.ensures)
-    (subst (λ (t : Ltype). IfSome (summary_at c.args.table.now number) (IsSummary t)) (sym same) (c.requires.table.each number))
+    (subst (λ (t : Ltype). IfSome (summary_at c.args.table.now number) (IsSummary t)) (sym same) (c.requires.table.each number within))

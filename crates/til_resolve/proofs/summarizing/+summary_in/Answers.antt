@@ -12,37 +12,44 @@ use Rattle.til_resolve.proofs.summarizing.+summary_in.Goals as goal
 
 pub summary_in-returns-in-Group : goal.summary_in-returns-in-Group
 summary_in-returns-in-Group k c =
-    let meaning = meaning_in (declarations_of c.args.scope.now.declared) c.args.number in
-    subst (λ (t : Ltype). IfSome c.summary_in_group.result (IsSummary t)) (group-written meaning c.args.ltype.now c.in-Group.parts _ c.in-Group.is c.as_slice.ensures) c.summary_in_group.ensures
+    λ depth so.
+    let meaning = meaning_in (declarations_of c.args.scope.now.declared) depth c.args.number in
+    subst (λ (t : Ltype). IfSome c.summary_in_group.result (IsSummary t)) (group-written meaning c.args.ltype.now c.in-Group.parts _ c.in-Group.is c.as_slice.ensures) (c.summary_in_group.ensures depth so)
 
 pub summary_in-returns-in-Union : goal.summary_in-returns-in-Union
 summary_in-returns-in-Union k c =
-    let meaning = meaning_in (declarations_of c.args.scope.now.declared) c.args.number in
-    subst (λ (t : Ltype). IfSome c.summary_in_union.result (IsSummary t)) (union-written meaning c.args.ltype.now c.in-Union.parts _ c.in-Union.is c.as_slice-in-Union.ensures) c.summary_in_union.ensures
+    λ depth so.
+    let meaning = meaning_in (declarations_of c.args.scope.now.declared) depth c.args.number in
+    subst (λ (t : Ltype). IfSome c.summary_in_union.result (IsSummary t)) (union-written meaning c.args.ltype.now c.in-Union.parts _ c.in-Union.is c.as_slice-in-Union.ensures) (c.summary_in_union.ensures depth so)
 
 pub summary_in_group-returns : goal.summary_in_group-returns
 summary_in_group-returns k c =
-    let meaning = meaning_in (declarations_of c.args.scope.now.declared) c.args.number in
-    c.in_group.ensures (replaced_list meaning c.args.parts.now) c.in_ok-summed.ensures (ap has_name_twice (names-written meaning c.args.parts.now) ∙ sym c.if-has_name_twice.ensures)
+    λ depth so.
+    let meaning = meaning_in (declarations_of c.args.scope.now.declared) depth c.args.number in
+    c.in_group.ensures (replaced_list meaning c.args.parts.now) (c.in_ok-summed.ensures depth so) (ap has_name_twice (names-written meaning c.args.parts.now) ∙ sym c.if-has_name_twice.ensures)
 
 pub summary_in_union-returns : goal.summary_in_union-returns
 summary_in_union-returns k c =
-    let meaning = meaning_in (declarations_of c.args.scope.now.declared) c.args.number in
-    c.in_union.ensures (replaced_list meaning c.args.parts.now) c.in_ok-summed.ensures (number-written meaning c.args.parts.now) (ap has_name_twice (names-written meaning c.args.parts.now) ∙ sym c.if-has_name_twice.ensures)
+    λ depth so.
+    let meaning = meaning_in (declarations_of c.args.scope.now.declared) depth c.args.number in
+    c.in_union.ensures (replaced_list meaning c.args.parts.now) (c.in_ok-summed.ensures depth so) (number-written meaning c.args.parts.now) (ap has_name_twice (names-written meaning c.args.parts.now) ∙ sym c.if-has_name_twice.ensures)
 
 pub summed_parts-parts-preserved : goal.summed_parts-parts-preserved
 summed_parts-parts-preserved k c =
-    let meaning = meaning_in (declarations_of c.args.scope.now.declared) c.args.number in
+    λ depth so.
+    let meaning = meaning_in (declarations_of c.args.scope.now.declared) depth c.args.number in
     let parts = c.args.parts.now in
     let one = c.part-item.result in
     c.and-summed.ensures (replaced_list meaning parts) (replaced_list meaning (drop (c.parts.part-index + 1) parts)) one.name.name (replaced meaning (plain one.ltype))
-    (subst (λ (ps : Parts). IsSummed (replaced_list meaning parts) ps c.parts.summed) (replaced_list-at meaning parts c.parts.part-index one c.parts-test.true c.part-item.is) c.parts.invariant)
-    c.in_ok-one.ensures
+    (subst (λ (ps : Parts). IsSummed (replaced_list meaning parts) ps c.parts.summed) (replaced_list-at meaning parts c.parts.part-index one c.parts-test.true c.part-item.is) (c.parts.invariant depth so))
+    (c.in_ok-one.ensures depth so)
 
 pub summed_parts-returns : goal.summed_parts-returns
 summed_parts-returns k c =
-    let meaning = meaning_in (declarations_of c.args.scope.now.declared) c.args.number in
-    subst (λ (ps : Parts). IsSummed (replaced_list meaning c.args.parts.now) ps c.parts.summed) (replaced_list-past meaning c.args.parts.now c.parts.part-index c.parts-test.false) c.parts.invariant
+    λ depth so.
+    let meaning = meaning_in (declarations_of c.args.scope.now.declared) depth c.args.number in
+    subst (λ (ps : Parts). IsSummed (replaced_list meaning c.args.parts.now) ps c.parts.summed) (replaced_list-past meaning c.args.parts.now c.parts.part-index c.parts-test.false) (c.parts.invariant depth so)
 
 pub summed_parts-parts-init : goal.summed_parts-parts-init
-summed_parts-parts-init k c = c.summary_of_no_parts-summed.ensures (replaced_list (meaning_in (declarations_of c.args.scope.now.declared) c.args.number) c.args.parts.now)
+summed_parts-parts-init k c =
+    λ depth so. c.summary_of_no_parts-summed.ensures (replaced_list (meaning_in (declarations_of c.args.scope.now.declared) depth c.args.number) c.args.parts.now)
