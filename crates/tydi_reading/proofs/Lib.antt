@@ -15,4 +15,7 @@ pub mod FilledLemmas
 pub mod FormLemmas
 pub mod LedRule
 pub mod Rule
+pub mod ContainsLemmas
+pub mod NamedSteps
+pub mod NamedRule
 pub mod Example

@@ -4,3 +4,4 @@ pub mod Forms
 pub mod Faults
 pub mod Rules
 pub mod Lists
+pub mod Named
