@@ -1,7 +1,8 @@
 -- Lists of names: what stands in them, and that each stands once.
-use Rattle.std.proofs.Common.{◌≡◌, ◌⊎◌, inl, inr, ℕ, zero, suc, ◌<◌, List, [], ◌∷◌, get_or, arith}
+use Rattle.std.proofs.Common.{◌≡◌, ◌⊎◌, inl, inr, ℕ, zero, suc, ◌<◌, Bool, true, false, cond, List, [], ◌∷◌, get_or, refl, arith}
 use Rattle.std.proofs.lemmas.List.Elements.{Contains-append_right, Contains-append_cases}
 use Rattle.std.specs.List.{Contains}
+use Rattle.tydi_reading.specs.Named.{AreApart}
 
 module _ {K : Type 0} where
   pub Contains-none : (a : K) → Contains [] a → ⊥
@@ -38,3 +39,41 @@ module _ {K : Type 0} where
         | inr apart ↦ inr (Contains-neither order b a apart out)
       ]
     ]
+
+    abbrev is_same : {A B : Type 0} → A ⊎ B → Bool
+    is_same (inl e) = true
+    is_same (inr apart) = false
+
+    -- a name stands in a list, by a test of each
+    abbrev pub has : List K → K → Bool
+    has [] a = false
+    has (b ∷ order) a = cond (is_same (one_or_two b a)) true (has order a)
+
+    -- each of these stands once, by tests
+    abbrev pub are_apart : List K → Bool
+    are_apart [] = true
+    are_apart (a ∷ order) = cond (has order a) false (are_apart order)
+
+    pub has-Contains : (order : List K) (a : K) → has order a ≡ true → Contains order a
+    has-Contains [] a is = absurd cc
+    has-Contains (b ∷ order) a is = by_test (one_or_two b a) (has-Contains order a) is
+      where
+        by_test : (s : (b ≡ a) ⊎ (b ≡ a → ⊥)) → (has order a ≡ true → Contains order a) → cond (is_same s) true (has order a) ≡ true → Contains (b ∷ order) a
+        by_test (inl e) later is = Contains-first order b a e
+        by_test (inr apart) later is = Contains-more order b a (later is)
+
+    lacks-Contains : (order : List K) (a : K) → has order a ≡ false → Contains order a → ⊥
+    lacks-Contains [] a is = Contains-none a
+    lacks-Contains (b ∷ order) a is = by_test (one_or_two b a) (lacks-Contains order a) is
+      where
+        by_test : (s : (b ≡ a) ⊎ (b ≡ a → ⊥)) → (has order a ≡ false → Contains order a → ⊥) → cond (is_same s) true (has order a) ≡ false → Contains (b ∷ order) a → ⊥
+        by_test (inl e) later is = absurd (let no : true ≡ false = is in cc)
+        by_test (inr apart) later is = Contains-neither order b a apart (later is)
+
+    pub are_apart-apart : (order : List K) → are_apart order ≡ true → AreApart order
+    are_apart-apart [] is = tt
+    are_apart-apart (a ∷ order) is = by_test (has order a) refl (are_apart-apart order) is
+      where
+        by_test : (b : Bool) → has order a ≡ b → (are_apart order ≡ true → AreApart order) → cond b false (are_apart order) ≡ true → AreApart (a ∷ order)
+        by_test true there later is = absurd (let no : false ≡ true = is in cc)
+        by_test false lacks later is = (lacks-Contains order a lacks, later is)

@@ -16,6 +16,7 @@ pub mod FormLemmas
 pub mod LedRule
 pub mod Rule
 pub mod ContainsLemmas
+pub mod TableLemmas
 pub mod NamedSteps
 pub mod NamedRule
 pub mod Example

@@ -6,7 +6,7 @@ use Rattle.std.proofs.lemmas.Option.{none-some, same_Some}
 use Rattle.tydi_reading.specs.declared.fault.Fault.TheVariants as faults
 use Rattle.tydi_reading.specs.Forms.{Form, ◌⋯◌, Never, Anything, Loop, LoopTo}
 use Rattle.tydi_reading.specs.Named.{awaited, argument, named}
-use Rattle.tydi_reading.specs.Reading.{Reader, Turn, stopped, and_then, meant, leaf, tells, ◌<$>◌}
+use Rattle.tydi_reading.specs.Reading.{Outcome, Reader, Turn, stopped, and_then, meant, leaf, tells, told_by, rest_of, ◌<$>◌}
 use Rattle.tydi_reading.specs.Rules.{IsRule}
 use Rattle.tydi_reading.proofs.ContainsLemmas.{Contains-none, Contains-cases}
 use Rattle.tydi_reading.proofs.FilledLemmas.{filled-first}
@@ -267,3 +267,25 @@ module _ {T K G S : Type 0} (Good : T → Type 0) (f : Fields K G S) (a : Argume
     arguments-rule =
         steps-rule Good test last separates Separator step Step (λ _. a.Next) StepWithin StepDeep AreIn separates-arguments step-rule f.none
         (λ k. subst (In k) (sym (f.field-none k)) tt)
+
+-- ---- what a name that stands next says of an argument
+
+module _ {T K G : Type 0} (name : T → Option K) (is_given : K → G → Bool) (value : K → G → Reader T G) (given : G) where
+  abbrev told : Option K → List T → List T → Outcome T G
+  told o rest ts = and_then (meant (option_and_then (λ k. cond (is_given k given) None (Some k)) o) rest ts) (λ k. value k given)
+
+  argument-told : (ts : List T) → argument name is_given value given ts ≡ told (told_by name ts) (rest_of ts) ts
+  unfolding argument
+  argument-told [] = refl
+  argument-told (t ∷ ts) = refl
+
+  pub argument-none : (ts : List T) → told_by name ts ≡ None → argument name is_given value given ts ≡ stopped faults.Refused ts
+  argument-none ts is = argument-told ts ∙ ap (λ o. told o (rest_of ts) ts) is
+
+  pub argument-given : (k : K) (ts : List T) → told_by name ts ≡ Some k → is_given k given ≡ true → argument name is_given value given ts ≡ stopped faults.Refused ts
+  argument-given k ts is test = argument-told ts ∙ ap (λ o. told o (rest_of ts) ts) is
+      ∙ ap (λ b. and_then (meant (cond {A = Option K} b None (Some k)) (rest_of ts) ts) (λ k. value k given)) test
+
+  pub argument-taken : (k : K) (ts : List T) → told_by name ts ≡ Some k → is_given k given ≡ false → argument name is_given value given ts ≡ value k given (rest_of ts)
+  argument-taken k ts is test = argument-told ts ∙ ap (λ o. told o (rest_of ts) ts) is
+      ∙ ap (λ b. and_then (meant (cond {A = Option K} b None (Some k)) (rest_of ts) ts) (λ k. value k given)) test

@@ -5,3 +5,4 @@ pub mod Faults
 pub mod Rules
 pub mod Lists
 pub mod Named
+pub mod Tables
