@@ -2,7 +2,6 @@ pub mod PrintedForms
 pub mod PrintedTokens
 pub mod PrintedLeaves
 pub mod PrintedLists
-pub mod StreamArguments
 pub mod PrintedTypes
 pub mod PrintedBodies
 pub mod PrintedDecls

@@ -1,15 +1,10 @@
 pub mod TokenRules
 pub mod LeafRules
 pub mod ListRules
-pub mod ArgumentFields
-pub mod AwaitedRules
-pub mod ArgumentRules
-pub mod StreamSteps
-pub mod StreamForms
-pub mod StreamNesting
+pub mod TypeWords
+pub mod StreamFields
 pub mod StreamRules
 pub mod PartRules
-pub mod TypeWords
 pub mod TypeRules
 pub mod LevelRules
 pub mod BodyRules

@@ -1,6 +1,6 @@
 -- The grammar of the Tydi Intermediate Language: which tokens spell which tree, by recursion on the tree. It is this project's
 -- own, after the published language. No reader is in it.
-use Rattle.std.specs.Prelude.{◌≡◌, ◌≤◌, ◌<◌, ℕ, Bool, true, false, List, [], ◌∷◌, length, Option, IsTrue, Contains, codes}
+use Rattle.std.specs.Prelude.{◌≡◌, ◌≤◌, ◌<◌, ℕ, Bool, true, false, List, [], ◌∷◌, length, Option, IsTrue, codes}
 use Rattle.std.specs.List.{list_all}
 use Rattle.std.specs.Char.{is_ascii_digit}
 use Rattle.tydi_base.specs.Decimal.{read_on}
@@ -9,8 +9,11 @@ use Rattle.tydi_base.specs.Level.{IsLevel}
 use Rattle.tydi_base.specs.Name.{is_name}
 use Rattle.tydi_reading.specs.Forms.{◌⋯◌, Nothing, Optional}
 use Rattle.tydi_reading.specs.Lists.{Each, EachIs, Separated, LastSeparator, Joined}
+use Rattle.tydi_reading.specs.Named.{Named}
 use Rattle.til_lexer.specs.declared.token.TokenKind.{TokenKind}
 use Rattle.til_lexer.specs.declared.token.TokenKind.TheVariants as kinds
+use Rattle.til_parser.specs.declared.keyword.Argument.{Argument}
+use Rattle.til_parser.specs.declared.keyword.Argument.TheVariants as arguments
 use Rattle.til_parser.specs.declared.ltype.AstSync.{AstSync}
 use Rattle.til_parser.specs.declared.ltype.AstSync.TheVariants as syncs
 use Rattle.til_parser.specs.declared.tree.Ast.{Ast}
@@ -123,16 +126,16 @@ Braced Inside = Of kinds.OpenBrace ⋯ Inside ⋯ Of kinds.CloseBrace
 
 -- ---- the arguments of a Stream
 
--- the arguments that a Stream may have
-pub data Argument : Type 0 where
-  data_type : Argument
-  throughput : Argument
-  dimensionality : Argument
-  synchronicity : Argument
-  complexity : Argument
-  direction : Argument
-  user_type : Argument
-  keep : Argument
+-- the word of an argument
+abbrev pub argument_word : Argument → List ℕ
+argument_word arguments.Data = codes "data"
+argument_word arguments.Throughput = codes "throughput"
+argument_word arguments.Dimensionality = codes "dimensionality"
+argument_word arguments.Synchronicity = codes "synchronicity"
+argument_word arguments.Complexity = codes "complexity"
+argument_word arguments.Direction = codes "direction"
+argument_word arguments.User = codes "user"
+argument_word arguments.Keep = codes "keep"
 
 -- the word of a synchronicity
 abbrev pub sync_word : AstSync → List ℕ
@@ -156,39 +159,35 @@ pub record Level (level : ℕ) (ts : List Lexeme) : Type 0 where
   pub whole : Whole level ts
   pub within : IsLevel level
 
+-- the value that the Stream has for an argument
+abbrev pub Held : Form → Form → Settings → Argument → Form
+Held Element User settings arguments.Data = Element
+Held Element User settings arguments.Throughput = Number settings.throughput
+Held Element User settings arguments.Dimensionality = Whole settings.dims
+Held Element User settings arguments.Synchronicity = Word (sync_word settings.sync)
+Held Element User settings arguments.Complexity = Level settings.level
+Held Element User settings arguments.Direction = Word (direction_word settings.reverse)
+Held Element User settings arguments.User = User
+Held Element User settings arguments.Keep = Word (truth_word settings.keep)
+
 -- the argument of this name, with the value that the Stream has for it
 abbrev pub Given : Form → Form → Settings → Argument → Form
-Given Element User settings data_type = Word (codes "data") ⋯ Of kinds.Colon ⋯ Element
-Given Element User settings throughput = Word (codes "throughput") ⋯ Of kinds.Colon ⋯ Number settings.throughput
-Given Element User settings dimensionality = Word (codes "dimensionality") ⋯ Of kinds.Colon ⋯ Whole settings.dims
-Given Element User settings synchronicity = Word (codes "synchronicity") ⋯ Of kinds.Colon ⋯ Word (sync_word settings.sync)
-Given Element User settings complexity = Word (codes "complexity") ⋯ Of kinds.Colon ⋯ Level settings.level
-Given Element User settings direction = Word (codes "direction") ⋯ Of kinds.Colon ⋯ Word (direction_word settings.reverse)
-Given Element User settings user_type = Word (codes "user") ⋯ Of kinds.Colon ⋯ User
-Given Element User settings keep = Word (codes "keep") ⋯ Of kinds.Colon ⋯ Word (truth_word settings.keep)
+Given Element User settings argument = Word (argument_word argument) ⋯ Of kinds.Colon ⋯ Held Element User settings argument
 
 -- the Stream has the default of the argument; the data type has none
 abbrev pub IsDefault : Ltype → Settings → Argument → Type 0
-IsDefault user settings data_type = ⊥
-IsDefault user settings throughput = settings.throughput ≡ record { num = 1; den = 1 }
-IsDefault user settings dimensionality = settings.dims ≡ 0
-IsDefault user settings synchronicity = settings.sync ≡ syncs.Sync
-IsDefault user settings complexity = settings.level ≡ 4
-IsDefault user settings direction = settings.reverse ≡ false
-IsDefault user settings user_type = user ≡ null
-IsDefault user settings keep = settings.keep ≡ false
-
--- each argument is written at most once
-abbrev pub AreApart : List Argument → Type 0
-AreApart [] = Unit {0}
-AreApart (argument ∷ more) = (Contains more argument → ⊥) × AreApart more
+IsDefault user settings arguments.Data = ⊥
+IsDefault user settings arguments.Throughput = settings.throughput ≡ record { num = 1; den = 1 }
+IsDefault user settings arguments.Dimensionality = settings.dims ≡ 0
+IsDefault user settings arguments.Synchronicity = settings.sync ≡ syncs.Sync
+IsDefault user settings arguments.Complexity = settings.level ≡ 4
+IsDefault user settings arguments.Direction = settings.reverse ≡ false
+IsDefault user settings arguments.User = user ≡ null
+IsDefault user settings arguments.Keep = settings.keep ≡ false
 
 -- arguments in some order, each at most once; one that is not written has its default
-pub record Arguments (Element User : Form) (user : Ltype) (settings : Settings) (ts : List Lexeme) : Type 0 where
-  pub order : List Argument
-  pub apart : AreApart order
-  pub others : (argument : Argument) → (Contains order argument → ⊥) → IsDefault user settings argument
-  pub written : Commas (Given Element User settings) order ts
+abbrev pub Arguments : Form → Form → Ltype → Settings → Form
+Arguments Element User user settings = Named (Of kinds.Comma) (Given Element User settings) (IsDefault user settings)
 
 -- ---- types
 

@@ -1,14 +1,17 @@
 -- How deep types nest: which tokens lead to where a type begins that stands inside so many others, by recursion on the grammar alone.
 -- No reader is in it. This project's own.
-use Rattle.std.specs.Prelude.{ℕ, zero, suc, ◌⊎◌, Bool, List, ◌∷◌, Option, codes}
+use Rattle.std.specs.Prelude.{ℕ, zero, suc, ◌⊎◌, Bool, List, Option, codes}
 use Rattle.tydi_reading.specs.Forms.{◌⋯◌, Nothing, Never}
-use Rattle.tydi_reading.specs.Lists.{Each, EachTo, SeparatedTo}
+use Rattle.tydi_reading.specs.Lists.{EachTo, SeparatedTo}
+use Rattle.tydi_reading.specs.Named.{NamedTo}
 use Rattle.til_lexer.specs.declared.token.TokenKind.TheVariants as kinds
+use Rattle.til_parser.specs.declared.keyword.Argument.{Argument}
+use Rattle.til_parser.specs.declared.keyword.Argument.TheVariants as arguments
 use Rattle.til_parser.specs.declared.ltype.AstPart.{AstPart}
 use Rattle.til_parser.specs.declared.ltype.AstStream.{AstStream}
 use Rattle.til_parser.specs.declared.tree.AstName.{AstName}
 use Rattle.til_parser.specs.declared.tree.AstPath.{AstPath}
-use Rattle.til_parser.specs.Grammar.{Form, Of, Word, Name, Doc, Path, Argument, data_type, user_type, Given, AreApart, SpellsType, way_word}
+use Rattle.til_parser.specs.Grammar.{Form, Of, Word, Name, Doc, Path, Given, SpellsType, argument_word, way_word}
 use Rattle.til_parser.specs.Grammar.{SpellsPort, SpellsDecl, SpellsNamespace}
 use Rattle.til_parser.specs.Lexemes.{Lexeme}
 use Rattle.til_parser.specs.Tree.{plain, settings_of}
@@ -33,20 +36,19 @@ SpellsPart part = Name part.name ⋯ Of kinds.Colon ⋯ SpellsType (plain part.l
 abbrev pub PartTo : Form → Form
 PartTo To ts = (name : AstName) × ((Name name ⋯ Of kinds.Colon ⋯ To) ts)
 
--- the name of an argument whose value is a type, a colon, and then what leads on in that type
-abbrev pub ValueTo : Argument → Form → Form
-ValueTo data_type To = Word (codes "data") ⋯ Of kinds.Colon ⋯ To
-ValueTo user_type To = Word (codes "user") ⋯ Of kinds.Colon ⋯ To
-ValueTo _ To = Never
+-- a colon, and then what leads on in the value of an argument that is a type
+abbrev pub ValueTo : Form → Argument → Form
+ValueTo To arguments.Data = Of kinds.Colon ⋯ To
+ValueTo To arguments.User = Of kinds.Colon ⋯ To
+ValueTo To _ = Never
+
+-- an argument of a Stream
+abbrev pub SpellsArgument : AstStream → Argument → Form
+SpellsArgument one = Given (SpellsType (plain one.element)) (SpellsType (plain one.user)) (settings_of one)
 
 -- arguments of a Stream with a comma after each, and then what leads on in the value of one more; none of them is written twice
-pub record ArgumentsTo (To : Form) (ts : List Lexeme) : Type 0 where
-  pub values : AstStream
-  pub order : List Argument
-  pub next : Argument
-  pub apart : AreApart (next ∷ order)
-  pub leads : (Each (λ argument. Given (SpellsType (plain values.element)) (SpellsType (plain values.user)) (settings_of values) argument ⋯ Of kinds.Comma) order
-      ⋯ ValueTo next To) ts
+abbrev pub ArgumentsTo : Form → Form
+ArgumentsTo To = NamedTo (Of kinds.Comma) SpellsArgument (λ name. Word (argument_word name) ⋯ ValueTo To name)
 
 -- the front of a Group, a Union or a Stream, and then what leads on in a type inside it
 abbrev pub InsideTo : Form → Form

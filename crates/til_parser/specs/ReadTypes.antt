@@ -1,14 +1,17 @@
 -- How `parse` reads names, numbers, paths and types. No public clause names these. This project's own.
 use Rattle.std.specs.Prelude.{ℕ, zero, suc, nat_lt, ◌&&◌, Bool, true, false, List, Option, Some, None}
 use Rattle.std.specs.Prelude.{option_map, if◌then◌else◌, codes}
-use Rattle.std.specs.Option.{is_none, unwrap_or}
+use Rattle.std.specs.Option.{is_some, unwrap_or}
 use Rattle.tydi_base.specs.Name.{name_of}
 use Rattle.tydi_base.specs.Frac.{Fraction}
 use Rattle.tydi_base.specs.declared.place.Place.{Place}
-use Rattle.tydi_reading.specs.Lists.{separated, steps, joined}
-use Rattle.tydi_reading.specs.Reading.{◌>>◌, ◌<$>◌, ◌<&>◌, ◌<<◌, pure, refuse, rest_of, tells, choose, checked, led, too_deep, took}
+use Rattle.tydi_reading.specs.Lists.{separated, joined}
+use Rattle.tydi_reading.specs.Named.{named}
+use Rattle.tydi_reading.specs.Reading.{◌>>◌, ◌<$>◌, ◌<&>◌, ◌<<◌, pure, rest_of, choose, checked, led, too_deep, took}
 use Rattle.til_lexer.specs.declared.token.TokenKind.TheVariants as kinds
 use Rattle.til_parser.specs.declared.arguments.Arguments.{Arguments}
+use Rattle.til_parser.specs.declared.keyword.Argument.{Argument}
+use Rattle.til_parser.specs.declared.keyword.Argument.TheVariants as arguments
 use Rattle.til_parser.specs.declared.keyword.TypeWord.{TypeWord}
 use Rattle.til_parser.specs.declared.keyword.TypeWord.TheVariants as words
 use Rattle.til_parser.specs.declared.ltype.AstType.{AstType}
@@ -21,7 +24,7 @@ use Rattle.til_parser.specs.declared.tree.AstName.{AstName}
 use Rattle.til_parser.specs.declared.tree.AstPath.{AstPath}
 use Rattle.til_parser.specs.Lexemes.{Lexeme, between_marks}
 use Rattle.til_parser.specs.Numbers.{whole_of, numerator_of, denominator_of, lowest}
-use Rattle.til_parser.specs.Words.{sync_of, type_word_at}
+use Rattle.til_parser.specs.Words.{sync_of, type_word_at, argument_at}
 use Rattle.til_parser.specs.Reading.{Reader, is_kind, is_word, begins_type, expect, expect_word, next_of, token}
 
 -- ---- names and numbers
@@ -85,40 +88,83 @@ sync = token kinds.Word (λ place spelling. sync_of spelling)
 unfoldable pub either_word : List ℕ → List ℕ → Reader Bool
 either_word first second = choose (is_word first) false ((λ _. true) <$> expect_word first) ((λ _. false) <$> expect_word second)
 
--- the value of an argument, after its name and the colon
-unfoldable pub labelled : {A : Type 0} → Reader A → Reader A
-labelled value = λ ts. (expect kinds.Colon >> value) (rest_of ts)
-
 -- no argument is given yet
 abbrev pub none_given : Arguments
 none_given = record { element = None; throughput = None; dims = None; sync = None; level = None; reverse = None; user = None; keep = None }
 
--- the next token is the name of an argument that is not given yet
-abbrev pub awaits : {A : Type 0} → List ℕ → Option A → List Lexeme → Bool
-awaits word given ts = tells (is_word word) false ts && is_none given
+-- what the value of an argument is
+abbrev pub Value : Argument → Type 0
+Value arguments.Data = AstType
+Value arguments.Throughput = Fraction
+Value arguments.Dimensionality = ℕ
+Value arguments.Synchronicity = AstSync
+Value arguments.Complexity = ℕ
+Value arguments.Direction = Bool
+Value arguments.User = AstType
+Value arguments.Keep = Bool
 
--- one argument more that holds no type and is not given yet
-unfoldable pub setting : Arguments → Reader Arguments
-setting given = λ ts. (
-    if awaits (codes "dimensionality") given.dims ts then (λ x. record given { dims = Some x }) <$> labelled whole
-    else (if awaits (codes "synchronicity") given.sync ts then (λ x. record given { sync = Some x }) <$> labelled sync
-    else (if awaits (codes "complexity") given.level ts then (λ x. record given { level = Some x }) <$> labelled level
-    else (if awaits (codes "direction") given.reverse ts then
-    (λ x. record given { reverse = Some x }) <$> labelled (either_word (codes "Reverse") (codes "Forward"))
-    else (if awaits (codes "keep") given.keep ts then (λ x. record given { keep = Some x }) <$> labelled (either_word (codes "true") (codes "false"))
-    else refuse))))) ts
+-- the value that is given for an argument
+abbrev pub field : (name : Argument) → Arguments → Option (Value name)
+field arguments.Data given = given.element
+field arguments.Throughput given = given.throughput
+field arguments.Dimensionality given = given.dims
+field arguments.Synchronicity given = given.sync
+field arguments.Complexity given = given.level
+field arguments.Direction given = given.reverse
+field arguments.User given = given.user
+field arguments.Keep given = given.keep
 
--- one argument more that is not given yet; the reader is that of the types inside
-unfoldable pub argument : Reader AstType → Arguments → Reader Arguments
-argument inner given = λ ts. (
-    if awaits (codes "data") given.element ts then (λ x. record given { element = Some x }) <$> labelled inner
-    else (if awaits (codes "throughput") given.throughput ts then (λ x. record given { throughput = Some x }) <$> labelled number
-    else (if awaits (codes "user") given.user ts then (λ x. record given { user = Some x }) <$> labelled inner
-    else setting given))) ts
+-- a value is given for an argument
+abbrev pub put : (name : Argument) → Value name → Arguments → Arguments
+put arguments.Data x given = record given { element = Some x }
+put arguments.Throughput x given = record given { throughput = Some x }
+put arguments.Dimensionality x given = record given { dims = Some x }
+put arguments.Synchronicity x given = record given { sync = Some x }
+put arguments.Complexity x given = record given { level = Some x }
+put arguments.Direction x given = record given { reverse = Some x }
+put arguments.User x given = record given { user = Some x }
+put arguments.Keep x given = record given { keep = Some x }
+
+-- there is a value for an argument
+abbrev pub is_given : Argument → Arguments → Bool
+is_given arguments.Data given = is_some given.element
+is_given arguments.Throughput given = is_some given.throughput
+is_given arguments.Dimensionality given = is_some given.dims
+is_given arguments.Synchronicity given = is_some given.sync
+is_given arguments.Complexity given = is_some given.level
+is_given arguments.Direction given = is_some given.reverse
+is_given arguments.User given = is_some given.user
+is_given arguments.Keep given = is_some given.keep
+
+-- the value of an argument; the reader is that of the types inside
+abbrev pub value_of : Reader AstType → (name : Argument) → Reader (Value name)
+value_of inner arguments.Data = inner
+value_of inner arguments.Throughput = number
+value_of inner arguments.Dimensionality = whole
+value_of inner arguments.Synchronicity = sync
+value_of inner arguments.Complexity = level
+value_of inner arguments.Direction = either_word (codes "Reverse") (codes "Forward")
+value_of inner arguments.User = inner
+value_of inner arguments.Keep = either_word (codes "true") (codes "false")
+
+-- a colon and the value of an argument, which is put beside those that are given
+abbrev added : Reader AstType → Argument → Arguments → Reader Arguments
+added inner name given = (λ x. put name x given) <$> (expect kinds.Colon >> value_of inner name)
+
+-- the same, by cases on the argument
+abbrev pub value : Reader AstType → Argument → Arguments → Reader Arguments
+value inner arguments.Data given = added inner arguments.Data given
+value inner arguments.Throughput given = added inner arguments.Throughput given
+value inner arguments.Dimensionality given = added inner arguments.Dimensionality given
+value inner arguments.Synchronicity given = added inner arguments.Synchronicity given
+value inner arguments.Complexity given = added inner arguments.Complexity given
+value inner arguments.Direction given = added inner arguments.Direction given
+value inner arguments.User given = added inner arguments.User given
+value inner arguments.Keep given = added inner arguments.Keep given
 
 -- arguments with commas, up to a closing bracket
-unfoldable pub arguments : Reader AstType → Arguments → Reader Arguments
-arguments inner = steps (is_kind kinds.CloseParen) false (is_kind kinds.Comma) (argument inner)
+abbrev pub arguments_from : Reader AstType → Arguments → Reader Arguments
+arguments_from inner = named (is_kind kinds.CloseParen) false (is_kind kinds.Comma) argument_at is_given (value inner)
 
 -- the Stream of these arguments, the defaults filled in: throughput 1, dimensionality 0, Sync, complexity 4, Forward, user Null,
 -- keep false
@@ -140,7 +186,7 @@ stream_of given = option_map (λ element. filled element given) given.element
 
 -- the arguments of a Stream in brackets
 unfoldable pub stream : Reader AstType → Reader AstStream
-stream inner = expect kinds.OpenParen >> (checked stream_of (arguments inner none_given) << expect kinds.CloseParen)
+stream inner = expect kinds.OpenParen >> (checked stream_of (arguments_from inner none_given) << expect kinds.CloseParen)
 
 -- ---- types
 

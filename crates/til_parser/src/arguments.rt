@@ -1,7 +1,8 @@
 ghost use Rattle.std.specs.Prelude.{◌≡◌};
 ghost use Rattle.til_parser.specs.Numbers.{lowest};
-ghost use Rattle.til_parser.specs.ReadTypes.{none_given, stream_of};
+ghost use Rattle.til_parser.specs.ReadTypes.{is_given, none_given, stream_of};
 
+use crate::keyword::Argument;
 use crate::ltype::{AstStream, AstSync, AstType};
 use tydi_base::{Frac, Level};
 
@@ -31,6 +32,22 @@ impl Arguments {
             reverse: None,
             user: None,
             keep: None,
+        }
+    }
+
+    /// Whether there is a value for an argument.
+    pub(crate) fn has(&self, name: Argument) -> bool
+        ensures { result ≡ is_given name self.now }
+    {
+        match name {
+            Argument::Data => self.element.is_some(),
+            Argument::Throughput => self.throughput.is_some(),
+            Argument::Dimensionality => self.dims.is_some(),
+            Argument::Synchronicity => self.sync.is_some(),
+            Argument::Complexity => self.level.is_some(),
+            Argument::Direction => self.reverse.is_some(),
+            Argument::User => self.user.is_some(),
+            Argument::Keep => self.keep.is_some(),
         }
     }
 

@@ -25,8 +25,20 @@ pub(crate) enum TypeWord {
     Stream,
 }
 
+/// The name of an argument of a Stream.
+#[derive(Clone, Copy, Debug, PartialEq, Eq)]
+pub(crate) enum Argument {
+    Data,
+    Throughput,
+    Dimensionality,
+    Synchronicity,
+    Complexity,
+    Direction,
+    User,
+    Keep,
+}
+
 /// The keyword that a word is.
-#[tactic(auto, unfolding(crate::specs::Words::keyword_of))]
 pub(crate) fn keyword_of(word: &str) -> Option<Keyword>
     ensures { result ≡ spec.keyword_of word.now }
 {
@@ -46,7 +58,6 @@ pub(crate) fn keyword_of(word: &str) -> Option<Keyword>
 }
 
 /// The word of a type that a word is.
-#[tactic(auto, unfolding(crate::specs::Words::type_word_of))]
 pub(crate) fn type_word_of(word: &str) -> Option<TypeWord>
     ensures { result ≡ spec.type_word_of word.now }
 {
@@ -66,7 +77,6 @@ pub(crate) fn type_word_of(word: &str) -> Option<TypeWord>
 }
 
 /// The synchronicity that a word is.
-#[tactic(auto, unfolding(crate::specs::Words::sync_of))]
 pub(crate) fn sync_of(word: &str) -> Option<AstSync>
     ensures { result ≡ spec.sync_of word.now }
 {
@@ -78,6 +88,31 @@ pub(crate) fn sync_of(word: &str) -> Option<AstSync>
         Some(AstSync::Desync)
     } else if word == "FlatDesync" {
         Some(AstSync::FlatDesync)
+    } else {
+        None
+    }
+}
+
+/// The argument that a word names.
+pub(crate) fn argument_of(word: &str) -> Option<Argument>
+    ensures { result ≡ spec.argument_of word.now }
+{
+    if word == "data" {
+        Some(Argument::Data)
+    } else if word == "throughput" {
+        Some(Argument::Throughput)
+    } else if word == "dimensionality" {
+        Some(Argument::Dimensionality)
+    } else if word == "synchronicity" {
+        Some(Argument::Synchronicity)
+    } else if word == "complexity" {
+        Some(Argument::Complexity)
+    } else if word == "direction" {
+        Some(Argument::Direction)
+    } else if word == "user" {
+        Some(Argument::User)
+    } else if word == "keep" {
+        Some(Argument::Keep)
     } else {
         None
     }

@@ -7,9 +7,9 @@ ghost use Rattle.til_parser.specs.Lexemes.{Lexeme, HasFormIn, lexemes_of};
 ghost use Rattle.til_parser.specs.Reading as spec;
 ghost use Rattle.til_parser.specs.declared.ltype.AstType.{AstType};
 ghost use Rattle.tydi_reading.specs.Reading.{Outcome, ReadsAlways, rest_of, stopped, tells, told_by, too_deep};
-ghost use Rattle.til_parser.specs.Words.{type_word_at};
+ghost use Rattle.til_parser.specs.Words.{argument_at, type_word_at};
 
-use crate::keyword::{TypeWord, type_word_of};
+use crate::keyword::{Argument, TypeWord, argument_of, type_word_of};
 use std::alloc::Global;
 use std::marker::Model;
 use til_lexer::{Token, TokenKind};
@@ -111,6 +111,18 @@ impl<'a> Parser<'a> {
         match self.rest {
             [next, ..] if same_kind(next.kind, TokenKind::Word) => {
                 type_word_of(spelling(self.text, next))
+            }
+            _ => None,
+        }
+    }
+
+    /// The argument that the next token names, if it names one.
+    pub(crate) fn argument_name(&self) -> Option<Argument>
+        ensures { result ≡ told_by argument_at self.now }
+    {
+        match self.rest {
+            [next, ..] if same_kind(next.kind, TokenKind::Word) => {
+                argument_of(spelling(self.text, next))
             }
             _ => None,
         }

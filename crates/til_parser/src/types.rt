@@ -4,11 +4,13 @@ ghost use Rattle.std.specs.Prelude.{◌≡◌, false};
 ghost use Rattle.til_parser.specs.ReadTypes as spec;
 ghost use Rattle.til_parser.specs.Reading as reading;
 ghost use Rattle.tydi_reading.specs.Lists.{separated};
-ghost use Rattle.tydi_reading.specs.Reading.{Reads, ReadsAlways, rest_of};
+ghost use Rattle.til_parser.specs.Words.{argument_at};
+ghost use Rattle.tydi_reading.specs.Named.{argument};
+ghost use Rattle.tydi_reading.specs.Reading.{Reads, ReadsAlways};
 ghost use Rattle.til_lexer.specs.declared.token.TokenKind.TheVariants as kinds;
 
 use crate::arguments::Arguments;
-use crate::keyword::{TypeWord, sync_of};
+use crate::keyword::{Argument, TypeWord, sync_of};
 use crate::ltype::{AstPart, AstStream, AstSync, AstType};
 use crate::parser::Parser;
 use til_lexer::TokenKind;
@@ -108,7 +110,7 @@ impl<'a> Parser<'a> {
     /// `[ arg { "," arg } [ "," ] ]`, up to a closing bracket, of types of at most so many levels.
     #[cycle(ltype)]
     fn arguments(&mut self, levels: usize) -> Result<Arguments, Fault>
-        ensures { Reads (spec.arguments (spec.ltype levels) spec.none_given self.old) result self.new }
+        ensures { Reads (spec.arguments_from (spec.ltype levels) spec.none_given self.old) result self.new }
     {
         let mut given = Arguments::none();
         'arguments: while !self.sees(TokenKind::CloseParen) {
@@ -120,79 +122,61 @@ impl<'a> Parser<'a> {
         Ok(given)
     }
 
-    /// An argument whose value may hold a type of at most so many levels.
+    /// An argument that is not given yet, whose value may hold a type of at most so many levels.
     #[cycle(ltype)]
-    #[tactic(auto, unfolding(crate::specs::ReadTypes::argument, crate::specs::ReadTypes::labelled))]
     fn argument(&mut self, given: Arguments, levels: usize) -> Result<Arguments, Fault>
-        ensures { Reads (spec.argument (spec.ltype levels) given self.old) result self.new }
+        ensures { Reads (argument argument_at spec.is_given (spec.value (spec.ltype levels)) given self.old) result self.new }
     {
-        if self.awaits("data", &given.element) {
-            self.label()?;
-            let element = Some(self.ltype(levels)?);
-            return Ok(Arguments { element, ..given });
+        let Some(name) = self.argument_name() else {
+            return Err(Fault::Refused);
+        };
+        if given.has(name) {
+            return Err(Fault::Refused);
         }
-        if self.awaits("throughput", &given.throughput) {
-            self.label()?;
-            let throughput = Some(self.number()?);
-            return Ok(Arguments {
-                throughput,
-                ..given
-            });
-        }
-        if self.awaits("user", &given.user) {
-            self.label()?;
-            let user = Some(self.ltype(levels)?);
-            return Ok(Arguments { user, ..given });
-        }
-        self.setting(given)
-    }
-
-    /// An argument whose value holds no type.
-    #[tactic(auto, unfolding(crate::specs::ReadTypes::setting, crate::specs::ReadTypes::labelled))]
-    fn setting(&mut self, given: Arguments) -> Result<Arguments, Fault>
-        ensures { ReadsAlways (spec.setting given self.old) result self.new }
-    {
-        if self.awaits("dimensionality", &given.dims) {
-            self.label()?;
-            let dims = Some(self.whole()?);
-            return Ok(Arguments { dims, ..given });
-        }
-        if self.awaits("synchronicity", &given.sync) {
-            self.label()?;
-            let sync = Some(self.sync()?);
-            return Ok(Arguments { sync, ..given });
-        }
-        if self.awaits("complexity", &given.level) {
-            self.label()?;
-            let level = Some(self.level()?);
-            return Ok(Arguments { level, ..given });
-        }
-        if self.awaits("direction", &given.reverse) {
-            self.label()?;
-            let reverse = Some(self.either_word("Reverse", "Forward")?);
-            return Ok(Arguments { reverse, ..given });
-        }
-        if self.awaits("keep", &given.keep) {
-            self.label()?;
-            let keep = Some(self.either_word("true", "false")?);
-            return Ok(Arguments { keep, ..given });
-        }
-        Err(Fault::Refused)
-    }
-
-    /// Whether an argument of this name stands next that is not given yet.
-    fn awaits<T>(&self, name: &str, given: &Option<T>) -> bool
-        ensures { result ≡ spec.awaits name.now given.now self.now }
-    {
-        self.sees_word(name) && given.is_none()
-    }
-
-    /// The name of an argument, and the colon after it.
-    fn label(&mut self) -> Result<(), Fault>
-        ensures { ReadsAlways (reading.expect kinds.Colon (rest_of self.old)) result self.new }
-    {
         self.skip();
-        self.expect(TokenKind::Colon)
+        self.value(name, given, levels)
+    }
+
+    /// A colon and the value of an argument, beside those that are given.
+    #[cycle(ltype)]
+    fn value(&mut self, name: Argument, given: Arguments, levels: usize) -> Result<Arguments, Fault>
+        ensures { Reads (spec.value (spec.ltype levels) name given self.old) result self.new }
+    {
+        self.expect(TokenKind::Colon)?;
+        match name {
+            Argument::Data => {
+                let element = Some(self.ltype(levels)?);
+                Ok(Arguments { element, ..given })
+            }
+            Argument::Throughput => {
+                let throughput = Some(self.number()?);
+                Ok(Arguments { throughput, ..given })
+            }
+            Argument::Dimensionality => {
+                let dims = Some(self.whole()?);
+                Ok(Arguments { dims, ..given })
+            }
+            Argument::Synchronicity => {
+                let sync = Some(self.sync()?);
+                Ok(Arguments { sync, ..given })
+            }
+            Argument::Complexity => {
+                let level = Some(self.level()?);
+                Ok(Arguments { level, ..given })
+            }
+            Argument::Direction => {
+                let reverse = Some(self.either_word("Reverse", "Forward")?);
+                Ok(Arguments { reverse, ..given })
+            }
+            Argument::User => {
+                let user = Some(self.ltype(levels)?);
+                Ok(Arguments { user, ..given })
+            }
+            Argument::Keep => {
+                let keep = Some(self.either_word("true", "false")?);
+                Ok(Arguments { keep, ..given })
+            }
+        }
     }
 
     /// A synchronicity.

@@ -26,9 +26,8 @@ module _ {T K G S : Type 0} (Good : T → Type 0) (f : Fields K G S) (a : Argume
   abbrev Turning : G → Turn G → Form T
   Turning = steps.Turning Good f a test last separates Separator between
 
-  -- the argument of this name, with the value that the whole has for it
   abbrev pub Argument : S → K → Form T
-  Argument s k = steps.Argument Good f a k (f.value s k)
+  Argument = a.Argument
 
   -- the value of a whole is given, or it is the default and not given
   abbrev IsGivenOr : S → G → K → Type 0
@@ -83,7 +82,7 @@ module _ {T K G S : Type 0} (Good : T → Type 0) (f : Fields K G S) (a : Argume
         | inr c ↦ all.held k c none
       ];
       others = λ k c. sym (kept k (λ e. c (Contains-first all.order one.name k e))) ∙ all.others k (λ d. c (Contains-more all.order one.name k d));
-      written = more one.name all.order (subst (λ x. steps.Argument Good f a one.name x front) (sym (agrees one.name one.is now)) one.spelled) all.written;
+      written = more one.name all.order (a.to_argument s one.name front (subst (λ x. steps.Spelled Good f a one.name x front) (sym (agrees one.name one.is now)) one.spelled)) all.written;
     }
       where
         there : f.field one.name new ≡ Some one.is
@@ -152,7 +151,7 @@ module _ {T K G S : Type 0} (Good : T → Type 0) (f : Fields K G S) (a : Argume
   -- ---- what the form has is read
 
   step-of : (s : S) (k : K) (given : G) (ts : List T) → f.field k given ≡ None → Argument s k ts → Step given (f.put k (f.value s k) given) ts
-  step-of s k given ts none i = record { name = k; is = f.value s k; absent = none; added = refl; spelled = i }
+  step-of s k given ts none i = record { name = k; is = f.value s k; absent = none; added = refl; spelled = a.of_argument s k ts i }
 
   -- the values of these arguments are given
   abbrev give : S → List K → G → G
@@ -466,11 +465,11 @@ module _ {T K G S : Type 0} (Good : T → Type 0) (f : Fields K G S) (a : Argume
   }
 
   -- a whole of named arguments in any order, up to where the test holds
-  pub named-rule : Defaults → IsRule Good (checked f.made (named test last separates a.name (steps.is_given Good f a) (steps.added Good f a) f.none)) Whole
+  pub named-rule : Defaults → IsRule Good (checked f.made (named test last separates a.name f.is_given a.added f.none)) Whole
       (λ _ rest. tells test last rest ≡ true) Within (NamedTo Separator Argument To)
   named-rule defaults =
-      deep-rule Good (checked f.made (named test last separates a.name (steps.is_given Good f a) (steps.added Good f a) f.none)) Whole (λ _ rest. tells test last rest ≡ true) Within
+      deep-rule Good (checked f.made (named test last separates a.name f.is_given a.added f.none)) Whole (λ _ rest. tells test last rest ≡ true) Within
       (LoopTo Turning StepDeep f.none) (NamedTo Separator Argument To) leads_to to_deep
-      (checked-rule Good f.made (named test last separates a.name (steps.is_given Good f a) (steps.added Good f a) f.none) (Loop Turning f.none) (λ _ rest. tells test last rest ≡ true)
+      (checked-rule Good f.made (named test last separates a.name f.is_given a.added f.none) (Loop Turning f.none) (λ _ rest. tells test last rest ≡ true)
       (steps.AreIn Good f a) (LoopTo Turning StepDeep f.none) Whole (λ _ rest. tells test last rest ≡ true) Within (checks defaults)
       (steps.arguments-rule Good f a test last separates Separator between))

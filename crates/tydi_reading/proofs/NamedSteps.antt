@@ -1,18 +1,18 @@
 -- Named arguments: what is given of them, the rules of their values, and that one argument more is a rule.
-use Rattle.std.proofs.Common.{◌≡◌, ◌⊎◌, inl, inr, ◌<◌, Bool, true, false, cond, List, [], ◌∷◌, ◌++◌, length, Option, Some, None, option_and_then, refl, sym, ap, ◌∙◌, subst, arith, append_assoc}
+use Rattle.std.proofs.Common.{◌≡◌, ◌⊎◌, inl, inr, ⊎_elim, ◌<◌, Bool, true, false, cond, List, [], ◌∷◌, ◌++◌, length, Option, Some, None, option_and_then, refl, sym, ap, ◌∙◌, subst, arith, append_assoc}
 use Rattle.std.specs.List.{Contains}
 use Rattle.std.specs.Option.{is_some}
 use Rattle.std.proofs.lemmas.Option.{none-some, same_Some}
 use Rattle.tydi_reading.specs.declared.fault.Fault.TheVariants as faults
 use Rattle.tydi_reading.specs.Forms.{Form, ◌⋯◌, Never, Anything, Loop, LoopTo}
 use Rattle.tydi_reading.specs.Named.{awaited, argument, named}
-use Rattle.tydi_reading.specs.Reading.{Outcome, Reader, Turn, stopped, and_then, meant, leaf, tells, told_by, rest_of, ◌<$>◌}
+use Rattle.tydi_reading.specs.Reading.{Outcome, Reader, Shrinks, Turn, took, stopped, and_then, meant, leaf, tells, told_by, rest_of, ◌<$>◌}
 use Rattle.tydi_reading.specs.Rules.{IsRule}
 use Rattle.tydi_reading.proofs.ContainsLemmas.{Contains-none, Contains-cases}
-use Rattle.tydi_reading.proofs.FilledLemmas.{filled-first}
+use Rattle.tydi_reading.proofs.FilledLemmas.{filled-first, shrinks-rule}
 use Rattle.tydi_reading.proofs.MarkLemmas.{IsMark}
 use Rattle.tydi_reading.proofs.Rule.{Made, as_rule, made-rule}
-use Rattle.tydi_reading.proofs.StepRules.{IsLeaf, leaf-rule, then-rule}
+use Rattle.tydi_reading.proofs.StepRules.{IsLeaf, leaf-rule, then-rule, read-rule}
 use Rattle.tydi_reading.proofs.StepsRule.{IsStuck, Separates, TurnOf, steps-rule}
 
 -- what is given of the arguments of such names, and the whole that is made of it
@@ -20,6 +20,7 @@ pub record Fields (K G S : Type 0) : Type 1 where
   pub Value : K → Type 0
   pub field : (k : K) → G → Option (Value k)
   pub put : (k : K) → Value k → G → G
+  pub is_given : K → G → Bool
   pub none : G
   pub made : G → Option S
   pub value : S → (k : K) → Value k
@@ -30,6 +31,7 @@ pub record Fields (K G S : Type 0) : Type 1 where
   pub field-put : (k : K) (x : Value k) (given : G) → field k (put k x given) ≡ Some x
   pub field-put_other : (a b : K) (x : Value b) (given : G) → (b ≡ a → ⊥) → field a (put b x given) ≡ field a given
   pub field-none : (k : K) → field k none ≡ None
+  pub is_given-is : (k : K) (given : G) → is_given k given ≡ is_some (field k given)
   pub made-is : (given : G) (s : S) → made given ≡ Some s → (k : K) → (field k given ≡ Some (value s k)) ⊎ ((field k given ≡ None) × IsDefault s k)
   pub is-made : (given : G) (s : S) → ((k : K) → (field k given ≡ Some (value s k)) ⊎ ((field k given ≡ None) × IsDefault s k)) → made given ≡ Some s
   pub full : (given : G) → ((k : K) → field k given ≡ None → ⊥) → made given ≡ None → ⊥
@@ -48,6 +50,11 @@ pub record Arguments {T K G S : Type 0} (Good : T → Type 0) (f : Fields K G S)
   pub Next : Form T
   pub Within : (k : K) → f.Value k → Type 0
   pub Deep : K → Form T
+  pub Argument : S → K → Form T
+  pub to_argument : (s : S) (k : K) (ts : List T) → (Name k ⋯ Spelled k (f.value s k)) ts → Argument s k ts
+  pub of_argument : (s : S) (k : K) (ts : List T) → Argument s k ts → (Name k ⋯ Spelled k (f.value s k)) ts
+  pub added : K → G → Reader T G
+  pub added-is : (k : K) (given : G) (ts : List T) → ((λ x. f.put k x given) <$> read k) ts ≡ added k given ts
   pub rule : (k : K) → IsRule Good (read k) (Spelled k) (λ _. Next) (Within k) (Deep k)
 
 -- what stands between arguments, and after them
@@ -71,19 +78,12 @@ none_or None = inl refl
 none_or (Some x) = inr (λ e. none-some x (sym e))
 
 module _ {T K G S : Type 0} (Good : T → Type 0) (f : Fields K G S) (a : Arguments Good f) where
-  abbrev pub is_given : K → G → Bool
-  is_given k given = is_some (f.field k given)
-
-  -- the value of an argument, added to what is given
-  abbrev pub added : K → G → Reader T G
-  added k given = (λ x. f.put k x given) <$> a.read k
-
   abbrev pub step : G → Reader T G
-  step = argument a.name is_given added
+  step = argument a.name f.is_given a.added
 
   -- an argument with its value
-  abbrev pub Argument : (k : K) → f.Value k → Form T
-  Argument k x = a.Name k ⋯ a.Spelled k x
+  abbrev pub Spelled : (k : K) → f.Value k → Form T
+  Spelled k x = a.Name k ⋯ a.Spelled k x
 
   -- a value that is given is within its bounds
   abbrev pub In : (k : K) → Option (f.Value k) → Type 0
@@ -96,7 +96,7 @@ module _ {T K G S : Type 0} (Good : T → Type 0) (f : Fields K G S) (a : Argume
     pub is : f.Value name
     pub absent : f.field name given ≡ None
     pub added : next ≡ f.put name is given
-    pub spelled : Argument name is ts
+    pub spelled : Spelled name is ts
 
   -- what is added is within its bounds
   abbrev pub StepWithin : G → G → Type 0
@@ -113,29 +113,30 @@ module _ {T K G S : Type 0} (Good : T → Type 0) (f : Fields K G S) (a : Argume
   abbrev Awaited : G → K → Form T
   Awaited given k ts = (f.field k given ≡ None) × a.Name k ts
 
-  awaited-of : (given : G) (k : K) (t : T) (o : Option K) → a.name t ≡ o → option_and_then (λ j. cond (is_given j given) None (Some j)) o ≡ Some k
+  awaited-of : (given : G) (k : K) (t : T) (o : Option K) → a.name t ≡ o → option_and_then (λ j. cond (f.is_given j given) None (Some j)) o ≡ Some k
       → (f.field k given ≡ None) × (a.name t ≡ Some k)
   awaited-of given k t None told is = absurd (none-some k is)
   awaited-of given k t (Some j) told is =
-      let parts = unless (is_given j given) j k is in
-      (subst (λ i. f.field i given ≡ None) parts.1 (none-is (f.field j given) parts.0), told ∙ ap Some parts.1)
+      let parts = unless (f.is_given j given) j k is in
+      (subst (λ i. f.field i given ≡ None) parts.1 (none-is (f.field j given) (sym (f.is_given-is j given) ∙ parts.0)), told ∙ ap Some parts.1)
 
-  awaited-name : (given : G) (k : K) (t : T) → awaited a.name is_given given t ≡ Some k → (f.field k given ≡ None) × (a.name t ≡ Some k)
+  awaited-name : (given : G) (k : K) (t : T) → awaited a.name f.is_given given t ≡ Some k → (f.field k given ≡ None) × (a.name t ≡ Some k)
   awaited-name given k t is = awaited-of given k t (a.name t) refl is
 
-  awaited-is : (given : G) (k : K) (t : T) → a.name t ≡ Some k → f.field k given ≡ None → awaited a.name is_given given t ≡ Some k
+  awaited-is : (given : G) (k : K) (t : T) → a.name t ≡ Some k → f.field k given ≡ None → awaited a.name f.is_given given t ≡ Some k
   awaited-is given k t told none =
-      ap (option_and_then (λ j. cond (is_given j given) None (Some j))) told ∙ ap (λ (o : Option (f.Value k)). cond (is_some o) None (Some k)) none
+      ap (option_and_then (λ j. cond (f.is_given j given) None (Some j))) told 
+      ∙ ap (λ (b : Bool). cond b None (Some k)) (f.is_given-is k given ∙ ap is_some none)
 
-  awaited-leaf : (given : G) → IsLeaf Good (awaited a.name is_given given) (Awaited given)
+  awaited-leaf : (given : G) → IsLeaf Good (awaited a.name f.is_given given) (Awaited given)
   awaited-leaf given = record {
     there = λ k t is. let parts = awaited-name given k t is in (parts.0, a.there k t parts.1);
     back = λ k ts each s. let o = a.back k ts s.1 in (o.0, o.1, awaited-is given k o.0 o.2 s.0);
   }
 
   name-rule : (given : G) (k : K) → f.field k given ≡ None
-      → IsRule Good (leaf (awaited a.name is_given given)) (Awaited given) (λ _. Anything) (λ _. Unit {0}) Never
-  name-rule given k none = leaf-rule Good (awaited a.name is_given given) (Awaited given) (a.thing k) k (a.good k) (awaited-is given k (a.thing k) (a.named k) none) (awaited-leaf given)
+      → IsRule Good (leaf (awaited a.name f.is_given given)) (Awaited given) (λ _. Anything) (λ _. Unit {0}) Never
+  name-rule given k none = leaf-rule Good (awaited a.name f.is_given given) (Awaited given) (a.thing k) k (a.good k) (awaited-is given k (a.thing k) (a.named k) none) (awaited-leaf given)
 
   -- ---- one argument more
 
@@ -145,15 +146,17 @@ module _ {T K G S : Type 0} (Good : T → Type 0) (f : Fields K G S) (a : Argume
     | inr apart ↦ subst (In k) (sym (ap (f.field k) is ∙ f.field-put_other k j x given apart ∙ none)) tt
   ]
 
-  added-rule : (given : G) (k : K) → IsRule Good (added k given) (Made (λ x. f.put k x given) (a.Spelled k)) (λ _. a.Next) (λ next. In k (f.field k next)) (a.Deep k)
+  added-rule : (given : G) (k : K) → IsRule Good (a.added k given) (Made (λ x. f.put k x given) (a.Spelled k)) (λ _. a.Next) (λ next. In k (f.field k next)) (a.Deep k)
   added-rule given k =
-      made-rule (λ x. f.put k x given) (as_rule (a.rule k)) (λ _. a.Next) (λ next. In k (f.field k next)) (λ x rest next. next)
-      (λ x w. subst (In k) (sym (f.field-put k x given)) w) (λ x w. subst (In k) (f.field-put k x given) w)
+      read-rule Good ((λ x. f.put k x given) <$> a.read k) (a.added k given) (Made (λ x. f.put k x given) (a.Spelled k)) (λ _. a.Next) (λ next. In k (f.field k next)) (a.Deep k)
+      (a.added-is k given)
+      (made-rule (λ x. f.put k x given) (as_rule (a.rule k)) (λ _. a.Next) (λ next. In k (f.field k next)) (λ x rest next. next)
+      (λ x w. subst (In k) (sym (f.field-put k x given)) w) (λ x w. subst (In k) (f.field-put k x given) w))
 
   argument-rule : (given : G) (k : K) → f.field k given ≡ None → IsRule Good (step given) (Step given) (λ _. a.Next) (StepWithin given) (StepDeep given)
   unfolding argument
   argument-rule given free none =
-      then-rule Good (leaf (awaited a.name is_given given)) (λ k. added k given) (Awaited given) (λ _. Anything) (λ _. Unit {0}) Never
+      then-rule Good (leaf (awaited a.name f.is_given given)) (λ k. a.added k given) (Awaited given) (λ _. Anything) (λ _. Unit {0}) Never
       (λ k. Made (λ x. f.put k x given) (a.Spelled k)) (λ _ _. a.Next) (λ k next. In k (f.field k next)) a.Deep
       (Step given) (λ _. a.Next) (StepWithin given) (StepDeep given)
       (record {
@@ -195,15 +198,15 @@ module _ {T K G S : Type 0} (Good : T → Type 0) (f : Fields K G S) (a : Argume
     ]
   ]
 
-  refused : (given : G) → ((k : K) → f.field k given ≡ None → ⊥) → (t : T) (ts : List T) (o : Option K) → awaited a.name is_given given t ≡ o
-      → and_then (meant o ts (t ∷ ts)) (λ k. added k given) ≡ stopped faults.Refused (t ∷ ts)
+  refused : (given : G) → ((k : K) → f.field k given ≡ None → ⊥) → (t : T) (ts : List T) (o : Option K) → awaited a.name f.is_given given t ≡ o
+      → and_then (meant o ts (t ∷ ts)) (λ k. a.added k given) ≡ stopped faults.Refused (t ∷ ts)
   refused given full t ts None is = refl
   refused given full t ts (Some k) is = absurd (full k (awaited-name given k t is).0)
 
   refuses : (given : G) → ((k : K) → f.field k given ≡ None → ⊥) → (ts : List T) → step given ts ≡ stopped faults.Refused ts
   unfolding argument
   refuses given full [] = refl
-  refuses given full (t ∷ ts) = refused given full t ts (awaited a.name is_given given t) refl
+  refuses given full (t ∷ ts) = refused given full t ts (awaited a.name f.is_given given t) refl
 
   pub step-rule : (given : G) → IsRule Good (step given) (Step given) (λ _. a.Next) (StepWithin given) (StepDeep given) ⊎ IsStuck (step given) (Step given) (StepDeep given)
   step-rule given = elim (free_or f.all given) [
@@ -258,10 +261,20 @@ module _ {T K G S : Type 0} (Good : T → Type 0) (f : Fields K G S) (a : Argume
             → (First ⋯ Second) front → tells test last (front ++ rest) ≡ false
         starts_front First Second front rest first s = rw (s.all, append_assoc s.front s.back rest) (first s.front (s.back ++ rest) s.begins)
 
+    -- one argument more takes a thing at least
+    pub step-shrinks : (given : G) → Shrinks (step given)
+    step-shrinks given = ⊎_elim
+        (λ r. shrinks-rule Good (step given) (Step given) (λ _. a.Next) (StepWithin given) (StepDeep given) (separates-arguments.filled given) r)
+        (λ stuck. record { less = λ ts rest x is. absurd (never ts rest x (sym (stuck.refuses ts) ∙ is)) })
+        (step-rule given)
+      where
+        never : (ts rest : List T) (x : G) → ◌≡◌ {A = Outcome T G} (stopped faults.Refused ts) (took x rest) → ⊥
+        never ts rest x is = cc
+
     abbrev pub Turning : G → Turn G → Form T
     Turning = TurnOf Good test last separates Separator step Step (λ _. a.Next) StepWithin StepDeep AreIn separates-arguments step-rule
 
-    pub arguments-rule : IsRule Good (named test last separates a.name is_given added f.none) (Loop Turning f.none) (λ _ rest. tells test last rest ≡ true) AreIn
+    pub arguments-rule : IsRule Good (named test last separates a.name f.is_given a.added f.none) (Loop Turning f.none) (λ _ rest. tells test last rest ≡ true) AreIn
         (LoopTo Turning StepDeep f.none)
     unfolding named
     arguments-rule =

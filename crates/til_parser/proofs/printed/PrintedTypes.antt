@@ -21,7 +21,8 @@ use Rattle.til_parser.proofs.printed.PrintedLists.{with_no_comma}
 use Rattle.til_parser.proofs.printed.PrintedForms.{Printed, Stops, bracketed, colon, comma, ends_as, joined, labelled, made, nothing, of_text}
 use Rattle.til_parser.proofs.printed.PrintedForms.{prefixed, suffixed}
 use Rattle.til_parser.proofs.printed.PrintedForms.{word}
-use Rattle.til_parser.proofs.printed.StreamArguments.{all_arguments, all_arguments-all, all_arguments-apart}
+use Rattle.til_parser.specs.Words.{all_arguments}
+use Rattle.til_parser.proofs.rules.StreamFields.{all_arguments-all, all_arguments-apart}
 
 abbrev pub PrintedType : Ltype → Type 0
 PrintedType one = Printed kinds.Word (type_text one) (λ (a : Again SameType one). SpellsType a.again)

@@ -18,42 +18,23 @@ use Rattle.til_parser.specs.Lexemes.{Lexeme, IsFormed}
 use Rattle.til_parser.specs.Nesting.{TypeTo, PortsTo}
 use Rattle.til_parser.specs.Reading.{same_kind}
 use Rattle.til_parser.specs.ReadDecls.{keyword, impl_kind, test_kind, kind_of}
-use Rattle.til_parser.specs.Words.{keyword_of}
+use Rattle.til_parser.specs.Words.{keyword_word, all_keywords, keyword_of}
 use Rattle.til_parser.proofs.rules.BodyRules.{body-rule}
 use Rattle.til_parser.proofs.rules.LeafRules.{PathNext, name-rule, path-rule, quoted-rule}
 use Rattle.til_parser.proofs.rules.ListRules.{Of-path, Word-path}
-use Rattle.til_parser.proofs.rules.TokenRules.{made, word_mark, equals, token-rule, word_entry, word_token}
+use Rattle.til_parser.proofs.rules.TokenRules.{word_mark, equals, table-rule}
 use Rattle.til_parser.proofs.rules.PartRules.{S}
 use Rattle.til_parser.proofs.rules.LevelRules.{ltype-rule}
 use Rattle.til_parser.proofs.rules.PortRules.{ports-rule, streamlet-rule}
 
 -- ---- keywords
 
-abbrev pub keyword_word : Keyword → List ℕ
-keyword_word keywords.Type = codes "type"
-keyword_word keywords.Interface = codes "interface"
-keyword_word keywords.Streamlet = codes "streamlet"
-keyword_word keywords.Impl = codes "impl"
-keyword_word keywords.Test = codes "test"
-
-keyword_of-word : (word : List ℕ) (x : Keyword) → keyword_of word ≡ Some x → word ≡ keyword_word x
-unfolding keyword_of
-keyword_of-word word x is =
-    word_entry keyword_word word keywords.Type x _ is (λ is. word_entry keyword_word word keywords.Interface x _ is (λ is.
-    word_entry keyword_word word keywords.Streamlet x _ is (λ is. word_entry keyword_word word keywords.Impl x _ is (λ is.
-    word_entry keyword_word word keywords.Test x _ is (λ is. absurd (none-some x is))))))
-
-keyword_of-is : (x : Keyword) → keyword_of (keyword_word x) ≡ Some x
-unfolding keyword_of
-keyword_of-is keywords.Type = refl
-keyword_of-is keywords.Interface = refl
-keyword_of-is keywords.Streamlet = refl
-keyword_of-is keywords.Impl = refl
-keyword_of-is keywords.Test = refl
+each_keyword : (x : Keyword) → keyword_of (keyword_word x) ≡ Some x
+each_keyword keywords.Type = refl
+each_keyword _ = refl
 
 pub keyword-rule : IsRule IsFormed keyword (λ x. Word (keyword_word x)) (λ _. Anything) (λ _. Unit {0}) Never
-keyword-rule = token-rule kinds.Word (λ place spelling. keyword_of spelling) (λ x. Word (keyword_word x)) (word_token keyword_of keyword_word keyword_of-word keyword_of-is)
-    (made kinds.Word (codes "type")) keywords.Type refl refl (keyword_of-is keywords.Type)
+keyword-rule = table-rule keyword_word all_keywords each_keyword keywords.Type refl
 
 -- ---- what follows the keyword and the name
 

@@ -37,9 +37,9 @@ use Rattle.til_parser.specs.Lexemes.{Lexeme, IsFormed, between_marks}
 use Rattle.til_parser.specs.Numbers.{whole_of, numerator_of, denominator_of, lowest}
 use Rattle.til_parser.specs.ReadTypes.{name_at, name, whole, number, level_of, level, quoted, doc_of, doc, path, either_word, sync}
 use Rattle.til_parser.specs.Reading.{same_kind, is_kind, is_word, token}
-use Rattle.til_parser.specs.Words.{sync_of}
+use Rattle.til_parser.specs.Words.{all_syncs, sync_of}
 use Rattle.til_parser.proofs.numbers.FractionLemmas.{IsReduced-lowest, lowest_from_IsReduced}
-use Rattle.til_parser.proofs.rules.TokenRules.{both, one, made, same_kind-is, kind-mark, word_mark, IsToken, token-rule, word_entry, word_token, Word-not_word}
+use Rattle.til_parser.proofs.rules.TokenRules.{both, one, made, same_kind-is, kind-mark, word_mark, IsToken, token-rule, table-rule, Word-not_word}
 
 -- ---- names
 
@@ -282,22 +282,12 @@ module _ (word : Bool → List ℕ) (form : (b : Bool) → has_name_form (word b
         other_within = λ u. tt;
       })
 
-sync_of-word : (word : List ℕ) (x : AstSync) → sync_of word ≡ Some x → word ≡ sync_word x
-unfolding sync_of
-sync_of-word word x is =
-    word_entry sync_word word syncs.Sync x _ is (λ is. word_entry sync_word word syncs.Flatten x _ is (λ is.
-    word_entry sync_word word syncs.Desync x _ is (λ is. word_entry sync_word word syncs.FlatDesync x _ is (λ is. absurd (none-some x is)))))
-
-sync_of-is : (x : AstSync) → sync_of (sync_word x) ≡ Some x
-unfolding sync_of
-sync_of-is syncs.Sync = refl
-sync_of-is syncs.Flatten = refl
-sync_of-is syncs.Desync = refl
-sync_of-is syncs.FlatDesync = refl
+each_sync : (x : AstSync) → sync_of (sync_word x) ≡ Some x
+each_sync syncs.Sync = refl
+each_sync _ = refl
 
 pub sync-rule : IsRule IsFormed sync (λ x. Word (sync_word x)) (λ _. Anything) (λ _. Unit {0}) Never
-sync-rule = token-rule kinds.Word (λ place spelling. sync_of spelling) (λ x. Word (sync_word x)) (word_token sync_of sync_word sync_of-word sync_of-is)
-    (made kinds.Word (codes "Sync")) syncs.Sync refl refl (sync_of-is syncs.Sync)
+sync-rule = table-rule sync_word all_syncs each_sync syncs.Sync refl
 
 -- ---- paths
 

@@ -1,32 +1,39 @@
 -- The rule of types of so many levels; what begins a type that stands too deep.
 use Rattle.std.proofs.Common.{◌≡◌, ℕ, zero, suc, ◌<◌, inl, inr, ⊎_elim, Bool, true, false, cond, List, [], ◌∷◌, ◌++◌, All, length, Option, Some, None, refl, sym, ap, ◌∙◌, subst, arith, codes, bytes_eq}
-use Rattle.std.proofs.lemmas.Option.{none-some}
+use Rattle.std.specs.List.{Contains}
 use Rattle.std.proofs.lemmas.List.Elements.{All-nil, All-cons, All-head}
 use Rattle.tydi_base.specs.Name.{is_name, has_name_form}
 use Rattle.tydi_reading.specs.Forms.{Nothing, ◌⋯◌, GoesOn}
 use Rattle.tydi_reading.specs.Reading.{too_deep}
 use Rattle.tydi_reading.specs.Rules.{IsRule}
 use Rattle.tydi_reading.proofs.ChoiceRules.{too_deep-rule}
+use Rattle.tydi_reading.proofs.ContainsLemmas.{Contains-none, Contains-first}
 use Rattle.tydi_reading.proofs.StepRules.{same-rule}
+use Rattle.tydi_reading.proofs.TableLemmas.{entry-none, entry-word}
 use Rattle.til_lexer.specs.declared.token.TokenKind.TheVariants as kinds
 use Rattle.til_parser.specs.declared.keyword.TypeWord.{TypeWord}
 use Rattle.til_parser.specs.declared.keyword.TypeWord.TheVariants as words
+use Rattle.til_parser.specs.declared.keyword.Argument.{Argument}
+use Rattle.til_parser.specs.declared.keyword.Argument.TheVariants as arguments
+use Rattle.til_parser.specs.declared.ltype.AstStream.{AstStream, roll-AstStream}
+use Rattle.til_parser.specs.declared.ltype.AstSync.TheVariants as syncs
 use Rattle.til_parser.specs.declared.ltype.AstType.{AstType}
 use Rattle.til_parser.specs.declared.ltype.AstType.TheVariants as types
 use Rattle.til_parser.specs.declared.tree.AstName.{AstName}
-use Rattle.til_parser.specs.Grammar.{Form, Of, IsWord, Word, Name, Whole, Path, Commas, Bracketed}
+use Rattle.til_parser.specs.Grammar.{Form, Of, IsWord, Word, Name, Whole, Path, Commas, Bracketed, IsDefault, SpellsType}
 use Rattle.til_parser.specs.Grammar as grammar
 use Rattle.til_parser.specs.Lexemes.{Lexeme, IsFormed}
 use Rattle.til_parser.specs.Nesting.{SpellsPart, TypeTo}
 use Rattle.til_parser.specs.Reading.{same_kind, begins_type}
-use Rattle.til_parser.specs.Words.{type_word_of}
+use Rattle.til_parser.specs.Words.{type_word, all_type_words, type_word_of}
 use Rattle.til_parser.specs.ReadTypes.{ltype}
-use Rattle.til_parser.specs.Tree.{plain}
+use Rattle.til_parser.specs.Tree.{plain, settings_of}
+use Rattle.til_parser.proofs.PlainLemmas.{plain-Null}
 use Rattle.til_parser.proofs.rules.LeafRules.{PathNext}
-use Rattle.til_parser.proofs.rules.StreamSteps.{ArgumentsOf, data_null, good_null, null_spelled, null_stream, null_arguments}
+use Rattle.til_parser.proofs.rules.StreamFields.{ArgumentsOf}
 use Rattle.til_parser.proofs.rules.TokenRules.{both, made, one, kind_is, same_kind-is}
 use Rattle.til_parser.proofs.rules.PartRules.{S}
-use Rattle.til_parser.proofs.rules.TypeWords.{type_word, type_word_of-word, Lead}
+use Rattle.til_parser.proofs.rules.TypeWords.{Lead}
 use Rattle.til_parser.proofs.rules.TypeRules.{depth-some, Fits, After, of_word, there, back, type-rule}
 
 -- ---- a type that stands too deep
@@ -67,6 +74,56 @@ one_digit = one (grammar.IsWhole 1) (made kinds.Number (codes "1")) (record { ki
 good_digit : All IsFormed (made kinds.Number (codes "1") ∷ [])
 good_digit = All-cons IsFormed (made kinds.Number (codes "1")) [] (inl (record { digits = record { some = omega arith; each = refl }; few = omega arith })) (All-nil IsFormed)
 
+-- a Stream of `data: Null`
+abbrev null_stream : AstStream
+null_stream = roll-AstStream (record {
+  element = types.Null;
+  throughput = record { num = 1; den = 1 };
+  dims = 0;
+  sync = syncs.Sync;
+  level = 4;
+  reverse = false;
+  user = types.Null;
+  keep = false;
+})
+
+abbrev data_null : List Lexeme
+data_null = made kinds.Word (codes "data") ∷ made kinds.Colon (codes ":") ∷ made kinds.Word (codes "Null") ∷ []
+
+null_spelled : S types.Null (made kinds.Word (codes "Null") ∷ [])
+null_spelled = subst (λ t. SpellsType t (made kinds.Word (codes "Null") ∷ [])) (sym plain-Null) (one (IsWord (codes "Null")) _ (record { kind = refl; text = refl }))
+
+good_null : All IsFormed data_null
+good_null =
+    All-cons IsFormed (made kinds.Word (codes "data")) (made kinds.Colon (codes ":") ∷ made kinds.Word (codes "Null") ∷ []) refl
+    (All-cons IsFormed (made kinds.Colon (codes ":")) (made kinds.Word (codes "Null") ∷ []) refl
+    (All-cons IsFormed (made kinds.Word (codes "Null")) [] refl (All-nil IsFormed)))
+
+null_defaults : (name : Argument) → (Contains (arguments.Data ∷ []) name → ⊥) → IsDefault (plain types.Null) (settings_of null_stream) name
+null_defaults arguments.Data out = absurd (out (Contains-first [] arguments.Data arguments.Data refl))
+null_defaults arguments.User out = plain-Null
+null_defaults _ out = refl
+
+null_arguments : ArgumentsOf null_stream data_null
+null_arguments = record {
+  order = arguments.Data ∷ [];
+  apart = (Contains-none arguments.Data, tt);
+  others = null_defaults;
+  written = record {
+    front = data_null;
+    back = [];
+    all = refl;
+    begins = record {
+      front = made kinds.Word (codes "data") ∷ [];
+      back = made kinds.Colon (codes ":") ∷ made kinds.Word (codes "Null") ∷ [];
+      all = refl;
+      begins = one (IsWord (codes "data")) _ (record { kind = refl; text = refl });
+      ends = record { front = made kinds.Colon (codes ":") ∷ []; back = made kinds.Word (codes "Null") ∷ []; all = refl; begins = closed kinds.Colon (codes ":"); ends = null_spelled };
+    };
+    ends = inl refl;
+  };
+}
+
 -- a word that is none of the five is a name
 name_goes : (t : Lexeme) → t.kind ≡ kinds.Word → is_name t.spelling ≡ true → GoesOn IsFormed S (t ∷ [])
 name_goes t kind named =
@@ -92,20 +149,9 @@ goes_word words.Union t is = goes_after words.Union (types.Union []) t (brackets
 goes_word words.Stream t is = goes_after words.Stream (types.Stream null_stream) t (brackets data_null) is (good_brackets data_null good_null)
     (null_stream, refl, in_brackets (ArgumentsOf null_stream) data_null null_arguments)
 
-no_entry : (b : Bool) (k : TypeWord) (o : Option TypeWord) → cond b (Some k) o ≡ None → (b ≡ false) × (o ≡ None)
-no_entry true k o is = absurd (none-some k (sym is))
-no_entry false k o is = (refl, is)
-
 -- a word in the form of a name that is none of the words of types is a name
 is_named : (word : List ℕ) → has_name_form word ≡ true → type_word_of word ≡ None → is_name word ≡ true
-unfolding type_word_of
-is_named word form none =
-    let null = no_entry (bytes_eq word (codes "Null")) words.Null _ none in
-    let bits = no_entry (bytes_eq word (codes "Bits")) words.Bits _ null.1 in
-    let group = no_entry (bytes_eq word (codes "Group")) words.Group _ bits.1 in
-    let union = no_entry (bytes_eq word (codes "Union")) words.Union _ group.1 in
-    let stream = no_entry (bytes_eq word (codes "Stream")) words.Stream _ union.1 in
-    rw (form, null.0, bits.0, group.0, union.0, stream.0) refl
+is_named word form none = let out = entry-none type_word all_type_words word none in rw (form, out.0, out.1.0, out.1.1.0, out.1.1.1.0, out.1.1.1.1.0) refl
 
 begun : (t : Lexeme) → begins_type t ≡ true → GoesOn IsFormed S (t ∷ [])
 begun t is = by_word (type_word_of t.spelling) refl
@@ -113,7 +159,7 @@ begun t is = by_word (type_word_of t.spelling) refl
     by_word : (o : Option TypeWord) → type_word_of t.spelling ≡ o → GoesOn IsFormed S (t ∷ [])
     by_word (Some k) told =
         let parts = both (same_kind t.kind kinds.Word) (has_name_form t.spelling) is in
-        goes_word k t (record { kind = kind_is t.kind kinds.Word parts.0; text = type_word_of-word t.spelling k told })
+        goes_word k t (record { kind = kind_is t.kind kinds.Word parts.0; text = entry-word type_word all_type_words t.spelling k told })
     by_word None told =
         let parts = both (same_kind t.kind kinds.Word) (has_name_form t.spelling) is in
         name_goes t (kind_is t.kind kinds.Word parts.0) (is_named t.spelling parts.1 told)

@@ -28,7 +28,8 @@ use Rattle.til_parser.specs.Nesting.{KindTo, DeclTo, NamespaceTo, ProjectTo}
 use Rattle.til_parser.specs.Reading.{same_kind, is_kind}
 use Rattle.til_parser.specs.ReadTypes.{name}
 use Rattle.til_parser.specs.ReadDecls.{keyword, kind_of, named_kind, decl, namespace, project_of, project}
-use Rattle.til_parser.proofs.rules.DeclRules.{keyword_word, kind_parts, kind_of_parts, KindForm, RestTo, keyword-rule, kind-rule_of}
+use Rattle.til_parser.specs.Words.{keyword_word}
+use Rattle.til_parser.proofs.rules.DeclRules.{kind_parts, kind_of_parts, KindForm, RestTo, keyword-rule, kind-rule_of}
 use Rattle.til_parser.proofs.rules.LeafRules.{PathNext, name-rule, path-rule, doc-rule, doc_tells}
 use Rattle.til_parser.proofs.rules.ListRules.{braced-rule, Of-path}
 use Rattle.til_parser.proofs.rules.TokenRules.{word_mark, semicolon, Word-not}

@@ -2,7 +2,8 @@
 use Rattle.std.proofs.Common.{◌≡◌, ℕ, ⊎_elim, length, sym, ap, ◌∙◌, arith}
 use Rattle.tydi_reading.specs.declared.fault.Fault.TheVariants as faults
 use Rattle.tydi_reading.specs.Forms.{◌⋯◌}
-use Rattle.tydi_reading.specs.Reading.{Outcome, took, stopped, Shrinks}
+use Rattle.tydi_reading.specs.Named.{argument}
+use Rattle.tydi_reading.specs.Reading.{Shrinks}
 use Rattle.tydi_reading.proofs.FilledLemmas.{filled-first}
 use Rattle.tydi_reading.proofs.Rule.{as_rule, shrinks}
 use Rattle.til_lexer.specs.declared.token.TokenKind.TheVariants as kinds
@@ -10,16 +11,16 @@ use Rattle.til_parser.specs.declared.arguments.Arguments.{Arguments}
 use Rattle.til_parser.specs.Grammar.{Of, Word}
 use Rattle.til_parser.specs.Lexemes.{Lexeme}
 use Rattle.til_parser.specs.Nesting.{TypeTo}
-use Rattle.til_parser.specs.ReadTypes.{name, ltype, part, argument}
+use Rattle.til_parser.specs.ReadTypes.{name, ltype, part, is_given, value}
+use Rattle.til_parser.specs.Words.{argument_at}
 use Rattle.til_parser.specs.ReadDecls.{port, stmt, decl, namespace}
-use Rattle.til_parser.proofs.rules.AwaitedRules.{word, Spelled}
-use Rattle.til_parser.proofs.rules.ArgumentRules.{step-rule}
+use Rattle.til_parser.proofs.rules.StreamRules.{argument-shrinks}
 use Rattle.til_parser.proofs.rules.BodyRules.{stmt-rule, stmt-filled}
 use Rattle.til_parser.proofs.rules.PortRules.{port-rule, port-lists}
 use Rattle.til_parser.proofs.rules.LeafRules.{Name-filled, name-rule}
 use Rattle.til_parser.proofs.rules.ProjectRules.{decl-rule, decl-filled, namespace-rule, namespace-filled}
 use Rattle.til_parser.proofs.rules.PartRules.{S, part-rule, part-lists}
-use Rattle.til_parser.proofs.rules.TypeRules.{Fits}
+use Rattle.til_parser.proofs.rules.TypeRules.{Fits, null_within}
 use Rattle.til_parser.proofs.rules.LevelRules.{ltype-rule}
 
 pub Shrinks-name : Shrinks name
@@ -28,11 +29,8 @@ Shrinks-name = shrinks (as_rule name-rule) Name-filled
 pub Shrinks-part : (n : ℕ) → Shrinks (part (ltype n))
 Shrinks-part n = shrinks (as_rule (part-rule (ltype n) (Fits n) (TypeTo n) (ltype-rule n))) (part-lists (ltype n) (Fits n) (TypeTo n) (ltype-rule n)).filled
 
-pub Shrinks-argument : (n : ℕ) (given : Arguments) → Shrinks (argument (ltype n) given)
-Shrinks-argument n given = ⊎_elim
-    (λ r. shrinks (as_rule r) (λ x front s. filled-first (Word (word s.name)) (Of kinds.Colon ⋯ Spelled S s.name s.is) front (λ ts w. let size = ap length w.all in omega arith) s.spelled))
-    (λ stuck. record { less = λ ts rest x is. absurd (let no : ◌≡◌ {A = Outcome Lexeme Arguments} (stopped faults.Refused ts) (took x rest) = sym (stuck.refuses ts) ∙ is in cc) })
-    (step-rule (ltype n) (Fits n) (TypeTo n) (ltype-rule n) given)
+pub Shrinks-argument : (n : ℕ) (given : Arguments) → Shrinks (argument argument_at is_given (value (ltype n)) given)
+Shrinks-argument n given = argument-shrinks (ltype n) (Fits n) (TypeTo n) (ltype-rule n) (null_within n) given
 
 pub Shrinks-port : (n : ℕ) → Shrinks (port n)
 Shrinks-port n = shrinks (as_rule (port-rule n)) (port-lists n).filled

@@ -1,96 +1,154 @@
 -- The rule of the arguments of a Stream.
-use Rattle.std.proofs.Common.{◌≡◌, true, false, Option, Some, None, refl, sym, subst}
-use Rattle.std.specs.Option.{unwrap_or}
-use Rattle.tydi_reading.specs.Forms.{Anything, ◌⋯◌, Loop, LoopTo}
-use Rattle.tydi_reading.specs.Reading.{Reader, Turn, tells, checked}
+use Rattle.std.proofs.Common.{◌≡◌, ⊎_elim, Bool, true, false, List, ◌∷◌, Some, refl, sym, ◌∙◌, subst, codes}
+use Rattle.tydi_base.specs.Name.{has_name_form}
+use Rattle.tydi_reading.specs.Forms.{Never, Anything, ◌⋯◌}
+use Rattle.tydi_reading.specs.Named.{argument}
+use Rattle.tydi_reading.specs.Reading.{Reader, Shrinks, ◌>>◌, ◌<$>◌}
 use Rattle.tydi_reading.specs.Rules.{IsRule}
-use Rattle.tydi_reading.proofs.CheckedRule.{Checks, checked-rule}
-use Rattle.tydi_reading.proofs.Rule.{as_rule, skip, close, mark-tells}
-use Rattle.tydi_reading.proofs.StepRules.{deep-rule}
+use Rattle.tydi_reading.proofs.FormLemmas.{with_ends}
+use Rattle.tydi_reading.proofs.NamedRule.{Defaults, named-rule}
+use Rattle.tydi_reading.proofs.NamedSteps.{Between, step-shrinks}
+use Rattle.tydi_reading.proofs.NamedSteps as steps
+use Rattle.tydi_reading.proofs.Rule.{as_rule, as_flat, narrowed, skip, flat_skip, close, mark-tells}
 use Rattle.til_lexer.specs.declared.token.TokenKind.TheVariants as kinds
 use Rattle.til_parser.specs.declared.arguments.Arguments.{Arguments}
+use Rattle.til_parser.specs.declared.keyword.Argument.{Argument}
+use Rattle.til_parser.specs.declared.keyword.Argument.TheVariants as arguments
 use Rattle.til_parser.specs.declared.ltype.AstType.{AstType}
 use Rattle.til_parser.specs.declared.ltype.AstType.TheVariants as types
 use Rattle.til_parser.specs.declared.ltype.AstStream.{AstStream}
-use Rattle.til_parser.specs.Grammar.{Form, Of, Bracketed}
-use Rattle.til_parser.specs.Grammar.{Argument, data_type, throughput, dimensionality, synchronicity, complexity, direction, user_type, keep}
+use Rattle.til_parser.specs.Grammar.{Form, Of, Word, Whole, Number, Level, Bracketed, argument_word, sync_word, direction_word, truth_word}
 use Rattle.til_parser.specs.Lexemes.{Lexeme, IsFormed}
-use Rattle.til_parser.specs.Nesting.{ArgumentsTo}
-use Rattle.til_parser.specs.Reading.{is_kind}
-use Rattle.til_parser.specs.ReadTypes.{none_given, filled, stream_of, arguments, stream}
-use Rattle.til_parser.proofs.rules.ArgumentFields.{Value, value, field, value-filled}
-use Rattle.til_parser.proofs.rules.ArgumentRules.{ValueWithin, StepDeep}
-use Rattle.til_parser.proofs.rules.LeafRules.{PathNext}
-use Rattle.til_parser.proofs.rules.TokenRules.{open_paren, close_paren}
-use Rattle.til_parser.proofs.rules.StreamSteps.{S, ArgumentsOf, map_some}
-use Rattle.til_parser.proofs.rules.StreamSteps as steps
-use Rattle.til_parser.proofs.rules.StreamForms as forms
-use Rattle.til_parser.proofs.rules.StreamNesting as nesting
+use Rattle.til_parser.specs.Nesting.{ValueTo, SpellsArgument, ArgumentsTo}
+use Rattle.til_parser.specs.Reading.{same_kind, is_kind, expect}
+use Rattle.til_parser.specs.ReadTypes.{Value, put, is_given, value_of, stream}
+use Rattle.til_parser.specs.ReadTypes as read
+use Rattle.til_parser.specs.Words.{all_arguments, argument_of, argument_at}
+use Rattle.til_parser.proofs.PlainLemmas.{plain-Null, plain-injective}
+use Rattle.til_parser.proofs.rules.LeafRules.{PathNext, number-rule, whole-rule, level-rule, sync-rule, either_word-rule}
+use Rattle.til_parser.proofs.rules.ListRules.{kind-not, kind-path}
+use Rattle.til_parser.proofs.rules.PartRules.{S}
+use Rattle.til_parser.proofs.rules.StreamFields.{fields, value, ArgumentsOf}
+use Rattle.til_parser.proofs.rules.TokenRules.{made, colon, open_paren, close_paren, kind-mark, word_at-word, word_at-is, word_at-there, word_at-back}
+
+each_argument : (name : Argument) → argument_of (argument_word name) ≡ Some name
+each_argument arguments.Data = refl
+each_argument _ = refl
+
+formed : (name : Argument) → IsFormed (made kinds.Word (argument_word name))
+formed arguments.Data = refl
+formed _ = refl
+
+direction_formed : (b : Bool) → has_name_form (direction_word b) ≡ true
+direction_formed true = refl
+direction_formed false = refl
+
+truth_formed : (b : Bool) → has_name_form (truth_word b) ≡ true
+truth_formed true = refl
+truth_formed false = refl
+
+-- the value of an argument
+abbrev Spelled : (name : Argument) → Value name → Form
+Spelled arguments.Data x = S x
+Spelled arguments.Throughput x = Number x
+Spelled arguments.Dimensionality x = Whole x
+Spelled arguments.Synchronicity x = Word (sync_word x)
+Spelled arguments.Complexity x = Level x
+Spelled arguments.Direction x = Word (direction_word x)
+Spelled arguments.User x = S x
+Spelled arguments.Keep x = Word (truth_word x)
+
+abbrev Named : AstStream → Argument → Form
+Named one name = Word (argument_word name) ⋯ Of kinds.Colon ⋯ Spelled name (value one name)
+
+to_argument : (one : AstStream) (name : Argument) (ts : List Lexeme) → Named one name ts → SpellsArgument one name ts
+to_argument one arguments.Data ts s = s
+to_argument one _ ts s = s
+
+of_argument : (one : AstStream) (name : Argument) (ts : List Lexeme) → SpellsArgument one name ts → Named one name ts
+of_argument one arguments.Data ts s = s
+of_argument one _ ts s = s
 
 module _ (inner : Reader Lexeme AstType) (W : AstType → Type 0) (D : Form) (rule : IsRule IsFormed inner S (λ _. PathNext) W D)
     (null_within : (x : AstType) → W x → W types.Null) where
-  abbrev Bounded : (a : Argument) → Option (Value a) → Type 0
-  Bounded = steps.Bounded inner W D rule null_within
+  -- the types in a value are within their bounds
+  abbrev ValueWithin : (name : Argument) → Value name → Type 0
+  ValueWithin arguments.Data x = W x
+  ValueWithin arguments.User x = W x
+  ValueWithin _ x = Unit {0}
 
-  abbrev Wi : Arguments → Type 0
-  Wi = steps.Wi inner W D rule null_within
+  -- a value that holds no type
+  no_type : {A : Type 0} {p : Reader Lexeme A} {P : A → Form} → IsRule IsFormed p P (λ _. Anything) (λ _. Unit {0}) Never
+      → IsRule IsFormed (expect kinds.Colon >> p) (λ x. Of kinds.Colon ⋯ P x) (λ _. PathNext) (λ _. Unit {0}) Never
+  no_type one = narrowed (flat_skip colon (as_flat one)) (λ _. PathNext) (λ x rest next. tt)
 
-  abbrev Turning : Arguments → Turn Arguments → Form
-  Turning = steps.Turning inner W D rule null_within
+  value-rule : (name : Argument)
+      → IsRule IsFormed (expect kinds.Colon >> value_of inner name) (λ x. Of kinds.Colon ⋯ Spelled name x) (λ _. PathNext) (ValueWithin name) (ValueTo D name)
+  value-rule arguments.Data = (skip colon (as_rule rule)).is
+  value-rule arguments.Throughput = no_type number-rule
+  value-rule arguments.Dimensionality = no_type whole-rule
+  value-rule arguments.Synchronicity = no_type sync-rule
+  value-rule arguments.Complexity = no_type level-rule
+  value-rule arguments.Direction = no_type (either_word-rule direction_word direction_formed refl)
+  value-rule arguments.User = (skip colon (as_rule rule)).is
+  value-rule arguments.Keep = no_type (either_word-rule truth_word truth_formed refl)
 
-  -- ---- the bounds
+  added-is : (name : Argument) (given : Arguments) (ts : List Lexeme) → ((λ x. put name x given) <$> (expect kinds.Colon >> value_of inner name)) ts ≡ read.value inner name given ts
+  added-is arguments.Data given ts = refl
+  added-is _ given ts = refl
 
-  abbrev pub StreamWithin : AstStream → Type 0
-  StreamWithin s = W s.element × W s.user
-
-  user_within : (o : Option AstType) (x : AstType) → Bounded user_type o → W x → W (unwrap_or o types.Null)
-  user_within None x inside w = null_within x w
-  user_within (Some y) x inside w = inside
-
-  within-made : (given : Arguments) (s : AstStream) → stream_of given ≡ Some s → Wi given → StreamWithin s
-  within-made given s is each =
-      let h = map_some (λ element. filled element given) given.element s is in
-      let element : W h.0 = subst (Bounded data_type) h.1 (each data_type) in
-      subst StreamWithin h.2 (element, user_within given.user h.0 (each user_type) element)
-
-  value_bounded : (s : AstStream) → StreamWithin s → (b : Argument) → ValueWithin inner W D rule b (value s b)
-  value_bounded s w data_type = w.0
-  value_bounded s w throughput = tt
-  value_bounded s w dimensionality = tt
-  value_bounded s w synchronicity = tt
-  value_bounded s w complexity = tt
-  value_bounded s w direction = tt
-  value_bounded s w user_type = w.1
-  value_bounded s w keep = tt
-
-  bounded_of : (b : Argument) (o : Option (Value b)) → ((x : Value b) → o ≡ Some x → ValueWithin inner W D rule b x) → Bounded b o
-  bounded_of b None says = tt
-  bounded_of b (Some x) says = says x refl
-
-  apart-made : (given : Arguments) (s : AstStream) → stream_of given ≡ Some s → StreamWithin s → Wi given
-  apart-made given s is w b =
-      let h = map_some (λ element. filled element given) given.element s is in
-      let inside = subst StreamWithin (sym h.2) w in
-      bounded_of b (field b given) (λ x e. subst (ValueWithin inner W D rule b) (value-filled given h.0 b x h.1 e) (value_bounded (filled h.0 given) inside b))
-
-  checks : Checks IsFormed stream_of (Loop Turning none_given) (λ _ rest. tells (is_kind kinds.CloseParen) false rest ≡ true) Wi
-      ArgumentsOf (λ _ rest. tells (is_kind kinds.CloseParen) false rest ≡ true) StreamWithin
-  checks = record {
-    there = λ given s ts is walk. forms.made-of inner W D rule null_within given s ts is walk;
-    back = λ s ts a. forms.read-of inner W D rule null_within s ts a;
-    follow = λ given s rest is next. next;
-    within = within-made;
-    apart = apart-made;
-    mends = λ given ts is walk. forms.mends inner W D rule null_within given ts is walk;
+  abbrev values : steps.Arguments IsFormed fields
+  values = record {
+    name = argument_at;
+    Name = λ name. Word (argument_word name);
+    there = word_at-there argument_word all_arguments each_argument;
+    back = word_at-back argument_word all_arguments each_argument;
+    thing = λ name. made kinds.Word (argument_word name);
+    good = formed;
+    named = λ name. word_at-is argument_word all_arguments each_argument (made kinds.Word (argument_word name)) name (record { kind = refl; text = refl });
+    read = λ name. expect kinds.Colon >> value_of inner name;
+    Spelled = λ name x. Of kinds.Colon ⋯ Spelled name x;
+    Next = PathNext;
+    Within = ValueWithin;
+    Deep = ValueTo D;
+    Argument = SpellsArgument;
+    to_argument = to_argument;
+    of_argument = of_argument;
+    added = read.value inner;
+    added-is = added-is;
+    rule = value-rule;
   }
 
-  pub stream-rule : IsRule IsFormed (stream inner) (λ s. Bracketed (ArgumentsOf s)) (λ _. Anything) StreamWithin (Of kinds.OpenParen ⋯ ArgumentsTo D)
+  between : Between IsFormed (is_kind kinds.CloseParen) false (is_kind kinds.Comma) (Of kinds.Comma) argument_at PathNext
+  unfolding same_kind
+  between = record {
+    mark = kind-mark kinds.Comma (codes ",") refl;
+    starts = λ name t is. rw ((word_at-word argument_word all_arguments each_argument t name is).kind) refl;
+    before_end = λ rest is. kind-path kinds.CloseParen refl rest is;
+    before_separator = λ t rest is. kind-path kinds.Comma refl (t ∷ rest) is;
+    apart = λ rest is. kind-not kinds.CloseParen kinds.Comma refl rest is;
+  }
+
+  pub argument-shrinks : (given : Arguments) → Shrinks (argument argument_at is_given (read.value inner) given)
+  argument-shrinks = step-shrinks IsFormed fields values (is_kind kinds.CloseParen) false (is_kind kinds.Comma) (Of kinds.Comma) between
+
+  abbrev pub StreamWithin : AstStream → Type 0
+  StreamWithin one = (name : Argument) → ValueWithin name (value one name)
+
+  pub values_within : (one : AstStream) → W one.element → W one.user → StreamWithin one
+  values_within one element user arguments.Data = element
+  values_within one element user arguments.User = user
+  values_within one element user _ = tt
+
+  defaults : Defaults IsFormed fields values (is_kind kinds.CloseParen) false (is_kind kinds.Comma) (Of kinds.Comma) between
+  defaults one or arguments.Data default = absurd default
+  defaults one or arguments.User default = subst W (sym (plain-injective one.user types.Null (default ∙ sym plain-Null)))
+      (⊎_elim (λ w. null_within one.element w) (λ none. absurd none) (or arguments.Data))
+  defaults one or _ default = tt
+
+  pub stream-rule : IsRule IsFormed (stream inner) (λ one. Bracketed (ArgumentsOf one)) (λ _. Anything) StreamWithin (Of kinds.OpenParen ⋯ ArgumentsTo D)
   unfolding stream
   stream-rule =
-      (skip open_paren
-      (close
-      (as_rule (deep-rule IsFormed (checked stream_of (arguments inner none_given)) ArgumentsOf (λ _ rest. tells (is_kind kinds.CloseParen) false rest ≡ true) StreamWithin
-      (LoopTo Turning (StepDeep inner W D rule) none_given) (ArgumentsTo D) (nesting.leads_to inner W D rule null_within) (nesting.arguments_to inner W D rule null_within)
-      (checked-rule IsFormed stream_of (arguments inner none_given) (Loop Turning none_given) (λ _ rest. tells (is_kind kinds.CloseParen) false rest ≡ true) Wi
-      (LoopTo Turning (StepDeep inner W D rule) none_given) ArgumentsOf (λ _ rest. tells (is_kind kinds.CloseParen) false rest ≡ true) StreamWithin checks (steps.arguments-rule inner W D rule null_within))))
-      close_paren (λ s. mark-tells close_paren))).is
+      (skip open_paren (close
+      (as_rule (named-rule IsFormed fields values (is_kind kinds.CloseParen) false (is_kind kinds.Comma) (Of kinds.Comma) between defaults))
+      close_paren (λ one. mark-tells close_paren))).is

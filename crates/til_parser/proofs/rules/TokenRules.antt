@@ -8,6 +8,9 @@ use Rattle.tydi_base.specs.declared.place.Place.{Place}
 use Rattle.tydi_reading.specs.Forms.{Never, Anything}
 use Rattle.tydi_reading.specs.Reading.{meant, leaf, tells}
 use Rattle.tydi_reading.specs.Rules.{IsRule}
+use Rattle.tydi_reading.specs.Tables.{entry_of}
+use Rattle.tydi_reading.proofs.TableLemmas.{entry-word}
+use Rattle.til_parser.specs.Words.{word_at}
 use Rattle.tydi_reading.proofs.MarkLemmas.{IsMark}
 use Rattle.tydi_reading.proofs.Rule.{Mark}
 use Rattle.tydi_reading.proofs.StepRules.{leaf-rule, read-rule}
@@ -166,19 +169,31 @@ module _ {A : Type 0} (kind : TokenKind) (meaning : Place → List ℕ → Optio
 
 -- ---- tables of words
 
--- where a table has a meaning for a word, the word is that of the meaning
-pub word_entry : {K : Type 0} (own : K → List ℕ) (word : List ℕ) (k x : K) (o : Option K) → cond (bytes_eq word (own k)) (Some k) o ≡ Some x
-    → (o ≡ Some x → word ≡ own x) → word ≡ own x
-word_entry {K} own word k x o is more = by_test (bytes_eq word (own k)) refl is
-  where
-    by_test : (b : Bool) → bytes_eq word (own k) ≡ b → cond b (Some k) o ≡ Some x → word ≡ own x
-    by_test true same is = (bytes_eq-Decides word (own k)).0 same ∙ ap own (same_Some k x is)
-    by_test false same is = more is
+module _ {K : Type 0} (own : K → List ℕ) (all : List K) (each : (x : K) → entry_of own all (own x) ≡ Some x) where
+  -- a token that is a word of a table
+  pub table-rule : (x : K) → has_name_form (own x) ≡ true
+      → IsRule IsFormed (token kinds.Word (λ place spelling. entry_of own all spelling)) (λ x. Word (own x)) (λ _. Anything) (λ _. Unit {0}) Never
+  table-rule x form = token-rule kinds.Word (λ place spelling. entry_of own all spelling) (λ x. Word (own x))
+      (record {
+        there = λ x lexeme is means. one (IsWord (own x)) lexeme (record { kind = is; text = entry-word own all lexeme.spelling x means });
+        back = λ x ts s. (s.lexeme, s.all, s.is.kind, λ formed. ap (entry_of own all) s.is.text ∙ each x);
+      })
+      (made kinds.Word (own x)) x form refl (each x)
 
--- a token that is a word of a table
-pub word_token : {K : Type 0} (meaning : List ℕ → Option K) (own : K → List ℕ) → ((word : List ℕ) (x : K) → meaning word ≡ Some x → word ≡ own x)
-    → ((x : K) → meaning (own x) ≡ Some x) → IsToken kinds.Word (λ place spelling. meaning spelling) (λ x. Word (own x))
-word_token meaning own to from = record {
-  there = λ x lexeme is means. one (IsWord (own x)) lexeme (record { kind = is; text = to lexeme.spelling x means });
-  back = λ x ts s. (s.lexeme, s.all, s.is.kind, λ formed. ap meaning s.is.text ∙ from x);
-}
+  told_word : (b : Bool) (o : Option K) (k : K) → cond b o None ≡ Some k → (b ≡ true) × (o ≡ Some k)
+  told_word true o k is = (refl, is)
+  told_word false o k is = absurd (none-some k is)
+
+  pub word_at-word : (t : Lexeme) (k : K) → word_at (entry_of own all) t ≡ Some k → IsWord (own k) t
+  word_at-word t k is =
+      let parts = told_word (same_kind t.kind kinds.Word) (entry_of own all t.spelling) k is in
+      record { kind = kind_is t.kind kinds.Word parts.0; text = entry-word own all t.spelling k parts.1 }
+
+  pub word_at-is : (t : Lexeme) (k : K) → IsWord (own k) t → word_at (entry_of own all) t ≡ Some k
+  word_at-is t k is = rw (same_kind-is t.kind kinds.Word is.kind) (ap (entry_of own all) is.text ∙ each k)
+
+  pub word_at-there : (k : K) (t : Lexeme) → word_at (entry_of own all) t ≡ Some k → Word (own k) (t ∷ [])
+  word_at-there k t means = one (IsWord (own k)) t (word_at-word t k means)
+
+  pub word_at-back : (k : K) (ts : List Lexeme) → Word (own k) ts → (t : Lexeme) × (ts ≡ t ∷ []) × (word_at (entry_of own all) t ≡ Some k)
+  word_at-back k ts s = (s.lexeme, s.all, word_at-is s.lexeme k s.is)

@@ -10,6 +10,7 @@ use Rattle.tydi_reading.proofs.LedRule.{led-rule}
 use Rattle.tydi_reading.proofs.Rule.{as_rule, as_flat, flat_skip, flat_close, Made, made-rule}
 use Rattle.tydi_reading.proofs.StepRules.{Only, pure-rule, same-rule}
 use Rattle.til_lexer.specs.declared.token.TokenKind.TheVariants as kinds
+use Rattle.til_parser.specs.declared.keyword.Argument.TheVariants as arguments
 use Rattle.til_parser.specs.declared.keyword.TypeWord.{TypeWord}
 use Rattle.til_parser.specs.declared.keyword.TypeWord.TheVariants as words
 use Rattle.til_parser.specs.declared.ltype.AstPart.{AstPart}
@@ -20,17 +21,17 @@ use Rattle.til_parser.specs.Grammar.{Form, Of, Word, Whole, Path, Commas, Bracke
 use Rattle.til_parser.specs.Grammar as grammar
 use Rattle.til_parser.specs.Lexemes.{Lexeme, IsFormed}
 use Rattle.til_parser.specs.Nesting.{SpellsPart, BracketedTo, PartTo, ArgumentsTo, InsideTo}
-use Rattle.til_parser.specs.Words.{type_word_at}
+use Rattle.til_parser.specs.Words.{type_word, type_word_at}
 use Rattle.til_parser.specs.ReadTypes.{path, bits, type_after, type_with}
 use Rattle.til_parser.specs.Tree.{Ltype, null, Settings, plain, depth, depth_of_parts, settings_of}
 use Rattle.til_parser.specs.Tree as tree
 use Rattle.til_parser.proofs.rules.LeafRules.{PathNext, whole-rule, path-rule}
 use Rattle.til_parser.proofs.PlainLemmas.{plain_parts, plain-Null, plain-Bits, plain-Group, plain-Union, plain-Stream, plain-Path, of_plain, of_parts, of_plain-plain, plain-of_plain, plain_parts-of_parts}
-use Rattle.til_parser.proofs.rules.StreamSteps.{ArgumentsOf}
-use Rattle.til_parser.proofs.rules.StreamRules.{stream-rule}
+use Rattle.til_parser.proofs.rules.StreamFields.{ArgumentsOf}
+use Rattle.til_parser.proofs.rules.StreamRules.{stream-rule, values_within}
 use Rattle.til_parser.proofs.rules.TokenRules.{open_paren, close_paren}
 use Rattle.til_parser.proofs.rules.PartRules.{S, parts-rule}
-use Rattle.til_parser.proofs.rules.TypeWords.{type_word, Lead, lead-there, lead-rule, path-apart}
+use Rattle.til_parser.proofs.rules.TypeWords.{Lead, lead-there, lead-rule, path-apart}
 
 -- ---- how deep
 
@@ -195,8 +196,8 @@ module _ (n : ℕ) (inner : Reader Lexeme AstType) (D : Form) (one : IsRule IsFo
   after-rule words.Group = made-rule types.Group (as_rule (parts-rule inner (Fits n) D one)) (λ _. PathNext) V (λ x rest next. tt) group_fit fit_group
   after-rule words.Union = made-rule types.Union (as_rule (parts-rule inner (Fits n) D one)) (λ _. PathNext) V (λ x rest next. tt) union_fit fit_union
   after-rule words.Stream = made-rule types.Stream (as_rule (stream-rule inner (Fits n) D one (null_within n))) (λ _. PathNext) V
-      (λ x rest next. tt) (λ s w. rw (plain-Stream s) (omega (arith, w.0, w.1)))
-      (λ s w. let d = subst (λ t. depth t ≤ suc n) (plain-Stream s) w in (omega (arith, d), omega (arith, d)))
+      (λ x rest next. tt) (λ s w. rw (plain-Stream s) (omega (arith, w arguments.Data, w arguments.User)))
+      (λ s w. let d = subst (λ t. depth t ≤ suc n) (plain-Stream s) w in values_within inner (Fits n) D one (null_within n) s (omega (arith, d)) (omega (arith, d)))
 
   path_type-rule : IsRule IsFormed (types.Path <$> path) ByPath (λ _. PathNext) V Never
   path_type-rule = made-rule types.Path (as_rule path-rule) (λ _. PathNext) V (λ x rest next. next) (λ x w. rw (plain-Path x) (omega arith)) (λ x w. tt)

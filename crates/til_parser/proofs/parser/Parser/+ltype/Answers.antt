@@ -1,4 +1,4 @@
-use Rattle.std.proofs.Common.{◌≡◌, ℕ, zero, suc, ◌-◌, ◌<◌, false, [], ◌∷◌, ◌++◌, List, sym, ap, rules, arith}
+use Rattle.std.proofs.Common.{◌≡◌, ℕ, zero, suc, ◌-◌, ◌<◌, false, [], ◌∷◌, ◌++◌, List, sym, ap, ◌∙◌, subst, rules, arith}
 use Rattle.std.proofs.lemmas.Grind.{common_steps}
 use Rattle.til_lexer.specs.declared.token.TokenKind.TheVariants as kinds
 use Rattle.til_parser.specs.declared.arguments.Arguments.{Arguments}
@@ -6,9 +6,12 @@ use Rattle.til_parser.specs.declared.ltype.AstPart.{AstPart}
 use Rattle.til_parser.specs.declared.ltype.AstType.{the_lemmas}
 use Rattle.til_parser.specs.Lexemes.{Lexeme}
 use Rattle.til_parser.specs.Reading.{is_kind}
-use Rattle.til_parser.specs.ReadTypes.{argument, arguments, ltype, part, type_with}
+use Rattle.til_parser.specs.ReadTypes.{is_given, value, ltype, part, type_with}
+use Rattle.til_parser.specs.Words.{argument_at}
+use Rattle.tydi_reading.specs.Named.{argument, named}
 use Rattle.tydi_reading.specs.Lists.{separated, steps, steps_turn, separator_turn, mark}
-use Rattle.tydi_reading.specs.Reading.{and_then, turned, loop, ◌<$>◌}
+use Rattle.tydi_reading.proofs.NamedSteps.{argument-none, argument-given, argument-taken}
+use Rattle.tydi_reading.specs.Reading.{Reads, and_then, turned, loop, ◌<$>◌}
 use Rattle.tydi_reading.proofs.LoopLemmas.{loop_unfolds, separated_turn-advances, steps_turn-advances, eaten-least}
 use Rattle.til_parser.proofs.rules.Shrinking.{Shrinks-part, Shrinks-argument}
 use Rattle.til_parser.proofs.parser.Parser.+ltype.Goals as goal
@@ -77,17 +80,17 @@ separated_parts-parts-smaller t c =
 -- ---- arguments
 
 arguments-turn : (levels : ℕ) (given : Arguments) (ts : List Lexeme)
-    → loop (steps_turn (is_kind kinds.CloseParen) false (is_kind kinds.Comma) (argument (ltype levels))) given ts ≡ and_then ((steps_turn (is_kind kinds.CloseParen) false (is_kind kinds.Comma) (argument (ltype levels))) given ts) (turned (loop (steps_turn (is_kind kinds.CloseParen) false (is_kind kinds.Comma) (argument (ltype levels)))))
-arguments-turn levels = loop_unfolds (steps_turn (is_kind kinds.CloseParen) false (is_kind kinds.Comma) (argument (ltype levels))) (steps_turn-advances (is_kind kinds.CloseParen) false (is_kind kinds.Comma) (argument (ltype levels)) (Shrinks-argument levels))
+    → loop (steps_turn (is_kind kinds.CloseParen) false (is_kind kinds.Comma) (argument argument_at is_given (value (ltype levels)))) given ts ≡ and_then ((steps_turn (is_kind kinds.CloseParen) false (is_kind kinds.Comma) (argument argument_at is_given (value (ltype levels)))) given ts) (turned (loop (steps_turn (is_kind kinds.CloseParen) false (is_kind kinds.Comma) (argument argument_at is_given (value (ltype levels))))))
+arguments-turn levels = loop_unfolds (steps_turn (is_kind kinds.CloseParen) false (is_kind kinds.Comma) (argument argument_at is_given (value (ltype levels)))) (steps_turn-advances (is_kind kinds.CloseParen) false (is_kind kinds.Comma) (argument argument_at is_given (value (ltype levels))) (Shrinks-argument levels))
 
 pub arguments-returns-in_err-given : goal.arguments-returns-in_err-given
-unfolding arguments steps steps_turn
+unfolding named steps steps_turn
 arguments-returns-in_err-given t c =
     let turn = arguments-turn c.args.levels c.arguments.given c.arguments.self in
     first_of (search rules, grind (arith, common_steps))
 
 pub arguments-returns-then-not-eat : goal.arguments-returns-then-not-eat
-unfolding arguments steps steps_turn separator_turn mark
+unfolding named steps steps_turn separator_turn mark
 arguments-returns-then-not-eat t c =
     let turn = arguments-turn c.args.levels c.arguments.given c.arguments.self in
     first_of (search rules, grind (arith, common_steps))
@@ -99,7 +102,7 @@ arguments-arguments-preserved t c =
     first_of (search rules, grind (arith, common_steps))
 
 pub arguments-returns : goal.arguments-returns
-unfolding arguments steps steps_turn
+unfolding named steps steps_turn
 arguments-returns t c =
     let turn = arguments-turn c.args.levels c.arguments.given c.arguments.self in
     first_of (search rules, grind (arith, common_steps))
@@ -109,3 +112,18 @@ arguments-arguments-smaller t c =
     let one = (Shrinks-argument c.args.levels _).less _ _ _ c.in_ok-given.ensures in
     let other = eaten-least (is_kind kinds.Comma) c.argument.new.self c.eat.result c.eat.new.self c.eat.ensures.taken in
     omega arith
+
+pub argument-returns-in_default : goal.argument-returns-in_default
+argument-returns-in_default t c =
+    λ _. argument-none argument_at is_given (value (ltype c.args.levels)) c.args.given c.args.self.now (sym c.argument_name.ensures ∙ c.in_default.is)
+
+pub argument-returns-then-has : goal.argument-returns-then-has
+argument-returns-then-has t c =
+    λ _. argument-given argument_at is_given (value (ltype c.args.levels)) c.args.given c.in-Some.name c.args.self.now (sym c.argument_name.ensures ∙ c.in-Some.is)
+    (sym c.has.ensures ∙ c.if-has.true)
+
+pub argument-returns : goal.argument-returns
+argument-returns t c =
+    rw (argument-taken argument_at is_given (value (ltype c.args.levels)) c.args.given c.in-Some.name c.args.self.now (sym c.argument_name.ensures ∙ c.in-Some.is)
+    (sym c.has.ensures ∙ c.if-has.false))
+    (subst (λ ts. Reads (value (ltype c.args.levels) c.in-Some.name c.args.given ts) c.value.result c.value.new.self) c.skip.ensures c.value.ensures)

@@ -1,0 +1,165 @@
+-- The arguments of a Stream by their names: what is given of each, and the Stream that is made of it.
+use Rattle.std.proofs.Common.{◌≡◌, ◌⊎◌, inl, inr, Bool, true, false, Option, Some, None, option_map, refl, sym, ap, ◌∙◌}
+use Rattle.std.proofs.lemmas.Option.{none-some, same_Some}
+use Rattle.std.specs.List.{Contains}
+use Rattle.std.specs.Option.{is_some, unwrap_or}
+use Rattle.tydi_reading.specs.Named.{AreApart}
+use Rattle.tydi_reading.proofs.ContainsLemmas.{same_or_not, has-Contains, are_apart-apart, has}
+use Rattle.til_parser.specs.contracts.keyword.Argument.{the_type}
+use Rattle.tydi_reading.proofs.NamedSteps.{Fields}
+use Rattle.til_parser.specs.declared.arguments.Arguments.{Arguments}
+use Rattle.til_parser.specs.declared.keyword.Argument.{Argument}
+use Rattle.til_parser.specs.declared.keyword.Argument.TheVariants as arguments
+use Rattle.til_parser.specs.declared.ltype.AstType.TheVariants as types
+use Rattle.til_parser.specs.declared.ltype.AstStream.{AstStream, roll-AstStream}
+use Rattle.til_parser.specs.declared.ltype.AstSync.TheVariants as syncs
+use Rattle.til_parser.specs.Grammar.{Form, IsDefault, SpellsType}
+use Rattle.til_parser.specs.Grammar as grammar
+use Rattle.til_parser.specs.Numbers.{lowest, divisor_from}
+use Rattle.til_parser.specs.ReadTypes.{Value, field, put, is_given, none_given, filled, stream_of}
+use Rattle.til_parser.specs.Tree.{plain, settings_of}
+use Rattle.til_parser.specs.Words.{all_arguments}
+use Rattle.til_parser.proofs.PlainLemmas.{plain-Null, plain-injective}
+
+-- ---- the names
+
+abbrev pub one_or_two : (a b : Argument) → (a ≡ b) ⊎ (a ≡ b → ⊥)
+one_or_two = same_or_not the_type tt
+
+has_all : (name : Argument) → has one_or_two all_arguments name ≡ true
+has_all arguments.Data = refl
+has_all _ = refl
+
+pub all_arguments-all : (name : Argument) → Contains all_arguments name
+all_arguments-all name = has-Contains one_or_two all_arguments name (has_all name)
+
+pub all_arguments-apart : AreApart all_arguments
+all_arguments-apart = are_apart-apart one_or_two all_arguments refl
+
+-- ---- what is given
+
+-- the value that a Stream has for an argument
+abbrev pub value : AstStream → (name : Argument) → Value name
+value one arguments.Data = one.element
+value one arguments.Throughput = one.throughput
+value one arguments.Dimensionality = one.dims
+value one arguments.Synchronicity = one.sync
+value one arguments.Complexity = one.level
+value one arguments.Direction = one.reverse
+value one arguments.User = one.user
+value one arguments.Keep = one.keep
+
+pub field-put : (a : Argument) (x : Value a) (given : Arguments) → field a (put a x given) ≡ Some x
+field-put arguments.Data x given = refl
+field-put _ x given = refl
+
+pub field-put_other : (a b : Argument) (x : Value b) (given : Arguments) → (b ≡ a → ⊥) → field a (put b x given) ≡ field a given
+field-put_other arguments.Data arguments.Data x given apart = absurd (apart refl)
+field-put_other arguments.Throughput arguments.Throughput x given apart = absurd (apart refl)
+field-put_other arguments.Dimensionality arguments.Dimensionality x given apart = absurd (apart refl)
+field-put_other arguments.Synchronicity arguments.Synchronicity x given apart = absurd (apart refl)
+field-put_other arguments.Complexity arguments.Complexity x given apart = absurd (apart refl)
+field-put_other arguments.Direction arguments.Direction x given apart = absurd (apart refl)
+field-put_other arguments.User arguments.User x given apart = absurd (apart refl)
+field-put_other arguments.Keep arguments.Keep x given apart = absurd (apart refl)
+field-put_other _ _ x given apart = refl
+
+pub field-none : (a : Argument) → field a none_given ≡ None
+field-none arguments.Data = refl
+field-none _ = refl
+
+pub is_given-is : (a : Argument) (given : Arguments) → is_given a given ≡ is_some (field a given)
+is_given-is arguments.Data given = refl
+is_given-is _ given = refl
+
+-- ---- the Stream of what is given
+
+lowest-whole : lowest 1 1 ≡ record { num = 1; den = 1 }
+unfolding lowest divisor_from
+lowest-whole = refl
+
+abbrev Default : AstStream → Argument → Type 0
+Default one = IsDefault (plain one.user) (settings_of one)
+
+-- the value of a Stream is given, or it is the default and not given
+abbrev IsGivenOr : AstStream → Arguments → Argument → Type 0
+IsGivenOr one given a = (field a given ≡ Some (value one a)) ⊎ ((field a given ≡ None) × Default one a)
+
+or_default : {A : Type 0} (o : Option A) (default x : A) (IsIt : Type 0) → (x ≡ default → IsIt) → unwrap_or o default ≡ x → (o ≡ Some x) ⊎ ((o ≡ None) × IsIt)
+or_default None default x IsIt to is = inr (refl, to (sym is))
+or_default (Some y) default x IsIt to is = inl (ap Some is)
+
+of_default : {A : Type 0} (o : Option A) (default x : A) (IsIt : Type 0) → (IsIt → x ≡ default) → (o ≡ Some x) ⊎ ((o ≡ None) × IsIt) → unwrap_or o default ≡ x
+of_default o default x IsIt from (inl is) = ap (λ p. unwrap_or p default) is
+of_default o default x IsIt from (inr h) = ap (λ p. unwrap_or p default) h.0 ∙ sym (from h.1)
+
+made_of : {A B : Type 0} (f : A → B) (o : Option A) (y : B) → option_map f o ≡ Some y → (x : A) × (o ≡ Some x) × (f x ≡ y)
+made_of f (Some x) y e = (x, refl, same_Some (f x) y e)
+made_of f None y e = absurd (none-some y e)
+
+pub made_none : {A B : Type 0} (f : A → B) (o : Option A) → option_map f o ≡ None → o ≡ None
+made_none f None e = refl
+made_none f (Some x) e = absurd (none-some (f x) (sym e))
+
+pub made-is : (given : Arguments) (one : AstStream) → stream_of given ≡ Some one → (a : Argument) → IsGivenOr one given a
+made-is given one is a = of_parts (made_of (λ element. filled element given) given.element one is) a
+  where
+    of_parts : (h : (element : _) × (given.element ≡ Some element) × (filled element given ≡ one)) → (a : Argument) → IsGivenOr one given a
+    of_parts h arguments.Data = inl (h.1 ∙ ap (λ s. Some s.element) h.2)
+    of_parts h arguments.Throughput = or_default given.throughput (lowest 1 1) one.throughput _ (λ e. e ∙ lowest-whole) (ap (λ s. s.throughput) h.2)
+    of_parts h arguments.Dimensionality = or_default given.dims 0 one.dims _ (λ e. e) (ap (λ s. s.dims) h.2)
+    of_parts h arguments.Synchronicity = or_default given.sync syncs.Sync one.sync _ (λ e. e) (ap (λ s. s.sync) h.2)
+    of_parts h arguments.Complexity = or_default given.level 4 one.level _ (λ e. e) (ap (λ s. s.level) h.2)
+    of_parts h arguments.Direction = or_default given.reverse false one.reverse _ (λ e. e) (ap (λ s. s.reverse) h.2)
+    of_parts h arguments.User = or_default given.user types.Null one.user _ (λ e. ap plain e ∙ plain-Null) (ap (λ s. s.user) h.2)
+    of_parts h arguments.Keep = or_default given.keep false one.keep _ (λ e. e) (ap (λ s. s.keep) h.2)
+
+pub is-made : (given : Arguments) (one : AstStream) → ((a : Argument) → IsGivenOr one given a) → stream_of given ≡ Some one
+is-made given one h =
+    let throughput = of_default given.throughput (lowest 1 1) one.throughput _ (λ e. e ∙ sym lowest-whole) (h arguments.Throughput) in
+    let dims = of_default given.dims 0 one.dims _ (λ e. e) (h arguments.Dimensionality) in
+    let sync = of_default given.sync syncs.Sync one.sync _ (λ e. e) (h arguments.Synchronicity) in
+    let level = of_default given.level 4 one.level _ (λ e. e) (h arguments.Complexity) in
+    let reverse = of_default given.reverse false one.reverse _ (λ e. e) (h arguments.Direction) in
+    let user = of_default given.user types.Null one.user _ (λ e. plain-injective one.user types.Null (e ∙ sym plain-Null)) (h arguments.User) in
+    let keep = of_default given.keep false one.keep _ (λ e. e) (h arguments.Keep) in
+    ap (option_map (λ element. filled element given)) (element (h arguments.Data)) ∙ (λ i. Some (roll-AstStream (record {
+      element = one.element;
+      throughput = throughput i;
+      dims = dims i;
+      sync = sync i;
+      level = level i;
+      reverse = reverse i;
+      user = user i;
+      keep = keep i;
+    })))
+  where
+    element : IsGivenOr one given arguments.Data → given.element ≡ Some one.element
+    element (inl e) = e
+    element (inr h) = absurd h.1
+
+abbrev pub fields : Fields Argument Arguments AstStream
+fields = record {
+  Value = Value;
+  field = field;
+  put = put;
+  is_given = is_given;
+  none = none_given;
+  made = stream_of;
+  value = value;
+  IsDefault = Default;
+  all = all_arguments;
+  each = all_arguments-all;
+  one_or_two = one_or_two;
+  field-put = field-put;
+  field-put_other = field-put_other;
+  field-none = field-none;
+  is_given-is = is_given-is;
+  made-is = made-is;
+  is-made = is-made;
+  full = λ given all none. all arguments.Data (made_none (λ element. filled element given) given.element none);
+}
+
+-- the arguments of a Stream as the grammar has them
+abbrev pub ArgumentsOf : AstStream → Form
+ArgumentsOf one = grammar.Arguments (SpellsType (plain one.element)) (SpellsType (plain one.user)) (plain one.user) (settings_of one)
