@@ -4,6 +4,7 @@ pub mod ChoiceRules
 pub mod LoopLemmas
 pub mod LoopRules
 pub mod ExactLemmas
+pub mod StopLemmas
 pub mod RepeatedRule
 pub mod MarkLemmas
 pub mod MarkRules

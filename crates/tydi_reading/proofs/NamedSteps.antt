@@ -1,11 +1,11 @@
 -- Named arguments: what is given of them, the rules of their values, and that one argument more is a rule.
-use Rattle.std.proofs.Common.{◌≡◌, ◌⊎◌, inl, inr, ⊎_elim, ◌<◌, Bool, true, false, cond, List, [], ◌∷◌, ◌++◌, length, Option, Some, None, option_and_then, refl, sym, ap, ◌∙◌, subst, arith, append_assoc}
+use Rattle.std.proofs.Common.{◌≡◌, ◌⊎◌, inl, inr, ⊎_elim, ◌<◌, ◌≤◌, Bool, true, false, cond, List, [], ◌∷◌, ◌++◌, length, Option, Some, None, option_and_then, refl, sym, ap, ◌∙◌, subst, arith, append_assoc}
 use Rattle.std.specs.List.{Contains}
 use Rattle.std.specs.Option.{is_some}
 use Rattle.std.proofs.lemmas.Option.{none-some, same_Some}
 use Rattle.tydi_reading.specs.declared.fault.Fault.TheVariants as faults
 use Rattle.tydi_reading.specs.Forms.{Form, ◌⋯◌, Never, Anything, Loop, LoopTo}
-use Rattle.tydi_reading.specs.Named.{awaited, argument, named}
+use Rattle.tydi_reading.specs.Named.{awaited, argument, named, NeverGrows}
 use Rattle.tydi_reading.specs.Reading.{Outcome, Reader, Shrinks, Turn, took, stopped, and_then, meant, leaf, tells, told_by, rest_of, ◌<$>◌}
 use Rattle.tydi_reading.specs.Rules.{IsRule}
 use Rattle.tydi_reading.proofs.ContainsLemmas.{Contains-none, Contains-cases}
@@ -302,3 +302,14 @@ module _ {T K G : Type 0} (name : T → Option K) (is_given : K → G → Bool) 
   pub argument-taken : (k : K) (ts : List T) → told_by name ts ≡ Some k → is_given k given ≡ false → argument name is_given value given ts ≡ value k given (rest_of ts)
   argument-taken k ts is test = argument-told ts ∙ ap (λ o. told o (rest_of ts) ts) is
       ∙ ap (λ b. and_then (meant (cond {A = Option K} b None (Some k)) (rest_of ts) ts) (λ k. value k given)) test
+
+  pub argument-shrinks : NeverGrows value → Shrinks (argument name is_given value given)
+  argument-shrinks grows = record { less = λ ts rest next is. less ts rest next (sym (argument-told ts) ∙ is) }
+    where
+      of_meant : (o : Option K) (ts us rest : List T) (next : G) → and_then (meant o us ts) (λ k. value k given) ≡ took next rest → length rest ≤ length us
+      of_meant None ts us rest next is = absurd cc
+      of_meant (Some k) ts us rest next is = grows.least k given us rest next is
+
+      less : (ts rest : List T) (next : G) → told (told_by name ts) (rest_of ts) ts ≡ took next rest → length rest < length ts
+      less [] rest next is = absurd cc
+      less (t ∷ ts) rest next is = let most = of_meant (option_and_then (λ k. cond (is_given k given) None (Some k)) (name t)) (t ∷ ts) ts rest next is in omega arith

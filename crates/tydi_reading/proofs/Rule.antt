@@ -148,6 +148,19 @@ pub mapped : {T A B : Type 0} {Good : T → Type 0} (f : A → B) (r : Rule Good
     → Maps f r.Spelled r.Next r.Within r.Deep Whole Next Within Deep → IsRule Good (f <$> r.read) Whole Next Within Deep
 mapped {Good = Good} f r Whole Next Within Deep maps = map-rule Good f r.read r.Spelled r.Next r.Within r.Deep Whole Next Within Deep maps r.is
 
+-- what is read under another view, which loses nothing
+pub viewed : {T A B : Type 0} {Good : T → Type 0} (f : A → B) (g : B → A) (r : Rule Good A) → ((x : A) → g (f x) ≡ x) → ((y : B) → y ≡ f (g y))
+    → IsRule Good (f <$> r.read) (λ y. r.Spelled (g y)) (λ y. r.Next (g y)) (λ y. r.Within (g y)) r.Deep
+viewed f g r same back = mapped f r (λ y. r.Spelled (g y)) (λ y. r.Next (g y)) (λ y. r.Within (g y)) r.Deep (record {
+  there = λ x ts s. subst (λ z. r.Spelled z ts) (sym (same x)) s;
+  back = λ y ts s. (g y, back y, s);
+  follow = λ x rest next. subst (λ z. r.Next z rest) (same x) next;
+  within = λ x w. subst r.Within (sym (same x)) w;
+  apart = λ x w. subst r.Within (same x) w;
+  first = λ ts d. d;
+  deep = λ ts d. d;
+})
+
 -- the form of what is made of what a rule spells
 abbrev pub Made : {T A B : Type 0} → (A → B) → (A → Form T) → B → Form T
 Made {A = A} f Spelled y ts = (x : A) × (y ≡ f x) × Spelled x ts

@@ -1,6 +1,8 @@
 -- What a fault of a text says, by the texts of a form alone. Things are counted from 0. This project's own.
-use Rattle.std.specs.Prelude.{◌<◌, ℕ, suc, List, ◌++◌, take, length, All}
+use Rattle.std.specs.Prelude.{◌<◌, ◌-◌, ℕ, zero, suc, List, ◌++◌, take, length, All}
 use Rattle.tydi_reading.specs.Forms.{Form, GoesOn}
+use Rattle.tydi_reading.specs.declared.fault.Fault.{Fault}
+use Rattle.tydi_reading.specs.declared.fault.Fault.TheVariants as faults
 
 -- nothing among the first so many things begins that stands too deep
 abbrev pub IsShallow : {T : Type 0} → Form T → ℕ → List T → Type 0
@@ -25,3 +27,26 @@ pub record IsCutOff {T A : Type 0} (Good : T → Type 0) (Spelled : A → Form T
   pub goes : GoesOn Good Spelled ts
   pub none : (x : A) → Spelled x ts → ⊥
   pub shallow : IsShallow Deep (length ts) ts
+
+-- where things stop: at a refused one, at their end, or at one that stands too deep
+pub data Stop : Type 0 where
+  refused : ℕ → Stop
+  cut_off : Stop
+  deep : ℕ → Stop
+
+-- what it says that things stop there
+abbrev pub IsStop : {T A : Type 0} → (T → Type 0) → (A → Form T) → Form T → List T → Stop → Type 0
+IsStop Good Spelled Deep ts (refused k) = IsRefusedAt Good Spelled Deep k ts
+IsStop Good Spelled Deep ts cut_off = IsCutOff Good Spelled Deep ts
+IsStop Good Spelled Deep ts (deep k) = IsTooDeepAt Good Spelled Deep k ts
+
+-- nothing is left, or this one is refused
+abbrev pub refused_or : ℕ → ℕ → Stop
+refused_or zero index = cut_off
+refused_or (suc left) index = refused index
+
+-- where so many things stop by a fault, with so many left
+abbrev pub stop_at : Fault → ℕ → ℕ → Stop
+stop_at faults.Refused count left = refused_or left (count - left)
+stop_at faults.TooDeep count left = deep (count - left)
+stop_at faults.Memory count left = cut_off

@@ -1,9 +1,9 @@
 -- Named arguments in any order, each at most once; one that is not written has its default. The reader, under the name of the form.
 -- This project's own.
-use Rattle.std.specs.Prelude.{Bool, List, [], ◌∷◌, Option, Some, None, option_and_then, if◌then◌else◌, Contains}
+use Rattle.std.specs.Prelude.{◌≡◌, ◌≤◌, length, Bool, List, [], ◌∷◌, Option, Some, None, option_and_then, if◌then◌else◌, Contains}
 use Rattle.tydi_reading.specs.Forms.{Form, ◌⋯◌}
 use Rattle.tydi_reading.specs.Lists.{Each, Separated, steps}
-use Rattle.tydi_reading.specs.Reading.{Reader, leaf, ◌>>=◌}
+use Rattle.tydi_reading.specs.Reading.{Reader, took, leaf, ◌>>=◌}
 
 -- each stands once
 abbrev pub AreApart : {K : Type 0} → List K → Type 0
@@ -37,3 +37,7 @@ argument name is_given value given = leaf (awaited name is_given given) >>= (λ 
 -- arguments with separators, beside those that are given, up to where a test of the next thing holds
 unfoldable pub named : {T K G : Type 0} → (T → Bool) → Bool → (T → Bool) → (T → Option K) → (K → G → Bool) → (K → G → Reader T G) → G → Reader T G
 named test last separates name is_given value = steps test last separates (argument name is_given value)
+
+-- what is read of a value is no more than what was there
+pub record NeverGrows {T K G : Type 0} (value : K → G → Reader T G) : Type 0 where
+  pub least : (k : K) (given : G) (ts rest : List T) (next : G) → value k given ts ≡ took next rest → length rest ≤ length ts

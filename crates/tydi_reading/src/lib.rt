@@ -3,10 +3,12 @@
 //! spells, and that it stops at the first thing with which nothing of the form goes on. Stands on `tydi_base`.
 #![tactic(auto)]
 
+mod arguments;
 mod cursor;
 mod fault;
 mod lists;
 
+pub use arguments::{argument, named};
 pub use cursor::Cursor;
 pub use fault::Fault;
 pub use lists::{repeated, separated};
