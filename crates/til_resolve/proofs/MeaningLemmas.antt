@@ -45,13 +45,17 @@ type_of_named all less None = null
 type_of_named all less (Some one) = type_at all less one
 
 -- a declaration that is no type gives a name to none
-pub no_type : (meaning : List (List ℕ) → List AstName → Ltype) (space : List (List ℕ)) (name : AstName) (kind : AstKind) → is_type_kind kind ≡ false
+pub no_alias : (meaning : List (List ℕ) → List AstName → Ltype) (space : List (List ℕ)) (name : AstName) (kind : AstKind) → ((ltype : AstType) → kind ≡ decls.Alias ltype → ⊥)
     → type_by meaning (record { space = space; name = name; kind = kind }) ≡ null
-no_type meaning space name (decls.Alias ltype) is = cc
-no_type meaning space name (decls.Interface listed) is = refl
-no_type meaning space name (decls.Streamlet listed) is = refl
-no_type meaning space name (decls.Impl target body) is = refl
-no_type meaning space name (decls.Test target port value plan) is = refl
+no_alias meaning space name (decls.Alias ltype) other = absurd (other ltype refl)
+no_alias meaning space name (decls.Interface listed) other = refl
+no_alias meaning space name (decls.Streamlet listed) other = refl
+no_alias meaning space name (decls.Impl target body) other = refl
+no_alias meaning space name (decls.Test target port value plan) other = refl
+
+no_type : (meaning : List (List ℕ) → List AstName → Ltype) (space : List (List ℕ)) (name : AstName) (kind : AstKind) → is_type_kind kind ≡ false
+    → type_by meaning (record { space = space; name = name; kind = kind }) ≡ null
+no_type meaning space name kind is = no_alias meaning space name kind (λ ltype alias. let clash : true ≡ false = sym (ap is_type_kind alias) ∙ is in absurd cc)
 
 pub meant-named : (all : List Declaration) (less : ℕ) (space : List (List ℕ)) (path : AstPath) → meaning_of all less space path.names ≡ type_of_named all less (named_as is_type all space path)
 meant-named all zero space path = by (named_as is_type all space path)

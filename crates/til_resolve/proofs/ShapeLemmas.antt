@@ -1,10 +1,8 @@
 -- Shapes of written types, and tables of the shapes of declarations: of a round more, and of ranks that fall.
-use Rattle.std.proofs.Common.{◌≡◌, ℕ, zero, suc, ◌+◌, ◌<◌, ◌≤◌, true, false, min, max, List, [], ◌∷◌, ◌++◌, length, get_or, take, Option, Some, None, Contains, refl, sym, ap, subst, ◌∙◌, arith}
+use Rattle.std.proofs.Common.{◌≡◌, ℕ, suc, ◌+◌, ◌<◌, true, false, min, max, List, [], ◌∷◌, ◌++◌, length, get_or, take, Contains, refl, sym, ap, subst, ◌∙◌, arith}
 use Rattle.std.proofs.lemmas.List.{take_more}
 use Rattle.std.proofs.lemmas.List.Elements.{Contains-append_left, Contains-append_right, Contains-push}
 use Rattle.til_parser.specs.declared.ltype.AstPart.{AstPart}
-use Rattle.til_parser.specs.declared.tree.AstKind.{AstKind}
-use Rattle.til_parser.specs.declared.tree.AstKind.TheVariants as decls
 use Rattle.til_parser.specs.declared.tree.AstName.{AstName}
 use Rattle.til_parser.specs.declared.tree.AstPath.{AstPath}
 use Rattle.til_parser.specs.Tree as tree
@@ -12,14 +10,12 @@ use Rattle.til_parser.specs.Tree.{plain}
 use Rattle.til_parser.proofs.PlainLemmas.{plain_parts}
 use Rattle.logical_types.specs.Tree.{Ltype, Parts}
 use Rattle.til_resolve.specs.declared.shape.Shape.{Shape}
-use Rattle.til_resolve.specs.Cycles.{NamesType, paths_of_alias}
-use Rattle.til_resolve.specs.Declarations.{Declaration, declaration, named_as, is_type}
+use Rattle.til_resolve.specs.Declarations.{Declaration}
 use Rattle.til_resolve.specs.Tables.{IsMadeOf}
+use Rattle.til_resolve.proofs.EntryLemmas.{entry-meant}
 use Rattle.til_resolve.specs.Names.{paths_in, paths_in_parts}
-use Rattle.til_resolve.specs.Shapes.{shape_of, leaf, nothing, beside, around, shape_by, shape_by_parts, shape_by_list, shape_at, shape_of_number, shape_named, shape_of_kind, declared_shape, type_at, IsShape, IsTable}
-use Rattle.til_resolve.specs.Types.{number_of_nodes, nodes_in_parts, depth_of, depth_of_parts, replaced, replaced_parts, type_by, meaning_of, type_of}
-use Rattle.til_resolve.proofs.MeaningLemmas.{type_of_named, meant-named}
-use Rattle.til_resolve.proofs.TypeGraphLemmas.{each-at, length-type_graph, Leads-NamesType, named-within}
+use Rattle.til_resolve.specs.Shapes.{shape_of, leaf, nothing, beside, around, shape_by, shape_by_parts, shape_by_list, shape_named, IsShapeOf}
+use Rattle.til_resolve.specs.Types.{number_of_nodes, nodes_in_parts, depth_of, depth_of_parts, replaced, replaced_parts, meaning_of}
 
 -- ---- shapes
 
@@ -130,56 +126,12 @@ mutual
       ∙ ap (λ s. beside (shape_by other ltype) s)
       (shape_by_parts-same of other more (λ path there. same path (Contains-append_right (paths_in ltype) (paths_in_parts more) path there)))
 
--- ---- what a path means
+-- ---- the shape that is made of a table
 
-shape-meant : (all : List Declaration) (depth : ℕ) (table : List Shape) (space : List (List ℕ)) (path : AstPath)
-    → ((n : ℕ) → named_as is_type all space path ≡ Some n → IsShape all depth n (shape_at table n))
-    → shape_named all table space path.names ≡ shape_of (meaning_of all depth space path.names)
-shape-meant all depth table space path has = by (named_as is_type all space path) has ∙ ap shape_of (sym (meant-named all depth space path))
-  where
-    by : (o : Option ℕ) → ((n : ℕ) → o ≡ Some n → IsShape all depth n (shape_at table n)) → shape_of_number table o ≡ shape_of (type_of_named all depth o)
-    by None is = refl
-    by (Some n) is = is n refl
-
--- the shape of a written type is right where it is for the types that are named
-shape-written : (all : List Declaration) (depth : ℕ) (table : List Shape) (space : List (List ℕ)) (t : tree.Ltype)
-    → ((path : AstPath) (n : ℕ) → Contains (paths_in t) path → named_as is_type all space path ≡ Some n → IsShape all depth n (shape_at table n))
-    → shape_by (shape_named all table space) t ≡ shape_of (replaced (meaning_of all depth space) t)
-shape-written all depth table space t has =
-    shape_by-same (shape_named all table space) (λ names. shape_of (meaning_of all depth space names)) t
-    (λ path there. shape-meant all depth table space path (λ n is. has path n there is))
+pub shape-made : (all : List Declaration) (space : List (List ℕ)) (t : tree.Ltype) (table : List Shape) (made : Shape) → made ≡ shape_by (shape_named all table space) t
+    → IsMadeOf leaf IsShapeOf all space t table made
+shape-made all space t table made is = λ depth ready.
+    is
+    ∙ shape_by-same (shape_named all table space) (λ names. shape_of (meaning_of all depth space names)) t
+    (λ path there. entry-meant leaf IsShapeOf all space (paths_in t) table depth path there refl ready)
     ∙ sym (shape-replaced (meaning_of all depth space) t)
-
--- the same of a declaration, whose type has one name more replaced
-shape-declared : (all : List Declaration) (depth : ℕ) (table : List Shape) (one : ℕ) → ((n : ℕ) → NamesType all one n → IsShape all depth n (shape_at table n))
-    → declared_shape all table (declaration all one) ≡ shape_of (type_at all (suc depth) one)
-shape-declared all depth table one has =
-    let d = declaration all one in
-    by d.space d.name d.kind (λ path n there is. has n (record { path = path; written = there; names = is }))
-  where
-    by : (space : List (List ℕ)) (name : AstName) (kind : AstKind)
-        → ((path : AstPath) (n : ℕ) → Contains (paths_of_alias kind) path → named_as is_type all space path ≡ Some n → IsShape all depth n (shape_at table n))
-        → shape_of_kind all table space kind ≡ shape_of (type_by (meaning_of all depth) (record { space = space; name = name; kind = kind }))
-    by space name (decls.Alias ltype) there = shape-written all depth table space (plain ltype) there
-    by space name (decls.Interface listed) there = refl
-    by space name (decls.Streamlet listed) there = refl
-    by space name (decls.Impl target body) there = refl
-    by space name (decls.Test target port value plan) there = refl
-
--- ---- tables
-
--- a shape that is made of a table that is ready for that
-pub shape-made : (all : List Declaration) (table : List Shape) (one : ℕ) (made : Shape) → made ≡ declared_shape all table (declaration all one) → IsMadeOf leaf IsShape all one table made
-shape-made all table one made is = λ depth ready. is ∙ shape-declared all depth table one ready.named
-
--- the shape of a written type by a table of all
-pub shape-by_table : (all : List Declaration) (table : List Shape) (space : List (List ℕ)) (t : tree.Ltype) → IsTable all (length all) table
-    → shape_by (shape_named all table space) t ≡ shape_of (type_of all space t)
-shape-by_table all table space t so =
-    shape-written all (length all) table space t (λ path n there is. so.each n (named-within is_type all space path n is))
-
--- the shape of a declaration by a table of all
-pub shape-of_declaration : (all : List Declaration) (table : List Shape) (one : ℕ) → IsTable all (length all) table
-    → declared_shape all table (declaration all one) ≡ shape_of (type_at all (suc (length all)) one)
-shape-of_declaration all table one so =
-    shape-declared all (length all) table one (λ n names. so.each n (named-within is_type all (declaration all one).space names.path n names.names))

@@ -1,15 +1,10 @@
 -- Written types that are made by a table of the types of declarations, and such tables: of a round more, and of ranks that fall.
-use Rattle.std.proofs.Common.{◌≡◌, ◌≢◌, ℕ, zero, suc, ◌+◌, ◌<◌, ◌≤◌, ◌⊎◌, inl, inr, List, [], ◌∷◌, ◌++◌, length, get_or, set, take, false, Option, Some, None, Contains, refl, sym, ap, subst, ◌∙◌, arith}
-use Rattle.std.proofs.lemmas.Bool.{cases_eq}
-use Rattle.std.proofs.lemmas.List.{take_more, get_or-set_same, get_or-set_other, length-set, length-append, get_or_append_left}
-use Rattle.std.proofs.Math.Seq.{get_or-append_seam}
-use Rattle.std.proofs.lemmas.Option.{slice_get_within, get_or_from_slice_get}
+use Rattle.std.proofs.Common.{◌≡◌, ℕ, ◌+◌, ◌<◌, ◌⊎◌, inl, inr, List, [], ◌∷◌, ◌++◌, length, get_or, take, false, refl, sym, ap, ◌∙◌}
+use Rattle.std.proofs.lemmas.List.{take_more}
 use Rattle.til_parser.specs.declared.ltype.AstPart.{AstPart}
 use Rattle.til_parser.specs.declared.ltype.AstStream.{AstStream}
 use Rattle.til_parser.specs.declared.ltype.AstType.{AstType}
 use Rattle.til_parser.specs.declared.ltype.AstType.TheVariants as written
-use Rattle.til_parser.specs.declared.tree.AstKind.{AstKind}
-use Rattle.til_parser.specs.declared.tree.AstKind.TheVariants as decls
 use Rattle.til_parser.specs.declared.tree.AstName.{AstName}
 use Rattle.til_parser.specs.declared.tree.AstPath.{AstPath}
 use Rattle.til_parser.specs.Tree as tree
@@ -20,15 +15,13 @@ use Rattle.logical_types.specs.declared.ltype.Part.{Part}
 use Rattle.logical_types.specs.declared.ltype.StreamType.{StreamType}
 use Rattle.logical_types.specs.Tree.{Ltype, null, bits, group, union, stream, Parts, no_parts, part, plain, plain_parts, plain_of_stream}
 use Rattle.logical_types.proofs.PlainLemmas.{plain-Null, plain-Bits, plain-Group, plain-Union, plain-Stream}
-use Rattle.til_resolve.specs.Cycles.{NamesType, paths_of_alias}
-use Rattle.til_resolve.specs.Declarations.{Declaration, declaration, named_as, is_type}
+use Rattle.til_resolve.specs.Declarations.{Declaration}
 use Rattle.til_resolve.specs.Names.{paths_in}
-use Rattle.til_resolve.specs.Shapes.{type_at}
-use Rattle.til_resolve.specs.SharedTypes.{ltype_at, ltype_of_number, type_named, replaced_list, type_of_kind, declared_type, AreTypes, IsTypeAt}
-use Rattle.til_resolve.specs.Tables.{IsMadeOf}
-use Rattle.til_resolve.specs.Types.{replaced, replaced_parts, settings_of, is_stream, type_by, meaning_of, type_of}
-use Rattle.til_resolve.proofs.MeaningLemmas.{type_of_named, meant-named, replaced-same}
-use Rattle.til_resolve.proofs.TypeGraphLemmas.{named-within}
+use Rattle.til_resolve.specs.SharedTypes.{type_named, replaced_list, AreTypes, IsTypeOf}
+use Rattle.til_resolve.specs.Tables.{IsMadeOf, IsReady}
+use Rattle.til_resolve.proofs.EntryLemmas.{entry-meant, IsReady-all}
+use Rattle.til_resolve.specs.Types.{replaced, replaced_parts, settings_of, is_stream, meaning_of, type_of}
+use Rattle.til_resolve.proofs.MeaningLemmas.{replaced-same}
 
 -- ---- written types as plain data, their names replaced
 
@@ -97,46 +90,21 @@ made-more meaning parts i one made new last within is pushes name ltype so =
 
 -- ---- what a path means
 
-type-meant : (all : List Declaration) (depth : ℕ) (table : List LType) (space : List (List ℕ)) (path : AstPath)
-    → ((n : ℕ) → named_as is_type all space path ≡ Some n → ltype_at table n ≡ type_at all depth n)
-    → type_named all table space path.names ≡ meaning_of all depth space path.names
-type-meant all depth table space path has = by (named_as is_type all space path) has ∙ sym (meant-named all depth space path)
-  where
-    by : (o : Option ℕ) → ((n : ℕ) → o ≡ Some n → ltype_at table n ≡ type_at all depth n) → ltype_of_number table o ≡ type_of_named all depth o
-    by None is = refl
-    by (Some n) is = is n refl
-
--- a written type is right where the types are that it names
-type-written : (all : List Declaration) (depth : ℕ) (table : List LType) (space : List (List ℕ)) (t : tree.Ltype)
-    → ((path : AstPath) (n : ℕ) → Contains (paths_in t) path → named_as is_type all space path ≡ Some n → ltype_at table n ≡ type_at all depth n)
+-- a written type is right by a table that is ready for it
+type-written : (all : List Declaration) (space : List (List ℕ)) (t : tree.Ltype) (table : List LType) (depth : ℕ) → IsReady types.Null IsTypeOf all space (paths_in t) table depth
     → replaced (type_named all table space) t ≡ replaced (meaning_of all depth space) t
-type-written all depth table space t has =
-    replaced-same (type_named all table space) (meaning_of all depth space) t (λ path there. type-meant all depth table space path (λ n is. has path n there is))
+type-written all space t table depth ready =
+    replaced-same (type_named all table space) (meaning_of all depth space) t
+    (λ path there. entry-meant types.Null IsTypeOf all space (paths_in t) table depth path there plain-Null ready)
 
--- the same of a declaration, whose type has one name more replaced
-type-declared : (all : List Declaration) (depth : ℕ) (table : List LType) (one : ℕ) → ((n : ℕ) → NamesType all one n → ltype_at table n ≡ type_at all depth n)
-    → declared_type all table (declaration all one) ≡ type_at all (suc depth) one
-type-declared all depth table one has =
-    let d = declaration all one in
-    by d.space d.name d.kind (λ path n there is. has n (record { path = path; written = there; names = is }))
-  where
-    by : (space : List (List ℕ)) (name : AstName) (kind : AstKind)
-        → ((path : AstPath) (n : ℕ) → Contains (paths_of_alias kind) path → named_as is_type all space path ≡ Some n → ltype_at table n ≡ type_at all depth n)
-        → type_of_kind all table space kind ≡ type_by (meaning_of all depth) (record { space = space; name = name; kind = kind })
-    by space name (decls.Alias ltype) there = type-written all depth table space (tree.plain ltype) there
-    by space name (decls.Interface listed) there = refl
-    by space name (decls.Streamlet listed) there = refl
-    by space name (decls.Impl target body) there = refl
-    by space name (decls.Test target port value plan) there = refl
-
--- a type that is made of a table that is ready for that
-pub type-made : (all : List Declaration) (table : List LType) (one : ℕ) (made : LType) → plain made ≡ declared_type all table (declaration all one) → IsMadeOf types.Null IsTypeAt all one table made
-type-made all table one made is = λ depth ready. is ∙ type-declared all depth table one ready.named
+pub type-made : (all : List Declaration) (space : List (List ℕ)) (t : tree.Ltype) (table : List LType) (made : LType) → plain made ≡ replaced (type_named all table space) t
+    → IsMadeOf types.Null IsTypeOf all space t table made
+type-made all space t table made is = λ depth ready. is ∙ type-written all space t table depth ready
 
 -- a written type by a table of all
 pub type-by_table : (all : List Declaration) (table : List LType) (space : List (List ℕ)) (t : tree.Ltype) → AreTypes all (length all) table
     → replaced (type_named all table space) t ≡ type_of all space t
-type-by_table all table space t so = type-written all (length all) table space t (λ path n there is. so.each n (named-within is_type all space path n is))
+type-by_table all table space t so = type-written all space t table (length all) (IsReady-all types.Null IsTypeOf all space (paths_in t) table (length all) so)
 
 -- ---- the types of ports
 

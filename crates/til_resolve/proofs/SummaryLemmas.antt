@@ -1,5 +1,5 @@
 -- Summaries of written types, and tables of the summaries of declarations.
-use Rattle.std.proofs.Common.{◌≡◌, ℕ, suc, ◌+◌, ◌<◌, ◌≤◌, ◌⊎◌, inl, inr, List, [], ◌∷◌, length, get_or, drop, Option, Some, None, IfSome, refl, sym, ap, subst, ◌∙◌}
+use Rattle.std.proofs.Common.{◌≡◌, ℕ, suc, ◌+◌, ◌<◌, ◌≤◌, ◌⊎◌, inl, inr, List, [], ◌∷◌, length, get_or, drop, Option, None, refl, sym, ap, subst, ◌∙◌}
 use Rattle.std.proofs.lemmas.List.{drop_more, drop_all}
 use Rattle.til_parser.specs.declared.ltype.AstPart.{AstPart}
 use Rattle.til_parser.specs.declared.ltype.AstType.{AstType}
@@ -7,17 +7,15 @@ use Rattle.til_parser.specs.declared.ltype.AstType.TheVariants as written
 use Rattle.til_parser.specs.declared.tree.AstName.{AstName}
 use Rattle.til_parser.specs.declared.tree.AstPath.{AstPath}
 use Rattle.til_parser.specs.Tree as tree
-use Rattle.logical_types.specs.Summary.{IsSummary}
 use Rattle.logical_types.specs.declared.summary.Summary.{Summary}
 use Rattle.logical_types.specs.Tree.{Ltype, group, union, no_parts, part, names_of, number_of_parts}
 use Rattle.til_resolve.specs.SharedTypes.{replaced_list}
-use Rattle.til_resolve.specs.Summaries.{AreSummaries, IsSummaryAt, summary_at, written_names}
+use Rattle.til_resolve.specs.Summaries.{AreSummaries, IsSummaryOf, summary_at, written_names}
 use Rattle.til_resolve.specs.Tables.{IsReady}
-use Rattle.til_resolve.specs.Declarations.{Declaration, named_as, is_type}
-use Rattle.til_resolve.specs.Types.{meaning_of, replaced}
-use Rattle.til_resolve.proofs.MeaningLemmas.{type_of_named, meant-named}
+use Rattle.til_resolve.specs.Declarations.{Declaration}
+use Rattle.til_resolve.specs.Shapes.{type_at}
+use Rattle.til_resolve.specs.Types.{replaced}
 use Rattle.til_resolve.proofs.SharedTypeLemmas.{replaced-Group, replaced-Union}
-use Rattle.til_resolve.proofs.TypeGraphLemmas.{named-within}
 
 -- ---- written parts
 
@@ -52,17 +50,11 @@ union-written meaning ltype parts listed_parts is same =
 
 -- ---- tables
 
--- a table that is ready for a declaration has a summary of each other, or none
-pub AreSummaries-ready : (all : List Declaration) (depth number : ℕ) (table : List (Option Summary)) → IsReady None IsSummaryAt all depth number table → AreSummaries all depth table
-AreSummaries-ready all depth number table ready = record { each = λ one within. by one (ready.rest one within) }
+-- a table that is ready for a type has a summary of each, or none
+pub AreSummaries-ready : (all : List Declaration) (space : List (List ℕ)) (paths : List AstPath) (table : List (Option Summary)) (depth : ℕ) → IsReady None IsSummaryOf all space paths table depth
+    → AreSummaries all depth table
+AreSummaries-ready all space paths table depth ready = record { each = λ one within. by one (ready.rest one within) }
   where
-    by : (one : ℕ) → (summary_at table one ≡ None) ⊎ IsSummaryAt all depth one (summary_at table one) → IsSummaryAt all depth one (summary_at table one)
-    by one (inl none) = subst (λ (o : Option Summary). IsSummaryAt all depth one o) (sym none) tt
+    by : (one : ℕ) → (summary_at table one ≡ None) ⊎ IsSummaryOf (type_at all depth one) (summary_at table one) → IsSummaryOf (type_at all depth one) (summary_at table one)
+    by one (inl none) = subst (IsSummaryOf (type_at all depth one)) (sym none) tt
     by one (inr is) = is
-
--- the summary of what a path names
-pub summary-named : (all : List Declaration) (depth : ℕ) (table : List (Option Summary)) (space : List (List ℕ)) (path : AstPath) (target : ℕ) → named_as is_type all space path ≡ Some target
-    → AreSummaries all depth table → IfSome (summary_at table target) (IsSummary (meaning_of all depth space path.names))
-summary-named all depth table space path target names so =
-    subst (λ (t : Ltype). IfSome (summary_at table target) (IsSummary t)) (sym (meant-named all depth space path ∙ ap (type_of_named all depth) names))
-    (so.each target (named-within is_type all space path target names))

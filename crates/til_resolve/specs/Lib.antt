@@ -15,8 +15,8 @@ pub mod PathsWritten
 pub mod Sought
 pub mod Graph
 pub mod Suspects
-pub mod Tables
 pub mod Shapes
+pub mod Tables
 pub mod Written
 pub mod Chains
 pub mod BadTypes

@@ -1,9 +1,7 @@
 -- How large types are, up to where they are too large, by the shapes of the declarations that they name. It serves the search for
 -- types that are too large or no Stream, and no public clause.
-use Rattle.std.specs.Prelude.{◌≡◌, ℕ, zero, suc, ◌+◌, ◌<◌, ◌≤◌, ◌||◌, ◌&&◌, nat_lt, min, max, not, Bool, false, true, List, [], ◌∷◌, length, slice_index_or, Option, Some, None, IsTrue}
+use Rattle.std.specs.Prelude.{◌≡◌, ℕ, zero, suc, ◌+◌, ◌||◌, ◌&&◌, nat_lt, min, max, not, Bool, false, true, List, [], ◌∷◌, slice_index_or, Option, Some, None, IsTrue}
 use Rattle.til_parser.specs.declared.ltype.AstPart.{AstPart}
-use Rattle.til_parser.specs.declared.tree.AstKind.{AstKind}
-use Rattle.til_parser.specs.declared.tree.AstKind.TheVariants as decls
 use Rattle.til_parser.specs.declared.tree.AstName.{AstName}
 use Rattle.til_parser.specs.Tree as tree
 use Rattle.til_parser.specs.Tree.{plain}
@@ -11,9 +9,8 @@ use Rattle.logical_types.specs.Tree.{Ltype, null}
 use Rattle.til_resolve.specs.declared.shape.Shape.{Shape}
 use Rattle.til_resolve.specs.declared.misshapen.Sort.{Sort}
 use Rattle.til_resolve.specs.declared.misshapen.Sort.TheVariants as sorts
-use Rattle.til_resolve.specs.Declarations.{Declaration, declaration, before, named_as, is_type}
+use Rattle.til_resolve.specs.Declarations.{Declaration, declaration, named_as, is_type}
 use Rattle.til_resolve.specs.Faults.{WrittenType, IsTooLarge}
-use Rattle.til_resolve.specs.Tables.{AreEntries}
 use Rattle.til_resolve.specs.Types.{number_of_nodes, depth_of, is_stream, type_by, meaning_of}
 
 -- ---- shapes
@@ -59,42 +56,29 @@ abbrev pub shape_by_list : (List AstName → Shape) → List AstPart → Shape
 shape_by_list of [] = nothing
 shape_by_list of (first ∷ more) = beside (shape_by of (plain first.ltype)) (shape_by_list of more)
 
--- ---- tables of the shapes of declarations
+-- ---- tables of what is known of declarations
 
-abbrev pub shape_at : List Shape → ℕ → Shape
-shape_at table number = slice_index_or table number leaf
+-- the entry of the declaration of a number; the least where there is no number
+abbrev pub entry_of_number : {X : Type 0} → X → List X → Option ℕ → X
+entry_of_number least table None = least
+entry_of_number least table (Some one) = slice_index_or table one least
 
-abbrev pub shape_of_number : List Shape → Option ℕ → Shape
-shape_of_number table None = leaf
-shape_of_number table (Some number) = shape_at table number
+-- the entry of the type that a path names in a namespace
+abbrev pub entry_named : {X : Type 0} → X → List Declaration → List X → List (List ℕ) → List AstName → X
+entry_named least all table space names = entry_of_number least table (named_as is_type all space (record { names = names }))
 
 -- the shape of the type that a path names in a namespace, by a table
 abbrev pub shape_named : List Declaration → List Shape → List (List ℕ) → List AstName → Shape
-shape_named all table space names = shape_of_number table (named_as is_type all space (record { names = names }))
+shape_named = entry_named leaf
 
-abbrev pub shape_of_kind : List Declaration → List Shape → List (List ℕ) → AstKind → Shape
-shape_of_kind all table space (decls.Alias ltype) = shape_by (shape_named all table space) (plain ltype)
-shape_of_kind all table space (decls.Interface listed) = leaf
-shape_of_kind all table space (decls.Streamlet listed) = leaf
-shape_of_kind all table space (decls.Impl target body) = leaf
-shape_of_kind all table space (decls.Test target port value plan) = leaf
-
--- the shape of the type that a declaration gives a name to, by a table
-abbrev pub declared_shape : List Declaration → List Shape → Declaration → Shape
-declared_shape all table one = shape_of_kind all table one.space one.kind
+-- this is the shape of a type
+abbrev pub IsShapeOf : Ltype → Shape → Type 0
+IsShapeOf ltype shape = shape ≡ shape_of ltype
 
 -- the type of a declaration, with so many names replaced inside one another at most
 abbrev pub type_at : List Declaration → ℕ → ℕ → Ltype
 type_at all zero one = null
 type_at all (suc less) one = type_by (meaning_of all less) (declaration all one)
-
--- the shape of a declaration, as an entry of a table
-abbrev pub IsShape : List Declaration → ℕ → ℕ → Shape → Type 0
-IsShape all depth one shape = shape ≡ shape_of (type_at all depth one)
-
--- a table has the shape of each declaration
-abbrev pub IsTable : List Declaration → ℕ → List Shape → Type 0
-IsTable = AreEntries leaf IsShape
 
 -- ---- what is wrong with a shape
 

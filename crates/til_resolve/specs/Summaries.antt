@@ -8,20 +8,19 @@ use Rattle.logical_types.specs.Tree.{Ltype, stream}
 use Rattle.logical_types.specs.Summary.{IsSummary}
 use Rattle.logical_types.specs.declared.summary.Summary.{Summary}
 use Rattle.til_resolve.specs.Declarations.{Declaration, declaration}
-use Rattle.til_resolve.specs.Shapes.{type_at}
 use Rattle.til_resolve.specs.Tables.{AreEntries}
 use Rattle.til_resolve.specs.Types.{replaced, settings_of, meaning_of}
 
 abbrev pub summary_at : List (Option Summary) → ℕ → Option Summary
 summary_at table one = slice_index_or table one None
 
--- a summary of the type of a declaration, if it is one, as an entry of a table
-abbrev pub IsSummaryAt : List Declaration → ℕ → ℕ → Option Summary → Type 0
-IsSummaryAt all depth one summary = IfSome summary (IsSummary (type_at all depth one))
+-- this is a summary of a type, if it is one
+abbrev pub IsSummaryOf : Ltype → Option Summary → Type 0
+IsSummaryOf ltype summary = IfSome summary (IsSummary ltype)
 
 -- what a table has of each declaration is a summary of its type, with so many names replaced inside one another at most
 abbrev pub AreSummaries : List Declaration → ℕ → List (Option Summary) → Type 0
-AreSummaries = AreEntries None IsSummaryAt
+AreSummaries = AreEntries None IsSummaryOf
 
 -- the names of written parts
 abbrev pub written_names : List AstPart → List (List ℕ)

@@ -3,7 +3,7 @@
 ghost use Rattle.std.specs.Prelude.{◌≡◌, length, None, IfOk};
 ghost use Rattle.til_resolve.specs.Faults.{IsToldUpTo};
 ghost use Rattle.til_resolve.specs.Scope.{declarations_of};
-ghost use Rattle.til_resolve.specs.Shapes.{IsTable};
+ghost use Rattle.til_resolve.specs.Tables.{IsTable};
 ghost use Rattle.til_resolve.specs.Written.{AreWritten};
 
 use crate::cycles::first_cyclic_instance;

@@ -1,10 +1,11 @@
 //! The shape of a written type, by a table of the shapes of declarations.
 
-ghost use Rattle.std.specs.Prelude.{◌≡◌, ◌<◌, length};
+ghost use Rattle.std.specs.Prelude.{◌≡◌, ◌<◌, length, slice_index_or};
 ghost use Rattle.til_parser.specs.Tree.{plain};
 ghost use Rattle.til_resolve.specs.Declarations.{declaration};
 ghost use Rattle.til_resolve.specs.Scope.{declarations_of};
 ghost use Rattle.til_resolve.specs.Shapes as spec;
+ghost use Rattle.til_resolve.specs.Tables.{IsMadeFor};
 
 use crate::kinds::Asked;
 use crate::scope::Scope;
@@ -14,16 +15,9 @@ use til_parser::{AstKind, AstPart, AstPath, AstType};
 /// The shape of the type that a declaration gives a name to; of one that is no type, the least.
 pub fn declared_shape(scope: &Scope<'_>, number: usize, table: &[Shape]) -> Shape
     requires { number < length (declarations_of scope.now.declared) }
-    ensures { result ≡ spec.declared_shape (declarations_of scope.now.declared) table.now (declaration (declarations_of scope.now.declared) number) }
+    ensures { IsMadeFor spec.leaf spec.IsShapeOf (declarations_of scope.now.declared) number table.now result }
 {
-    shape_of_kind(scope, number, scope.get(number).kind, table)
-}
-
-fn shape_of_kind<'a>(scope: &Scope<'a>, number: usize, kind: &'a AstKind, table: &[Shape]) -> Shape
-    requires { number < length (declarations_of scope.now.declared) }
-    ensures { result ≡ spec.shape_of_kind (declarations_of scope.now.declared) table.now (declaration (declarations_of scope.now.declared) number).space kind.now }
-{
-    match kind {
+    match scope.get(number).kind {
         AstKind::Alias(ltype) => shape_in(scope, number, ltype, table),
         _ => leaf(),
     }
@@ -84,9 +78,9 @@ fn shape_named<'a>(scope: &Scope<'a>, number: usize, path: &'a AstPath, table: &
     }
 }
 
-/// The shape that a table has of a number.
-pub fn shape_at(table: &[Shape], number: usize) -> Shape
-    ensures { result ≡ spec.shape_at table.now number }
+// The shape that a table has of a number.
+fn shape_at(table: &[Shape], number: usize) -> Shape
+    ensures { result ≡ slice_index_or table.now number spec.leaf }
 {
     match table.get(number) {
         Some(shape) => *shape,

@@ -5,7 +5,8 @@ ghost use Rattle.til_resolve.specs.Earliest.{IsEarliest};
 ghost use Rattle.til_resolve.specs.Faults.{HasTypeAt, written_types};
 ghost use Rattle.til_resolve.specs.Scope.{declarations_of};
 ghost use Rattle.til_resolve.specs.Shapes as spec;
-ghost use Rattle.til_resolve.specs.Shapes.{IsMisshapen, IsTable, shape_of};
+ghost use Rattle.til_resolve.specs.Shapes.{IsMisshapen, shape_of};
+ghost use Rattle.til_resolve.specs.Tables.{IsTable};
 ghost use Rattle.til_resolve.specs.Written.{AreWritten, IsWithin, in_port, ltype_of, written_type};
 
 use crate::earliest::earlier;

@@ -14,39 +14,8 @@ use crate::kinds::Asked;
 use crate::scope::Scope;
 use logical_types::{LType, Part, Shared, StreamType, Sync};
 use std::alloc::Global;
-use til_parser::{AstKind, AstPart, AstPath, AstStream, AstSync, AstType};
+use til_parser::{AstPart, AstPath, AstStream, AstSync, AstType};
 use tydi_base::{List, Memory, TryClone};
-
-/// The type that a declaration gives a name to; Null where it is no type declaration.
-pub fn declared_type(
-    alloc: Global,
-    scope: &Scope<'_>,
-    number: usize,
-    table: &[LType],
-) -> Result<LType, Memory>
-    requires { number < length (declarations_of scope.now.declared) }
-    ensures { IfOk result (λ made. plain made
-        ≡ spec.declared_type (declarations_of scope.now.declared) table.now (declaration (declarations_of scope.now.declared) number)) }
-{
-    type_of_kind(alloc, scope, number, scope.get(number).kind, table)
-}
-
-fn type_of_kind<'a>(
-    alloc: Global,
-    scope: &Scope<'a>,
-    number: usize,
-    kind: &'a AstKind,
-    table: &[LType],
-) -> Result<LType, Memory>
-    requires { number < length (declarations_of scope.now.declared) }
-    ensures { IfOk result (λ made. plain made
-        ≡ spec.type_of_kind (declarations_of scope.now.declared) table.now (declaration (declarations_of scope.now.declared) number).space kind.now) }
-{
-    match kind {
-        AstKind::Alias(ltype) => replaced_type(alloc, scope, number, ltype, table),
-        _ => Ok(LType::Null),
-    }
-}
 
 /// The type that a type stands for which is written in the declaration of a number.
 #[cycle(replaced)]

@@ -3,13 +3,15 @@
 ghost use Rattle.std.specs.Prelude.{refl, length, IfOk};
 ghost use Rattle.til_resolve.specs.Scope.{declarations_of};
 ghost use Rattle.til_resolve.specs.Shapes as spec;
-ghost use Rattle.til_resolve.specs.Shapes.{IsShape, IsTable};
+ghost use Rattle.til_resolve.specs.Shapes.{IsShapeOf};
+ghost use Rattle.til_resolve.specs.Tables.{IsTable};
 
-use crate::measuring::declared_shape;
+use crate::measuring::shape_in;
 use crate::scope::Scope;
 use crate::shape::{Shape, leaf};
 use crate::tables::{Entries, table_of};
 use std::alloc::Global;
+use til_parser::AstType;
 use tydi_base::{List, Memory};
 
 // The shapes of types as entries of a table.
@@ -20,22 +22,23 @@ impl Entries for DeclaredShapes {
 
     ghost least = { spec.leaf };
 
-    ghost is_entry = { IsShape };
+    ghost is_entry = { IsShapeOf };
 
     fn least() -> Shape {
         leaf()
     }
 
-    fn entry(
+    fn entry<'a>(
         _alloc: Global,
-        scope: &Scope<'_>,
+        scope: &Scope<'a>,
         number: usize,
+        ltype: &'a AstType,
         table: &[Shape],
     ) -> Result<Shape, Memory> {
-        Ok(declared_shape(scope, number, table))
+        Ok(shape_in(scope, number, ltype, table))
     }
 
-    ghost starts = { λ all one. refl };
+    ghost is_least = { refl };
 }
 
 /// A table of the shapes of all declarations.

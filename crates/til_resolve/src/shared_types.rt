@@ -4,13 +4,14 @@ ghost use Rattle.std.specs.Prelude.{length, IfOk};
 ghost use Rattle.logical_types.specs.declared.ltype.LType.TheVariants as types;
 ghost use Rattle.logical_types.proofs.PlainLemmas.{plain-Null};
 ghost use Rattle.til_resolve.specs.Scope.{declarations_of};
-ghost use Rattle.til_resolve.specs.SharedTypes.{AreTypes, IsTypeAt};
+ghost use Rattle.til_resolve.specs.SharedTypes.{AreTypes, IsTypeOf};
 
-use crate::replacing::declared_type;
+use crate::replacing::replaced_type;
 use crate::scope::Scope;
 use crate::tables::{Entries, table_of};
 use logical_types::LType;
 use std::alloc::Global;
+use til_parser::AstType;
 use tydi_base::{List, Memory};
 
 // The types of declarations as entries of a table, each of which shares those that it names.
@@ -21,22 +22,23 @@ impl Entries for DeclaredTypes {
 
     ghost least = { types.Null };
 
-    ghost is_entry = { IsTypeAt };
+    ghost is_entry = { IsTypeOf };
 
     fn least() -> LType {
         LType::Null
     }
 
-    fn entry(
+    fn entry<'a>(
         alloc: Global,
-        scope: &Scope<'_>,
+        scope: &Scope<'a>,
         number: usize,
+        ltype: &'a AstType,
         table: &[LType],
     ) -> Result<LType, Memory> {
-        declared_type(alloc, scope, number, table)
+        replaced_type(alloc, scope, number, ltype, table)
     }
 
-    ghost starts = { λ all one. plain-Null };
+    ghost is_least = { plain-Null };
 }
 
 /// A table of the types of all declarations, in which each shares those that it names.

@@ -4,15 +4,16 @@ ghost use Rattle.std.specs.Prelude.{◌≡◌, length, IsTrue, IfOk, IfSome, Non
 ghost use Rattle.logical_types.specs.Summary.{IsSummary};
 ghost use Rattle.til_resolve.specs.BadTypes.{AreAcyclic, first_fault};
 ghost use Rattle.til_resolve.specs.Scope.{declarations_of};
-ghost use Rattle.til_resolve.specs.Summaries.{AreSummaries, IsSummaryAt};
+ghost use Rattle.til_resolve.specs.Summaries.{AreSummaries, IsSummaryOf};
 ghost use Rattle.til_resolve.specs.Written.{IsWithin, ltype_of};
 
 use crate::scope::Scope;
-use crate::summarizing::{declared_summary, summary_at, summary_in};
+use crate::summarizing::{summary_at, summary_in};
 use crate::tables::{Entries, table_of};
 use crate::written::Written;
 use logical_types::Summary;
 use std::alloc::Global;
+use til_parser::AstType;
 use tydi_base::{List, Memory};
 
 // The summaries of types as entries of a table.
@@ -23,22 +24,23 @@ impl Entries for DeclaredSummaries {
 
     ghost least = { None };
 
-    ghost is_entry = { IsSummaryAt };
+    ghost is_entry = { IsSummaryOf };
 
     fn least() -> Option<Summary> {
         None
     }
 
-    fn entry(
+    fn entry<'a>(
         _alloc: Global,
-        scope: &Scope<'_>,
+        scope: &Scope<'a>,
         number: usize,
+        ltype: &'a AstType,
         table: &[Option<Summary>],
     ) -> Result<Option<Summary>, Memory> {
-        Ok(declared_summary(scope, number, table))
+        Ok(summary_in(scope, number, ltype, table))
     }
 
-    ghost starts = { λ all one. tt };
+    ghost is_least = { tt };
 }
 
 /// A table of the summaries of all declarations, as far as there are any.

@@ -1,14 +1,13 @@
 //! The summary of a written type, by a table of the summaries of declarations.
 
-ghost use Rattle.std.specs.Prelude.{◌≡◌, ℕ, suc, ◌<◌, length, IfSome};
+ghost use Rattle.std.specs.Prelude.{◌≡◌, ◌<◌, length, IfSome};
 ghost use Rattle.logical_types.specs.Summary.{IsSummary, IsSummed};
 ghost use Rattle.logical_types.specs.Tree.{group, no_parts, union};
 ghost use Rattle.til_parser.specs.Tree.{plain};
 ghost use Rattle.til_resolve.specs.SharedTypes.{replaced_list};
 ghost use Rattle.til_resolve.specs.Scope.{declarations_of};
-ghost use Rattle.til_resolve.specs.Shapes.{type_at};
 ghost use Rattle.til_resolve.specs.Summaries as spec;
-ghost use Rattle.til_resolve.specs.Summaries.{AreSummaries, BySummaries, stream_in, written_names};
+ghost use Rattle.til_resolve.specs.Summaries.{BySummaries, stream_in, written_names};
 ghost use Rattle.til_resolve.specs.Types.{replaced};
 
 use crate::kinds::Asked;
@@ -18,7 +17,7 @@ use logical_types::{
     Named, PartsSummary, Summary, has_name_twice, summary_of_bits, summary_of_no_parts,
     summary_of_null, summary_of_stream,
 };
-use til_parser::{AstKind, AstPart, AstPath, AstStream, AstType};
+use til_parser::{AstPart, AstPath, AstStream, AstType};
 
 // Written parts, by their names.
 #[derive(Clone, Copy)]
@@ -33,21 +32,6 @@ impl Named for WrittenParts<'_> {
 
     fn name(&self, index: usize) -> &[u8] {
         self.0[index].name.name.as_bytes()
-    }
-}
-
-/// The summary of the type that a declaration gives a name to, if there is one.
-pub fn declared_summary(
-    scope: &Scope<'_>,
-    number: usize,
-    table: &[Option<Summary>],
-) -> Option<Summary>
-    requires { number < length (declarations_of scope.now.declared) }
-    ensures { (depth : ℕ) → AreSummaries (declarations_of scope.now.declared) depth table.now → IfSome result (IsSummary (type_at (declarations_of scope.now.declared) (suc depth) number)) }
-{
-    match scope.get(number).kind {
-        AstKind::Alias(ltype) => summary_in(scope, number, ltype, table),
-        _ => None,
     }
 }
 

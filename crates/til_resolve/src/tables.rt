@@ -1,46 +1,50 @@
-//! Tables with an entry for each declaration, each made of the entries of the types that the declaration names. Where ranks fall along
+//! Tables with an entry for the type of each declaration, each made of the entries of the types that it names. Where ranks fall along
 //! each name, one walk in their order makes each entry once; that they fall, and that the order is theirs, is tested. Where they do
 //! not, the table is made round by round.
 
-ghost use Rattle.std.specs.Prelude.{◌≡◌, ◌<◌, ℕ, List, length, replicate, slice_set, IsTrue, IfOk};
-ghost use Rattle.til_resolve.specs.Declarations.{Declaration};
+ghost use Rattle.std.specs.Prelude.{◌≡◌, ◌<◌, ℕ, length, replicate, slice_set, IsTrue, IfOk};
+ghost use Rattle.logical_types.specs.Tree.{Ltype, null};
+ghost use Rattle.til_parser.specs.Tree.{plain};
+ghost use Rattle.til_resolve.specs.Declarations.{declaration};
 ghost use Rattle.til_resolve.specs.Graph.{AreOrdered, IsRanked, type_graph};
 ghost use Rattle.til_resolve.specs.Scope.{declarations_of};
-ghost use Rattle.til_resolve.specs.Tables.{AreEntries, AreMadeOf, IsMadeOf};
+ghost use Rattle.til_resolve.specs.Tables.{AreEntries, AreMadeOf, IsMadeFor, IsMadeOf};
 
 use crate::certificate::{are_ranked, rank_of};
 use crate::ranks::{find_ranks, numbers_by_rank};
 use crate::scope::Scope;
 use crate::type_graph::type_graph;
 use std::alloc::Global;
+use til_parser::{AstKind, AstType};
 use tydi_base::{List, Memory};
 
-/// What a table has of each declaration.
+/// What a table has of the type of each declaration.
 pub trait Entries {
     type Entry: Drop;
 
-    /// The entry of what is no type.
+    /// The entry of Null, and of what is no type.
     ghost least: { Self.Entry };
 
-    /// This is the entry of a declaration, with so many names replaced inside one another at most.
-    ghost is_entry: { List Declaration → ℕ → ℕ → Self.Entry → Type 0 };
+    /// This is the entry of a type.
+    ghost is_entry: { Ltype → Self.Entry → Type 0 };
 
-    /// The entry of what is no type.
+    /// The entry of Null.
     fn least() -> Self::Entry
         ensures { result ≡ least };
 
-    /// The entry of a declaration, by a table of those that it names.
-    fn entry(
+    /// The entry of a type that is written in the declaration of a number, by a table of those that it names.
+    fn entry<'a>(
         alloc: Global,
-        scope: &Scope<'_>,
+        scope: &Scope<'a>,
         number: usize,
+        ltype: &'a AstType,
         table: &[Self::Entry],
     ) -> Result<Self::Entry, Memory>
         requires { number < length (declarations_of scope.now.declared) }
-        ensures { IfOk result (IsMadeOf least is_entry (declarations_of scope.now.declared) number table.now) };
+        ensures { IfOk result (IsMadeOf least is_entry (declarations_of scope.now.declared) (declaration (declarations_of scope.now.declared) number).space (plain ltype.now) table.now) };
 
-    /// Where no name is replaced, each entry is the least.
-    ghost starts: { (all : List Declaration) (one : ℕ) → is_entry all 0 one least };
+    /// The least is that.
+    ghost is_least: { is_entry null least };
 }
 
 /// A table of the entries of all declarations.
@@ -62,6 +66,22 @@ pub fn table_of<E: Entries>(alloc: Global, scope: &Scope<'_>) -> Result<List<E::
         );
     }
     by_rounds::<E>(alloc, scope)
+}
+
+// The entry of the type of a declaration, by a table of those that it names.
+fn declared_entry<E: Entries>(
+    alloc: Global,
+    scope: &Scope<'_>,
+    number: usize,
+    table: &[E::Entry],
+) -> Result<E::Entry, Memory>
+    requires { number < length (declarations_of scope.now.declared) }
+    ensures { IfOk result (IsMadeFor E.least E.is_entry (declarations_of scope.now.declared) number table.now) }
+{
+    match scope.get(number).kind {
+        AstKind::Alias(ltype) => E::entry(alloc, scope, number, ltype, table),
+        _ => Ok(E::least()),
+    }
 }
 
 // Whether each number stands at its rank.
@@ -93,7 +113,7 @@ fn by_ranks<E: Entries>(
     'walk: for rank in 0..order.len() {
         let number = order[rank];
         if number < scope.len() && rank_of(ranks, number) == rank {
-            let entry = E::entry(alloc, scope, number, table.as_slice())?;
+            let entry = declared_entry::<E>(alloc, scope, number, table.as_slice())?;
             put(&mut table, number, entry);
         }
     }
@@ -138,7 +158,7 @@ fn next_round<E: Entries>(
 {
     let mut next = List::new(alloc);
     'numbers: for number in 0..scope.len() {
-        next.push(E::entry(alloc, scope, number, table)?)?;
+        next.push(declared_entry::<E>(alloc, scope, number, table)?)?;
     }
     Ok(next)
 }

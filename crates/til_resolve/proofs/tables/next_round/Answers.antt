@@ -8,5 +8,5 @@ numbers-init g c =
 
 pub numbers-preserved : goal.numbers-preserved
 numbers-preserved g c =
-    AreMadeOf-more g.E.Entries.least g.E.Entries.is_entry (declarations_of c.args.scope.now.declared) c.args.table.now c.numbers.next _ c.numbers.number c.in_ok-entry.field-0
-    c.in_ok-push.ensures.ok c.in_ok-entry.ensures c.numbers.invariant
+    AreMadeOf-more g.E.Entries.least g.E.Entries.is_entry (declarations_of c.args.scope.now.declared) c.args.table.now c.numbers.next _ c.numbers.number c.in_ok-declared_entry.field-0
+    c.in_ok-push.ensures.ok c.in_ok-declared_entry.ensures c.numbers.invariant
