@@ -7,7 +7,7 @@ use Rattle.tydi_reading.specs.Rules.{IsRule}
 use Rattle.tydi_reading.proofs.FilledLemmas.{filled-first}
 use Rattle.tydi_reading.proofs.RepeatedRule.{Repeats}
 use Rattle.tydi_reading.proofs.FormLemmas.{front-tells, with_ends}
-use Rattle.tydi_reading.proofs.Rule.{as_rule, as_flat, of_flat, flat, flat_skip, flat_close, both, flat_parted, mapped, Made, either-rule, optional-rule, front-marked}
+use Rattle.tydi_reading.proofs.Rule.{as_rule, as_flat, of_flat, flat, flat_skip, flat_close, both, flat_parted, viewed, Made, either-rule, optional-rule, front-marked}
 use Rattle.tydi_reading.proofs.StepRules.{then-rule}
 use Rattle.til_lexer.specs.declared.token.TokenKind.TheVariants as kinds
 use Rattle.til_parser.specs.declared.tree.AstBody.{AstBody}
@@ -39,17 +39,8 @@ second-rule = optional-rule (is_kind kinds.Point) (flat_skip point (as_flat name
 end-rule : IsRule IsFormed end SpellsEnd (λ _. NoPoint) (λ _. Unit {0}) Never
 unfolding end
 end-rule =
-    mapped (λ (e : AstName × Option AstName). record { first = e.0; second = e.1 })
-    (both (as_flat name-rule) (as_rule second-rule) (λ x y back rest s next. tt) (λ x back rest d. tt)) SpellsEnd (λ _. NoPoint) (λ _. Unit {0}) Never
-    (record {
-      there = λ x ts s. s;
-      back = λ y ts s. ((y.first, y.second), refl, s);
-      follow = λ x rest next. next;
-      within = λ x w. tt;
-      apart = λ x w. tt;
-      first = λ ts d. d.1.ends;
-      deep = λ ts d. absurd d;
-    })
+    viewed (λ (e : AstName × Option AstName). record { first = e.0; second = e.1 }) (λ (e : AstEnd). (e.first, e.second))
+    (of_flat (flat (both (as_flat name-rule) (as_rule second-rule) (λ x y back rest s next. tt) (λ x back rest d. tt)) (λ ts d. d.1.ends) (λ x. tt))) (λ x. refl) (λ y. refl)
 
 -- ---- statements
 

@@ -21,7 +21,7 @@ use Rattle.tydi_reading.specs.Rules.{IsRule}
 use Rattle.tydi_reading.proofs.ChoiceRules.{chosen}
 use Rattle.tydi_reading.proofs.JoinedRule.{joined-rule}
 use Rattle.tydi_reading.proofs.FormLemmas.{front-tells}
-use Rattle.tydi_reading.proofs.Rule.{as_rule, as_flat, of_flat, of_mark, mapped, Made, either-rule, optional-rule, mark-tells}
+use Rattle.tydi_reading.proofs.Rule.{as_rule, as_flat, of_flat, of_mark, viewed, Made, either-rule, optional-rule, mark-tells}
 use Rattle.tydi_reading.proofs.StepRules.{read-rule}
 use Rattle.til_lexer.specs.Spelling.{HasForm, IsWholeNumber, IsPointNumber, IsBetween}
 use Rattle.til_lexer.specs.Spans.{digits_at}
@@ -200,34 +200,28 @@ number-rule = token-rule kinds.Number (λ place spelling. Some (lowest (numerato
 
 -- ---- marked texts
 
-quoted_token : IsToken kinds.Quoted (λ place spelling. Some (between_marks spelling)) Quoted
-quoted_token = record {
-  there = λ x lexeme is means. one (IsMarked kinds.Quoted x) lexeme (record { kind_is = is; text_is = sym (same_Some _ x means) });
+marked_token : (kind : TokenKind) → IsToken kind (λ place spelling. Some (between_marks spelling)) (λ text. One (IsMarked kind text))
+marked_token kind = record {
+  there = λ x lexeme is means. one (IsMarked kind x) lexeme (record { kind_is = is; text_is = sym (same_Some _ x means) });
   back = λ x ts s. (s.lexeme, s.all, s.is.kind_is, λ formed. ap Some (sym s.is.text_is));
 }
 
 empty_between : (mark : ℕ) → IsBetween mark (mark ∷ mark ∷ [])
 empty_between mark = record { inside = []; marked = refl; lacks = λ k d less is. absurd (omega arith); utf8 = IsUtf8-nil }
 
+marked-rule : (kind : TokenKind) (mark : ℕ) → HasForm kind (mark ∷ mark ∷ [])
+    → IsRule IsFormed (token kind (λ place spelling. Some (between_marks spelling))) (λ text. One (IsMarked kind text)) (λ _. Anything) (λ _. Unit {0}) Never
+marked-rule kind mark form = token-rule kind (λ place spelling. Some (between_marks spelling)) (λ text. One (IsMarked kind text)) (marked_token kind)
+    (made kind (mark ∷ mark ∷ [])) (between_marks (mark ∷ mark ∷ [])) form refl refl
+
 pub quoted-rule : IsRule IsFormed quoted Quoted (λ _. Anything) (λ _. Unit {0}) Never
-quoted-rule = token-rule kinds.Quoted (λ place spelling. Some (between_marks spelling)) Quoted quoted_token (made kinds.Quoted (34 ∷ 34 ∷ [])) (between_marks (34 ∷ 34 ∷ []))
-    (empty_between 34) refl refl
+quoted-rule = marked-rule kinds.Quoted 34 (empty_between 34)
 
 -- ---- documentation
 
 -- no documentation may follow
 abbrev pub NoDoc : Form
 NoDoc rest = tells (is_kind kinds.Doc) false rest ≡ false
-
-doc_token : IsToken kinds.Doc (λ place spelling. Some (between_marks spelling)) (λ text. One (IsMarked kinds.Doc text))
-doc_token = record {
-  there = λ x lexeme is means. one (IsMarked kinds.Doc x) lexeme (record { kind_is = is; text_is = sym (same_Some _ x means) });
-  back = λ x ts s. (s.lexeme, s.all, s.is.kind_is, λ formed. ap Some (sym s.is.text_is));
-}
-
-told-rule : IsRule IsFormed (token kinds.Doc (λ place spelling. Some (between_marks spelling))) (λ text. One (IsMarked kinds.Doc text)) (λ _. Anything) (λ _. Unit {0}) Never
-told-rule = token-rule kinds.Doc (λ place spelling. Some (between_marks spelling)) (λ text. One (IsMarked kinds.Doc text)) doc_token
-    (made kinds.Doc (35 ∷ 35 ∷ [])) (between_marks (35 ∷ 35 ∷ [])) (empty_between 35) refl refl
 
 abbrev doc_shape : Reader Lexeme (Option (List ℕ))
 doc_shape = optional (is_kind kinds.Doc) (token kinds.Doc (λ place spelling. Some (between_marks spelling)))
@@ -247,7 +241,7 @@ doc_same (lexeme ∷ ts) = by_test (same_kind lexeme.kind kinds.Doc) refl
 pub doc-rule : IsRule IsFormed doc Doc (λ _. NoDoc) (λ _. Unit {0}) Never
 doc-rule =
     read-rule IsFormed doc_shape doc Doc (λ _. NoDoc) (λ _. Unit {0}) Never doc_same
-    (optional-rule (is_kind kinds.Doc) (as_flat told-rule) (λ text front rest s. rw (s.all) (same_kind-is s.lexeme.kind kinds.Doc s.is.kind_is)) (λ text rest. tt))
+    (optional-rule (is_kind kinds.Doc) (as_flat (marked-rule kinds.Doc 35 (empty_between 35))) (λ text front rest s. rw (s.all) (same_kind-is s.lexeme.kind kinds.Doc s.is.kind_is)) (λ text rest. tt))
 
 -- after documentation, if there is any, what follows it tells of another kind
 pub doc_tells : (d : Option (List ℕ)) (kind : TokenKind) (Second : Form) (front rest : List Lexeme) → same_kind kinds.Doc kind ≡ false
@@ -298,15 +292,5 @@ PathNext rest = tells (λ t. not (is_kind kinds.DoubleColon t)) true rest ≡ tr
 pub path-rule : IsRule IsFormed path (λ x. Path x.names) (λ _. PathNext) (λ _. Unit {0}) Never
 unfolding path
 path-rule =
-    mapped (λ (names : List AstName). record { names = names })
-    (as_rule (joined-rule IsFormed (is_kind kinds.DoubleColon) (Of kinds.DoubleColon) name Name (kind-mark kinds.DoubleColon (codes "::") refl) name-rule))
-    (λ (x : AstPath). Path x.names) (λ _. PathNext) (λ _. Unit {0}) Never
-    (record {
-      there = λ x ts s. s;
-      back = λ y ts s. (y.names, refl, s);
-      follow = λ x rest next. next;
-      within = λ x w. tt;
-      apart = λ x w. tt;
-      first = λ ts d. d;
-      deep = λ ts d. d;
-    })
+    viewed (λ (names : List AstName). record { names = names }) (λ (x : AstPath). x.names)
+    (as_rule (joined-rule IsFormed (is_kind kinds.DoubleColon) (Of kinds.DoubleColon) name Name (kind-mark kinds.DoubleColon (codes "::") refl) name-rule)) (λ x. refl) (λ y. refl)

@@ -6,7 +6,7 @@ use Rattle.tydi_reading.specs.Reading.{Reader}
 use Rattle.tydi_reading.specs.Rules.{IsRule}
 use Rattle.tydi_reading.proofs.FilledLemmas.{filled-first}
 use Rattle.tydi_reading.proofs.RepeatedRule.{Repeats}
-use Rattle.tydi_reading.proofs.Rule.{as_rule, as_flat, parted, mapped}
+use Rattle.tydi_reading.proofs.Rule.{as_rule, as_flat, parted, viewed}
 use Rattle.til_lexer.specs.declared.token.TokenKind.TheVariants as kinds
 use Rattle.til_parser.specs.declared.ltype.AstPart.{roll-AstPart}
 use Rattle.til_parser.specs.declared.ltype.AstType.{AstType}
@@ -30,17 +30,8 @@ module _ (inner : Reader Lexeme AstType) (W : AstType → Type 0) (D : Form) (on
   pub part-rule : IsRule IsFormed (part inner) SpellsPart (λ _. PathNext) (λ p. W p.ltype) (PartTo D)
   unfolding part
   part-rule =
-      mapped (λ (p : AstName × AstType). roll-AstPart (record { name = p.0; ltype = p.1 })) (parted (as_flat name-rule) colon (as_rule one) (λ x front rest s. tt))
-      SpellsPart (λ _. PathNext) (λ p. W p.ltype) (PartTo D)
-      (record {
-        there = λ x ts s. s;
-        back = λ y ts s. ((y.name, y.ltype), refl, s);
-        follow = λ x rest next. next;
-        within = λ x w. w;
-        apart = λ x w. w;
-        first = λ ts d. d;
-        deep = λ ts d. d;
-      })
+      viewed (λ (p : AstName × AstType). roll-AstPart (record { name = p.0; ltype = p.1 })) (λ p. (p.name, p.ltype))
+      (parted (as_flat name-rule) colon (as_rule one) (λ x front rest s. tt)) (λ x. refl) (λ y. refl)
 
   pub part-lists : Repeats (is_kind kinds.CloseParen) false SpellsPart (PartTo D)
   unfolding same_kind

@@ -7,13 +7,15 @@ use Rattle.tydi_reading.specs.Rules.{IsRule}
 use Rattle.tydi_reading.proofs.FilledLemmas.{filled-first, filled-second}
 use Rattle.tydi_reading.proofs.FormLemmas.{with_ends}
 use Rattle.tydi_reading.proofs.RepeatedRule.{Repeats}
-use Rattle.tydi_reading.proofs.Rule.{as_rule, as_flat, both, parted, mapped, Made, either-rule, front-marked}
+use Rattle.tydi_reading.proofs.StepRules.{deep-rule}
+use Rattle.tydi_reading.proofs.Rule.{as_rule, as_flat, both, parted, viewed, Made, either-rule, front-marked}
 use Rattle.til_lexer.specs.declared.token.TokenKind.TheVariants as kinds
 use Rattle.til_parser.specs.declared.ltype.AstType.{AstType}
 use Rattle.til_parser.specs.declared.tree.AstName.{AstName}
 use Rattle.til_parser.specs.declared.tree.AstPath.{AstPath}
 use Rattle.til_parser.specs.declared.tree.AstPorts.{AstPorts}
 use Rattle.til_parser.specs.declared.tree.AstPorts.TheVariants as ports
+use Rattle.til_parser.specs.declared.tree.AstPort.{AstPort}
 use Rattle.til_parser.specs.Grammar.{Name, Path, Doc, SpellsPort, SpellsPorts, SpellsStreamletPorts, StreamletWithin, PortsWithin, way_word}
 use Rattle.til_parser.specs.Lexemes.{Lexeme, IsFormed}
 use Rattle.til_parser.specs.Nesting.{PortTo, PortsTo}
@@ -36,21 +38,16 @@ module _ (n : ℕ) where
   pub port-rule : IsRule IsFormed (port n) SpellsPort (λ _. PathNext) (λ p. Fits n p.ltype) (PortTo n)
   unfolding port same_kind
   port-rule =
-      mapped (λ (p : Option (List ℕ) × (AstName × (Bool × AstType))). record { doc = p.0; name = p.1.0; inward = p.1.1.0; ltype = p.1.1.1 })
+      deep-rule IsFormed (port n) SpellsPort (λ _. PathNext) (λ p. Fits n p.ltype) _ (PortTo n)
+      (λ ts d. let m = d.1.ends in let w = m.1.ends.ends in (d.0, m.0, w.0, with_ends d.1 (with_ends m.1 (with_ends m.1.ends w.1))))
+      (λ ts d. let s = d.3 in (d.0, with_ends s (d.1, with_ends s.ends (with_ends s.ends.ends (d.2, s.ends.ends.ends)))))
+      (viewed (λ (p : Option (List ℕ) × (AstName × (Bool × AstType))). record { doc = p.0; name = p.1.0; inward = p.1.1.0; ltype = p.1.1.1 })
+      (λ (p : AstPort). (p.doc, (p.name, (p.inward, p.ltype))))
       (both (as_flat doc-rule)
       (parted (as_flat name-rule) colon
       (both (as_flat (either_word-rule way_word way_formed refl)) (as_rule (ltype-rule n)) (λ b y back rest s next. tt) (λ b back rest d. tt)) (λ x front rest s. tt))
       (λ d z back rest s next. Name-starts z.0 kinds.Doc refl _ back rest s) (λ d back rest e. Name-starts e.0 kinds.Doc refl _ back rest e.1))
-      SpellsPort (λ _. PathNext) (λ p. Fits n p.ltype) (PortTo n)
-      (record {
-        there = λ x ts s. s;
-        back = λ y ts s. ((y.doc, (y.name, (y.inward, y.ltype))), refl, s);
-        follow = λ x rest next. next;
-        within = λ x w. w;
-        apart = λ x w. w;
-        first = λ ts d. let m = d.1.ends in let w = m.1.ends.ends in (d.0, m.0, w.0, with_ends d.1 (with_ends m.1 (with_ends m.1.ends w.1)));
-        deep = λ ts d. let s = d.3 in (d.0, with_ends s (d.1, with_ends s.ends (with_ends s.ends.ends (d.2, s.ends.ends.ends))));
-      })
+      (λ x. refl) (λ y. refl))
 
   pub port-lists : Repeats (is_kind kinds.CloseParen) false SpellsPort (PortTo n)
   unfolding same_kind

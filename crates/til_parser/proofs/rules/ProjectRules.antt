@@ -10,8 +10,8 @@ use Rattle.tydi_reading.proofs.CheckedRule.{Checks, checked-rule}
 use Rattle.tydi_reading.proofs.FilledLemmas.{filled-first, filled-second}
 use Rattle.tydi_reading.proofs.FormLemmas.{front-tells, follows-front, with_ends}
 use Rattle.tydi_reading.proofs.RepeatedRule.{Repeats, repeated-rule}
-use Rattle.tydi_reading.proofs.Rule.{as_rule, as_flat, skip, close, both, mapped}
-use Rattle.tydi_reading.proofs.StepRules.{then-rule}
+use Rattle.tydi_reading.proofs.Rule.{as_rule, as_flat, skip, close, both, viewed}
+use Rattle.tydi_reading.proofs.StepRules.{then-rule, deep-rule}
 use Rattle.til_lexer.specs.declared.token.TokenKind.{TokenKind}
 use Rattle.til_lexer.specs.declared.token.TokenKind.TheVariants as kinds
 use Rattle.til_parser.specs.declared.keyword.Keyword.{Keyword}
@@ -94,19 +94,9 @@ module _ (n : ℕ) where
   pub decl-rule : IsRule IsFormed (decl n) SpellsDecl (λ _. Anything) (λ d. KindWithin n d.kind) (DeclTo n)
   unfolding decl same_kind
   decl-rule =
-      mapped (λ (d : Option (List ℕ) × (AstName × AstKind)). record { doc = d.0; name = d.1.0; kind = d.1.1 })
+      viewed (λ (d : Option (List ℕ) × (AstName × AstKind)). record { doc = d.0; name = d.1.0; kind = d.1.1 }) (λ (d : AstDecl). (d.doc, (d.name, d.kind)))
       (both (as_flat doc-rule) (close (as_rule named-rule) semicolon (λ z. Of-path kinds.Semicolon refl))
-      (λ x y back rest s next. kind_first kinds.Doc refl y (Of kinds.Semicolon) back rest s) (λ x. kind_to-first kinds.Doc refl))
-      SpellsDecl (λ _. Anything) (λ d. KindWithin n d.kind) (DeclTo n)
-      (record {
-        there = λ x ts s. s;
-        back = λ y ts s. ((y.doc, (y.name, y.kind)), refl, s);
-        follow = λ x rest next. tt;
-        within = λ x w. w;
-        apart = λ x w. w;
-        first = λ ts d. d;
-        deep = λ ts d. d;
-      })
+      (λ x y back rest s next. kind_first kinds.Doc refl y (Of kinds.Semicolon) back rest s) (λ x. kind_to-first kinds.Doc refl)) (λ x. refl) (λ y. refl)
 
   pub decl-filled : (d : AstDecl) (ts : List Lexeme) → SpellsDecl d ts → 0 < length ts
   decl-filled d ts s = filled-second (Doc d.doc) (SpellsKind d.name d.kind ⋯ Of kinds.Semicolon) ts
@@ -129,23 +119,17 @@ module _ (n : ℕ) where
   pub namespace-rule : IsRule IsFormed (namespace n) SpellsNamespace (λ _. Anything) NamespaceWithin (NamespaceTo n)
   unfolding namespace same_kind
   namespace-rule =
-      mapped (λ (x : Option (List ℕ) × (AstPath × List AstDecl)). record { doc = x.0; path = x.1.0; decls = x.1.1 })
+      deep-rule IsFormed (namespace n) SpellsNamespace (λ _. Anything) NamespaceWithin _ (NamespaceTo n)
+      (λ ts d. let p = d.1.ends.ends in (d.0, p.0, with_ends d.1 (with_ends d.1.ends p.1)))
+      (λ ts d. let s = d.2 in (d.0, with_ends s (with_ends s.ends (d.1, s.ends.ends))))
+      (viewed (λ (x : Option (List ℕ) × (AstPath × List AstDecl)). record { doc = x.0; path = x.1.0; decls = x.1.1 }) (λ (x : AstNamespace). (x.doc, (x.path, x.decls)))
       (both (as_flat doc-rule)
       (skip (word_mark (codes "namespace") refl)
       (both (as_flat path-rule) (as_rule (braced-rule decl-braces decl-rule))
       (λ p all back rest s next. follows-front PathNext (Of kinds.OpenBrace) _ back rest (Of-path kinds.OpenBrace refl) s)
       (λ p back rest d. follows-front PathNext (Of kinds.OpenBrace) _ back rest (Of-path kinds.OpenBrace refl) d)))
       (λ x z back rest s next. word_first (codes "namespace") kinds.Doc refl _ back rest s) (λ x back rest d. word_first (codes "namespace") kinds.Doc refl _ back rest d))
-      SpellsNamespace (λ _. Anything) NamespaceWithin (NamespaceTo n)
-      (record {
-        there = λ x ts s. s;
-        back = λ y ts s. ((y.doc, (y.path, y.decls)), refl, s);
-        follow = λ x rest next. tt;
-        within = λ x w. w;
-        apart = λ x w. w;
-        first = λ ts d. let p = d.1.ends.ends in (d.0, p.0, with_ends d.1 (with_ends d.1.ends p.1));
-        deep = λ ts d. let s = d.2 in (d.0, with_ends s (with_ends s.ends (d.1, s.ends.ends)));
-      })
+      (λ x. refl) (λ y. refl))
 
   word-filled : (Second : Form) (ts : List Lexeme) → (Word (codes "namespace") ⋯ Second) ts → 0 < length ts
   word-filled Second ts = filled-first (Word (codes "namespace")) Second ts (Word-filled (codes "namespace"))
