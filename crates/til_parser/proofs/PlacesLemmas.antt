@@ -32,23 +32,19 @@ module _ {A : Type 0} (Same : A → A → Type 0) where
   flat_map-alike : (text : A → List ℕ) → ((one other : A) → Same one other → text one ≡ text other) → (ones others : List A) → Alike Same ones others
       → flat_map text ones ≡ flat_map text others
   flat_map-alike text same [] [] s = refl
-  flat_map-alike text same (one ∷ ones) (other ∷ others) s =
-      ap (λ l. l ++ flat_map text ones) (same one other s.0) ∙ ap (λ l. text other ++ l) (flat_map-alike text same ones others s.1)
-  flat_map-alike text same [] (other ∷ others) s = absurd s
-  flat_map-alike text same (one ∷ ones) [] s = absurd s
+  flat_map-alike text same (one ∷ ones) (other ∷ others) s = λ i. same one other s.0 i ++ flat_map-alike text same ones others s.1 i
+  flat_map-alike text same _ _ s = absurd s
 
   each-alike : (Is : A → Type 0) → ((one other : A) → Same one other → Is one → Is other) → (ones others : List A) → Alike Same ones others
       → EachIs Is ones → EachIs Is others
   each-alike Is to [] [] s each = tt
   each-alike Is to (one ∷ ones) (other ∷ others) s each = (to one other s.0 each.0, each-alike Is to ones others s.1 each.1)
-  each-alike Is to [] (other ∷ others) s each = absurd s
-  each-alike Is to (one ∷ ones) [] s each = absurd s
+  each-alike Is to _ _ s each = absurd s
 
   length-alike : (ones others : List A) → Alike Same ones others → length ones ≡ length others
   length-alike [] [] s = refl
   length-alike (one ∷ ones) (other ∷ others) s = ap suc (length-alike ones others s.1)
-  length-alike [] (other ∷ others) s = absurd s
-  length-alike (one ∷ ones) [] s = absurd s
+  length-alike _ _ s = absurd s
 
 -- ---- names and paths
 
@@ -58,10 +54,8 @@ name-is one other same is = subst (λ l. IsTrue (is_name l)) same is
 names-text : (ones others : List AstName) → SameNames ones others → names_text ones ≡ names_text others
 names-text [] [] s = refl
 names-text (one ∷ ones) (other ∷ others) s =
-    ap (λ l. l ++ flat_map (λ (name : AstName). codes "::" ++ name.name) ones) s.0
-    ∙ ap (λ l. other.name ++ l) (flat_map-alike SameName (λ (name : AstName). codes "::" ++ name.name) (λ a b same. ap (λ l. codes "::" ++ l) same) ones others s.1)
-names-text [] (other ∷ others) s = absurd s
-names-text (one ∷ ones) [] s = absurd s
+    λ i. s.0 i ++ flat_map-alike SameName (λ (name : AstName). codes "::" ++ name.name) (λ a b same. ap (λ l. codes "::" ++ l) same) ones others s.1 i
+names-text _ _ s = absurd s
 
 path-is : (ones others : List AstName) → SameNames ones others → IsPath ones → IsPath others
 path-is ones others same is =
@@ -85,22 +79,17 @@ record PartsAreKept (ones others : Parts) : Type 0 where
 streams-kept : (element user element' user' : Ltype) (settings settings' : Settings) → AreKept element element' → AreKept user user' → settings ≡ settings'
     → AreKept (stream element user settings) (stream element' user' settings')
 streams-kept element user element' user' settings settings' e u s = record {
-  text = ap (λ l. codes "Stream(data: " ++ l ++ settings_text settings ++ type_text user ++ codes ", keep: " ++ truth_word settings.keep ++ codes ")") e.text
-      ∙ ap (λ l. codes "Stream(data: " ++ type_text element' ++ settings_text settings ++ l ++ codes ", keep: " ++ truth_word settings.keep ++ codes ")") u.text
-      ∙ ap (λ (x : Settings). codes "Stream(data: " ++ type_text element' ++ settings_text x ++ type_text user' ++ codes ", keep: " ++ truth_word x.keep ++ codes ")") s;
-  deep = ap (λ n. suc (max n (depth user))) e.deep ∙ ap (λ n. suc (max (depth element') n)) u.deep;
+  text = λ i. codes "Stream(data: " ++ e.text i ++ settings_text (s i) ++ u.text i ++ codes ", keep: " ++ truth_word (s i).keep ++ codes ")";
+  deep = λ i. suc (max (e.deep i) (u.deep i));
   is = λ i. (e.is i.0, u.is i.1, subst AreSettings s i.2);
 }
 
 parts-kept : (name name' : AstName) (ltype ltype' : Ltype) (more more' : Parts) → SameName name name' → AreKept ltype ltype' → PartsAreKept more more'
     → PartsAreKept (part name ltype more) (part name' ltype' more')
 parts-kept name name' ltype ltype' more more' n t m = record {
-  text = ap (λ l. l ++ codes ": " ++ type_text ltype ++ more_parts_text more) n ∙ ap (λ l. name'.name ++ codes ": " ++ l ++ more_parts_text more) t.text
-      ∙ ap (λ l. name'.name ++ codes ": " ++ type_text ltype' ++ l) m.more;
-  more = ap (λ l. codes ", " ++ l ++ codes ": " ++ type_text ltype ++ more_parts_text more) n
-      ∙ ap (λ l. codes ", " ++ name'.name ++ codes ": " ++ l ++ more_parts_text more) t.text
-      ∙ ap (λ l. codes ", " ++ name'.name ++ codes ": " ++ type_text ltype' ++ l) m.more;
-  deep = ap (λ d. max d (depth_of_parts more)) t.deep ∙ ap (λ d. max (depth ltype') d) m.deep;
+  text = λ i. n i ++ codes ": " ++ t.text i ++ m.more i;
+  more = λ i. codes ", " ++ n i ++ codes ": " ++ t.text i ++ m.more i;
+  deep = λ i. max (t.deep i) (m.deep i);
   are = λ i. (name-is name name' n i.0, t.is i.1, m.are i.2);
 }
 
@@ -127,10 +116,7 @@ mutual
 
 port-text : (one other : AstPort) → SamePort one other → port_text one ≡ port_text other
 port-text one other s =
-    ap (λ d. doc_text d (codes " ") ++ one.name.name ++ codes ": " ++ way_word one.inward ++ codes " " ++ type_text (plain one.ltype)) s.doc
-    ∙ ap (λ l. doc_text other.doc (codes " ") ++ l ++ codes ": " ++ way_word one.inward ++ codes " " ++ type_text (plain one.ltype)) s.name
-    ∙ ap (λ w. doc_text other.doc (codes " ") ++ other.name.name ++ codes ": " ++ way_word w ++ codes " " ++ type_text (plain one.ltype)) s.inward
-    ∙ ap (λ l. doc_text other.doc (codes " ") ++ other.name.name ++ codes ": " ++ way_word other.inward ++ codes " " ++ l) (type-kept (plain one.ltype) (plain other.ltype) s.ltype).text
+    λ i. doc_text (s.doc i) (codes " ") ++ s.name i ++ codes ": " ++ way_word (s.inward i) ++ codes " " ++ (type-kept (plain one.ltype) (plain other.ltype) s.ltype).text i
 
 port-is : (one other : AstPort) → SamePort one other → IsPort one → IsPort other
 port-is one other s is = record {
@@ -142,17 +128,12 @@ port-is one other s is = record {
 ports-text : (ones others : List AstPort) → Alike SamePort ones others → ports_text ones ≡ ports_text others
 ports-text [] [] s = refl
 ports-text (one ∷ ones) (other ∷ others) s =
-    ap (λ l. codes "(" ++ l ++ flat_map next_port_text ones ++ codes ")") (port-text one other s.0)
-    ∙ ap (λ l. codes "(" ++ port_text other ++ l ++ codes ")") (flat_map-alike SamePort next_port_text (λ a b same. ap (λ l. codes ", " ++ l) (port-text a b same)) ones others s.1)
-ports-text [] (other ∷ others) s = absurd s
-ports-text (one ∷ ones) [] s = absurd s
+    λ i. codes "(" ++ port-text one other s.0 i ++ flat_map-alike SamePort next_port_text (λ a b same. ap (λ l. codes ", " ++ l) (port-text a b same)) ones others s.1 i ++ codes ")"
+ports-text _ _ s = absurd s
 
 ports-within : (levels : ℕ) (ones others : List AstPort) → Alike SamePort ones others → PortsWithin levels ones → PortsWithin levels others
-ports-within levels [] [] s within = tt
-ports-within levels (one ∷ ones) (other ∷ others) s within =
-    (subst (λ n. n ≤ levels) (type-kept (plain one.ltype) (plain other.ltype) s.0.ltype).deep within.0, ports-within levels ones others s.1 within.1)
-ports-within levels [] (other ∷ others) s within = absurd s
-ports-within levels (one ∷ ones) [] s within = absurd s
+ports-within levels = each-alike SamePort (λ port. depth (plain port.ltype) ≤ levels)
+    (λ one other s. subst (λ n. n ≤ levels) (type-kept (plain one.ltype) (plain other.ltype) s.ltype).deep)
 
 -- ---- bodies
 
@@ -167,16 +148,14 @@ second-is (Some one) (Some other) s is = name-is one other s is
 second-is _ _ s is = absurd s
 
 end-text : (one other : AstEnd) → SameEnd one other → end_text one ≡ end_text other
-end-text one other s = ap (λ l. l ++ second_text one.second) s.0 ∙ ap (λ l. other.first.name ++ l) (second-text one.second other.second s.1)
+end-text one other s = λ i. s.0 i ++ second-text one.second other.second s.1 i
 
 end-is : (one other : AstEnd) → SameEnd one other → IsEnd one → IsEnd other
 end-is one other s is = (name-is one.first other.first s.0 is.0, second-is one.second other.second s.1 is.1)
 
 stmt-text : (one other : AstStmt) → SameStmt one other → stmt_text one ≡ stmt_text other
-stmt-text (stmts.Instance name streamlet) (stmts.Instance name' streamlet') s =
-    ap (λ l. l ++ codes " = " ++ names_text streamlet.names ++ codes ";") s.0 ∙ ap (λ l. name'.name ++ codes " = " ++ l ++ codes ";") (names-text streamlet.names streamlet'.names s.1)
-stmt-text (stmts.Link first second) (stmts.Link first' second') s =
-    ap (λ l. l ++ codes " -- " ++ end_text second ++ codes ";") (end-text first first' s.0) ∙ ap (λ l. end_text first' ++ codes " -- " ++ l ++ codes ";") (end-text second second' s.1)
+stmt-text (stmts.Instance name streamlet) (stmts.Instance name' streamlet') s = λ i. s.0 i ++ codes " = " ++ names-text streamlet.names streamlet'.names s.1 i ++ codes ";"
+stmt-text (stmts.Link first second) (stmts.Link first' second') s = λ i. end-text first first' s.0 i ++ codes " -- " ++ end-text second second' s.1 i ++ codes ";"
 stmt-text _ _ s = absurd s
 
 stmt-is : (one other : AstStmt) → SameStmt one other → IsStmt one → IsStmt other
@@ -217,14 +196,9 @@ kind-text name (decls.Alias one) (decls.Alias other) s = ap (λ l. codes "type "
 kind-text name (decls.Interface ones) (decls.Interface others) s = ap (λ l. codes "interface " ++ name ++ codes " = " ++ l) (ports-text ones others s)
 kind-text name (decls.Streamlet one) (decls.Streamlet other) s = ap (λ l. codes "streamlet " ++ name ++ codes " = " ++ l) (streamlet-text one other s)
 kind-text name (decls.Impl target body) (decls.Impl target' body') s =
-    ap (λ l. codes "impl " ++ name ++ codes " of " ++ l ++ codes " = " ++ body_text body) (names-text target.names target'.names s.0)
-    ∙ ap (λ l. codes "impl " ++ name ++ codes " of " ++ names_text target'.names ++ codes " = " ++ l) (body-text body body' s.1)
+    λ i. codes "impl " ++ name ++ codes " of " ++ names-text target.names target'.names s.0 i ++ codes " = " ++ body-text body body' s.1 i
 kind-text name (decls.Test target port value plan) (decls.Test target' port' value' plan') s =
-    ap (λ l. codes "test " ++ name ++ codes " of " ++ l ++ codes " drive " ++ port.name ++ codes " = " ++ quoted_text value ++ codes " plan " ++ quoted_text plan)
-    (names-text target.names target'.names s.0)
-    ∙ ap (λ l. codes "test " ++ name ++ codes " of " ++ names_text target'.names ++ codes " drive " ++ l ++ codes " = " ++ quoted_text value ++ codes " plan " ++ quoted_text plan) s.1
-    ∙ ap (λ l. codes "test " ++ name ++ codes " of " ++ names_text target'.names ++ codes " drive " ++ port'.name ++ codes " = " ++ quoted_text l ++ codes " plan " ++ quoted_text plan) s.2
-    ∙ ap (λ l. codes "test " ++ name ++ codes " of " ++ names_text target'.names ++ codes " drive " ++ port'.name ++ codes " = " ++ quoted_text value' ++ codes " plan " ++ quoted_text l) s.3
+    λ i. codes "test " ++ name ++ codes " of " ++ names-text target.names target'.names s.0 i ++ codes " drive " ++ s.1 i ++ codes " = " ++ quoted_text (s.2 i) ++ codes " plan " ++ quoted_text (s.3 i)
 kind-text name _ _ s = absurd s
 
 kind-is : (one other : AstKind) → SameKind one other → IsKind one → IsKind other
@@ -244,15 +218,13 @@ kind-within : (levels : ℕ) (one other : AstKind) → SameKind one other → Ki
 kind-within levels (decls.Alias one) (decls.Alias other) s within = subst (λ n. n ≤ levels) (type-kept (plain one) (plain other) s).deep within
 kind-within levels (decls.Interface ones) (decls.Interface others) s within = ports-within levels ones others s within
 kind-within levels (decls.Streamlet one) (decls.Streamlet other) s within = streamlet-within levels one other s within
-kind-within levels (decls.Impl target body) (decls.Impl target' body') s within = tt
-kind-within levels (decls.Test target port value plan) (decls.Test target' port' value' plan') s within = tt
+kind-within levels (decls.Impl target body) (decls.Impl _ _) s within = tt
+kind-within levels (decls.Test target port value plan) (decls.Test _ _ _ _) s within = tt
 kind-within levels _ _ s within = absurd s
 
 decl-text : (one other : AstDecl) → SameDecl one other → decl_text one ≡ decl_text other
 decl-text one other s =
-    ap (λ d. doc_line (codes "  ") d ++ codes "  " ++ kind_text one.name.name one.kind ++ codes ";\n") s.doc
-    ∙ ap (λ n. doc_line (codes "  ") other.doc ++ codes "  " ++ kind_text n one.kind ++ codes ";\n") s.name
-    ∙ ap (λ l. doc_line (codes "  ") other.doc ++ codes "  " ++ l ++ codes ";\n") (kind-text other.name.name one.kind other.kind s.kind)
+    λ i. doc_line (codes "  ") (s.doc i) ++ codes "  " ++ (kind-text one.name.name one.kind other.kind s.kind ∙ ap (λ n. kind_text n other.kind) s.name) i ++ codes ";\n"
 
 decl-is : (one other : AstDecl) → SameDecl one other → IsDecl one → IsDecl other
 decl-is one other s is = record {
@@ -262,19 +234,14 @@ decl-is one other s is = record {
 }
 
 decls-within : (levels : ℕ) (ones others : List AstDecl) → Alike SameDecl ones others → DeclsWithin levels ones → DeclsWithin levels others
-decls-within levels [] [] s within = tt
-decls-within levels (one ∷ ones) (other ∷ others) s within = (kind-within levels one.kind other.kind s.0.kind within.0, decls-within levels ones others s.1 within.1)
-decls-within levels [] (other ∷ others) s within = absurd s
-decls-within levels (one ∷ ones) [] s within = absurd s
+decls-within levels = each-alike SameDecl (λ decl. KindWithin levels decl.kind) (λ one other s. kind-within levels one.kind other.kind s.kind)
 
 -- ---- namespaces
 
 namespace-text : (one other : AstNamespace) → SameNamespace one other → namespace_text one ≡ namespace_text other
 namespace-text one other s =
-    ap (λ d. doc_line [] d ++ codes "namespace " ++ names_text one.path.names ++ codes " {\n" ++ flat_map decl_text one.decls ++ codes "}\n") s.doc
-    ∙ ap (λ l. doc_line [] other.doc ++ codes "namespace " ++ l ++ codes " {\n" ++ flat_map decl_text one.decls ++ codes "}\n") (names-text one.path.names other.path.names s.path)
-    ∙ ap (λ l. doc_line [] other.doc ++ codes "namespace " ++ names_text other.path.names ++ codes " {\n" ++ l ++ codes "}\n")
-    (flat_map-alike SameDecl decl_text decl-text one.decls other.decls s.decls)
+    λ i. doc_line [] (s.doc i) ++ codes "namespace " ++ names-text one.path.names other.path.names s.path i ++ codes " {\n"
+    ++ flat_map-alike SameDecl decl_text decl-text one.decls other.decls s.decls i ++ codes "}\n"
 
 namespace-is : (one other : AstNamespace) → SameNamespace one other → IsNamespace one → IsNamespace other
 namespace-is one other s is = record {
@@ -284,11 +251,8 @@ namespace-is one other s is = record {
 }
 
 namespaces-within : (levels : ℕ) (ones others : List AstNamespace) → Alike SameNamespace ones others → NamespacesWithin levels ones → NamespacesWithin levels others
-namespaces-within levels [] [] s within = tt
-namespaces-within levels (one ∷ ones) (other ∷ others) s within =
-    (decls-within levels one.decls other.decls s.0.decls within.0, namespaces-within levels ones others s.1 within.1)
-namespaces-within levels [] (other ∷ others) s within = absurd s
-namespaces-within levels (one ∷ ones) [] s within = absurd s
+namespaces-within levels = each-alike SameNamespace (λ namespace. DeclsWithin levels namespace.decls)
+    (λ one other s. decls-within levels one.decls other.decls s.decls)
 
 pub trees-alike : PlacesAreLeftOut
 trees-alike one other s =

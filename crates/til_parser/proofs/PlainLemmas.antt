@@ -138,27 +138,16 @@ remade_stream : (one : AstStream) → StreamIsOfPlain one →
       user = of_plain (plain one.user);
       keep = one.keep;
     }) ≡ one
-remade_stream one is =
-    ap (λ t. roll-AstStream (record {
-      element = t;
-      throughput = one.throughput;
-      dims = one.dims;
-      sync = one.sync;
-      level = one.level;
-      reverse = one.reverse;
-      user = of_plain (plain one.user);
-      keep = one.keep;
-    })) is.element
-    ∙ ap (λ t. roll-AstStream (record {
-      element = one.element;
-      throughput = one.throughput;
-      dims = one.dims;
-      sync = one.sync;
-      level = one.level;
-      reverse = one.reverse;
-      user = t;
-      keep = one.keep;
-    })) is.user
+remade_stream one is = λ i. roll-AstStream (record {
+  element = is.element i;
+  throughput = one.throughput;
+  dims = one.dims;
+  sync = one.sync;
+  level = one.level;
+  reverse = one.reverse;
+  user = is.user i;
+  keep = one.keep;
+})
 
 abbrev Layer : Type 0
 Layer = AstType-F ((one : AstType) × IsOfPlain one) ((one : AstPart) × PartIsOfPlain one) ((one : AstStream) × StreamIsOfPlain one)
