@@ -13,7 +13,6 @@ use Rattle.til_parser.specs.declared.tree.AstName.{AstName}
 use Rattle.til_parser.specs.declared.tree.AstPath.{AstPath}
 use Rattle.til_parser.specs.Grammar.{Form, Of, Word, Name, Doc, Path, Given, SpellsType, argument_word, way_word}
 use Rattle.til_parser.specs.Grammar.{SpellsPort, SpellsDecl, SpellsNamespace}
-use Rattle.til_parser.specs.Lexemes.{Lexeme}
 use Rattle.til_parser.specs.Tree.{plain, settings_of}
 
 -- ---- lists

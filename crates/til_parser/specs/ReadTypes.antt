@@ -22,7 +22,7 @@ use Rattle.til_parser.specs.declared.ltype.AstSync.{AstSync}
 use Rattle.til_parser.specs.declared.ltype.AstSync.TheVariants as syncs
 use Rattle.til_parser.specs.declared.tree.AstName.{AstName}
 use Rattle.til_parser.specs.declared.tree.AstPath.{AstPath}
-use Rattle.til_parser.specs.Lexemes.{Lexeme, between_marks}
+use Rattle.til_parser.specs.Lexemes.{between_marks}
 use Rattle.til_parser.specs.Numbers.{whole_of, numerator_of, denominator_of, lowest}
 use Rattle.til_parser.specs.Words.{sync_of, type_word_at, argument_at}
 use Rattle.til_parser.specs.Reading.{Reader, is_kind, is_word, begins_type, expect, expect_word, next_of, token}

@@ -150,7 +150,10 @@ impl<'a> Parser<'a> {
             }
             Argument::Throughput => {
                 let throughput = Some(self.number()?);
-                Ok(Arguments { throughput, ..given })
+                Ok(Arguments {
+                    throughput,
+                    ..given
+                })
             }
             Argument::Dimensionality => {
                 let dims = Some(self.whole()?);

@@ -111,14 +111,14 @@ module _ {T K : Type 0} (Separator : Form T) (Item : K → Form T) (a : K) where
   Separated-inside (b ∷ next ∷ order) ts s c = elim (Contains-cases (next ∷ order) b a c) [
     | inl e ↦ first_inside b _ ts s e
     | inr more ↦ let o = s.ends in let i = Separated-inside (next ∷ order) o.back o.ends more in
-      record {
-        front = s.front ++ (o.front ++ i.front);
-        middle = i.middle;
-        back = i.back;
-        all = s.all ∙ ap (λ l. s.front ++ l) (o.all ∙ ap (λ l. o.front ++ l) i.all ∙ sym (append_assoc o.front i.front (i.middle ++ i.back)))
-            ∙ sym (append_assoc s.front (o.front ++ i.front) (i.middle ++ i.back));
-        spelled = i.spelled;
-      }
+        record {
+          front = s.front ++ (o.front ++ i.front);
+          middle = i.middle;
+          back = i.back;
+          all = s.all ∙ ap (λ l. s.front ++ l) (o.all ∙ ap (λ l. o.front ++ l) i.all ∙ sym (append_assoc o.front i.front (i.middle ++ i.back)))
+              ∙ sym (append_assoc s.front (o.front ++ i.front) (i.middle ++ i.back));
+          spelled = i.spelled;
+        }
   ]
 
 -- each argument is written, or has its default

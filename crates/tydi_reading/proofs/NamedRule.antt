@@ -259,7 +259,7 @@ module _ {T K G S : Type 0} (Good : T → Type 0) (f : Fields K G S) (a : Argume
   filled [] given k c none = Contains-none k c
   filled (j ∷ names) given k c none = elim (Contains-cases names j k c) [
     | inl e ↦ let one = filled_one j given (f.field j given) refl in
-      none-some one.0 (sym (subst (λ i. f.field i (fill (j ∷ names) given) ≡ None) (sym e) none) ∙ field-fill names (fill_one j (f.field j given) given) j one.0 one.1)
+        none-some one.0 (sym (subst (λ i. f.field i (fill (j ∷ names) given) ≡ None) (sym e) none) ∙ field-fill names (fill_one j (f.field j given) given) j one.0 one.1)
     | inr more ↦ filled names (fill_one j (f.field j given) given) k more none
   ]
 
@@ -392,8 +392,8 @@ module _ {T K G S : Type 0} (Good : T → Type 0) (f : Fields K G S) (a : Argume
     leads_of : (n : ℕ) (ts : List T) → RunsTo Turning (λ g us. (g ≡ final) × StepDeep g us) n f.none ts → NamedTo Separator Argument To ts
     leads_of n ts walk =
         let all = adds s final agrees Leads (λ g us. (g ≡ final) × StepDeep g us) leads_more
-            (λ given us d. adds_none s final agrees Leads given us d.0 (record { front = []; back = us; all = refl; begins = refl; ends = subst (λ g. StepDeep g us) d.0 d.1 }))
-            n f.none ts walk in
+        (λ given us d. adds_none s final agrees Leads given us d.0 (record { front = []; back = us; all = refl; begins = refl; ends = subst (λ g. StepDeep g us) d.0 d.1 }))
+        n f.none ts walk in
         let w = all.written in
         record {
           values = s;

@@ -125,7 +125,7 @@ module _ {T K G S : Type 0} (Good : T → Type 0) (f : Fields K G S) (a : Argume
 
   awaited-is : (given : G) (k : K) (t : T) → a.name t ≡ Some k → f.field k given ≡ None → awaited a.name f.is_given given t ≡ Some k
   awaited-is given k t told none =
-      ap (option_and_then (λ j. cond (f.is_given j given) None (Some j))) told 
+      ap (option_and_then (λ j. cond (f.is_given j given) None (Some j))) told
       ∙ ap (λ (b : Bool). cond b None (Some k)) (f.is_given-is k given ∙ ap is_some none)
 
   awaited-leaf : (given : G) → IsLeaf Good (awaited a.name f.is_given given) (Awaited given)

@@ -19,13 +19,7 @@ pub fn argument<
     N: Fn(&T) -> Option<K>,
     H: Fn(&K, &G) -> bool,
     V: Fn(&mut Cursor<'a, T>, K, G) -> Result<G, Fault>,
->(
-    cursor: &mut Cursor<'a, T>,
-    given: G,
-    name: &N,
-    is_given: &H,
-    value: &V,
-) -> Result<G, Fault>
+>(cursor: &mut Cursor<'a, T>, given: G, name: &N, is_given: &H, value: &V) -> Result<G, Fault>
     requires names { N.IsAlwaysCallable name.now }
     requires tests { H.IsAlwaysCallable is_given.now }
     requires calls { V.IsAlwaysCallable value.now }

@@ -1,6 +1,5 @@
 -- The rules of what follows the keyword of a declaration.
 use Rattle.std.proofs.Common.{◌≡◌, ℕ, List, Some, refl, sym, subst, codes}
-use Rattle.std.proofs.lemmas.Option.{none-some}
 use Rattle.tydi_reading.specs.Forms.{Never, Anything, ◌⋯◌}
 use Rattle.tydi_reading.specs.Rules.{IsRule}
 use Rattle.tydi_reading.proofs.FormLemmas.{with_ends}

@@ -1,15 +1,9 @@
 -- The readers that take a token at least.
-use Rattle.std.proofs.Common.{◌≡◌, ℕ, ⊎_elim, length, sym, ap, ◌∙◌, arith}
-use Rattle.tydi_reading.specs.declared.fault.Fault.TheVariants as faults
-use Rattle.tydi_reading.specs.Forms.{◌⋯◌}
+use Rattle.std.proofs.Common.{ℕ}
 use Rattle.tydi_reading.specs.Named.{argument}
 use Rattle.tydi_reading.specs.Reading.{Shrinks}
-use Rattle.tydi_reading.proofs.FilledLemmas.{filled-first}
 use Rattle.tydi_reading.proofs.Rule.{as_rule, shrinks}
-use Rattle.til_lexer.specs.declared.token.TokenKind.TheVariants as kinds
 use Rattle.til_parser.specs.declared.arguments.Arguments.{Arguments}
-use Rattle.til_parser.specs.Grammar.{Of, Word}
-use Rattle.til_parser.specs.Lexemes.{Lexeme}
 use Rattle.til_parser.specs.Nesting.{TypeTo}
 use Rattle.til_parser.specs.ReadTypes.{name, ltype, part, is_given, value}
 use Rattle.til_parser.specs.Words.{argument_at}
@@ -19,7 +13,7 @@ use Rattle.til_parser.proofs.rules.BodyRules.{stmt-rule, stmt-filled}
 use Rattle.til_parser.proofs.rules.PortRules.{port-rule, port-lists}
 use Rattle.til_parser.proofs.rules.LeafRules.{Name-filled, name-rule}
 use Rattle.til_parser.proofs.rules.ProjectRules.{decl-rule, decl-filled, namespace-rule, namespace-filled}
-use Rattle.til_parser.proofs.rules.PartRules.{S, part-rule, part-lists}
+use Rattle.til_parser.proofs.rules.PartRules.{part-rule, part-lists}
 use Rattle.til_parser.proofs.rules.TypeRules.{Fits, null_within}
 use Rattle.til_parser.proofs.rules.LevelRules.{ltype-rule}
 

@@ -5,7 +5,6 @@ use Rattle.tydi_reading.specs.Forms.{Never, Anything, ◌⋯◌}
 use Rattle.tydi_reading.specs.Named.{argument}
 use Rattle.tydi_reading.specs.Reading.{Reader, Shrinks, ◌>>◌, ◌<$>◌}
 use Rattle.tydi_reading.specs.Rules.{IsRule}
-use Rattle.tydi_reading.proofs.FormLemmas.{with_ends}
 use Rattle.tydi_reading.proofs.NamedRule.{Defaults, named-rule}
 use Rattle.tydi_reading.proofs.NamedSteps.{Between, step-shrinks}
 use Rattle.tydi_reading.proofs.NamedSteps as steps

@@ -1,7 +1,6 @@
 -- The word with which a type begins.
-use Rattle.std.proofs.Common.{◌≡◌, ℕ, Bool, true, false, cond, List, [], ◌∷◌, ◌++◌, Option, Some, None, refl, sym, ap, ◌∙◌, codes, append_assoc, true≢false}
+use Rattle.std.proofs.Common.{◌≡◌, false, List, [], ◌∷◌, ◌++◌, Option, Some, None, refl, sym, ap, ◌∙◌, codes, append_assoc, true≢false}
 use Rattle.std.specs.Option.{is_some}
-use Rattle.std.proofs.lemmas.Option.{none-some}
 use Rattle.tydi_base.specs.Name.{is_name}
 use Rattle.tydi_reading.specs.Forms.{Never, Anything}
 use Rattle.tydi_reading.specs.Reading.{tells, leaf}
@@ -14,7 +13,6 @@ use Rattle.til_parser.specs.declared.tree.AstName.{AstName}
 use Rattle.til_parser.specs.Grammar.{Form, IsWord, Word, Path}
 use Rattle.til_parser.specs.Grammar as grammar
 use Rattle.til_parser.specs.Lexemes.{Lexeme, IsFormed}
-use Rattle.til_parser.specs.Reading.{same_kind}
 use Rattle.til_parser.specs.Words.{type_word, all_type_words, type_word_of, type_word_at}
 use Rattle.til_parser.proofs.rules.TokenRules.{made, word_at-word, word_at-is, word_at-there, word_at-back}
 

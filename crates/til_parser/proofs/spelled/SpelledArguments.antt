@@ -1,6 +1,5 @@
 -- The arguments of a Stream: what is known of each from the tokens that spell them in some order.
 use Rattle.std.proofs.Common.{◌≡◌, ◌⊎◌, inl, inr, ◌++◌, refl, sym, subst, arith}
-use Rattle.std.specs.List.{Contains}
 use Rattle.tydi_base.specs.Level.{IsLevel}
 use Rattle.tydi_base.specs.declared.place.Place.{Place}
 use Rattle.tydi_reading.specs.Forms.{◌⋯◌}
@@ -15,7 +14,7 @@ use Rattle.til_parser.specs.declared.keyword.Argument.TheVariants as arguments
 use Rattle.til_parser.specs.Lexemes.{IsFormed}
 use Rattle.til_parser.proofs.rules.StreamFields.{one_or_two}
 use Rattle.til_parser.proofs.texts.NumberTextLemmas.{one-is}
-use Rattle.til_parser.proofs.spelled.SpelledLeaves.{Spelt, IsAt, first_of, second_of, number_of, whole_of}
+use Rattle.til_parser.proofs.spelled.SpelledLeaves.{Spelt, IsAt, second_of, number_of, whole_of}
 
 -- what spells the types of the arguments of a Stream, and the form of the others
 pub record AreFound (At : Place → Type 0) (Element User : Form) (user : Ltype) (values : Settings) : Type 0 where

@@ -10,7 +10,7 @@ pub returns-in_err-given : goal.returns-in_err-given
 unfolding named steps steps_turn
 returns-in_err-given g c n given v end separator names tests adds grows d e =
     let turn = loop_unfolds (steps_turn end true separator (argument n given v)) (steps_turn-advances end true separator (argument n given v) (λ s. argument-shrinks n given v s grows))
-        c.arguments.given c.arguments.cursor in
+    c.arguments.given c.arguments.cursor in
     let so_far = c.arguments.invariant n given v end separator names tests adds grows d e in
     let stop = c.stops.ensures end d in
     let made = c.argument.ensures.reads n given v names tests adds in
@@ -20,7 +20,7 @@ pub returns-then-not-sees : goal.returns-then-not-sees
 unfolding named steps steps_turn separator_turn mark
 returns-then-not-sees g c n given v end separator names tests adds grows d e =
     let turn = loop_unfolds (steps_turn end true separator (argument n given v)) (steps_turn-advances end true separator (argument n given v) (λ s. argument-shrinks n given v s grows))
-        c.arguments.given c.arguments.cursor in
+    c.arguments.given c.arguments.cursor in
     let so_far = c.arguments.invariant n given v end separator names tests adds grows d e in
     let stop = c.stops.ensures end d in
     let comma = c.sees.ensures separator e in
@@ -31,7 +31,7 @@ pub arguments-preserved : goal.arguments-preserved
 unfolding steps_turn separator_turn mark
 arguments-preserved g c n given v end separator names tests adds grows d e =
     let turn = loop_unfolds (steps_turn end true separator (argument n given v)) (steps_turn-advances end true separator (argument n given v) (λ s. argument-shrinks n given v s grows))
-        c.arguments.given c.arguments.cursor in
+    c.arguments.given c.arguments.cursor in
     let so_far = c.arguments.invariant n given v end separator names tests adds grows d e in
     let stop = c.stops.ensures end d in
     let comma = c.sees.ensures separator e in
@@ -42,7 +42,7 @@ pub returns : goal.returns
 unfolding named steps steps_turn
 returns g c n given v end separator names tests adds grows d e =
     let turn = loop_unfolds (steps_turn end true separator (argument n given v)) (steps_turn-advances end true separator (argument n given v) (λ s. argument-shrinks n given v s grows))
-        c.arguments.given c.arguments.cursor in
+    c.arguments.given c.arguments.cursor in
     let so_far = c.arguments.invariant n given v end separator names tests adds grows d e in
     let stop = c.stops.ensures end d in
     first_of (search rules, grind (arith, common_steps))
