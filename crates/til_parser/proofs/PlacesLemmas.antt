@@ -112,156 +112,130 @@ mutual
       parts-kept name name' ltype ltype' more more' s.0 (type-kept ltype ltype' s.1) (all_parts-kept more more' s.2)
   all_parts-kept _ _ s = absurd s
 
--- ---- ports
+-- ---- what is kept of a port, a body, a declaration
 
-port-text : (one other : AstPort) → SamePort one other → port_text one ≡ port_text other
-port-text one other s =
-    λ i. doc_text (s.doc i) (codes " ") ++ s.name i ++ codes ": " ++ way_word (s.inward i) ++ codes " " ++ (type-kept (plain one.ltype) (plain other.ltype) s.ltype).text i
+-- two things have one text; if the one is such a thing, so is the other, and if the one is within its bounds
+record Kept {A : Type 0} (Text : A → List ℕ) (Is Within : A → Type 0) (one other : A) : Type 0 where
+  text : Text one ≡ Text other
+  is : Is one → Is other
+  within : Within one → Within other
 
-port-is : (one other : AstPort) → SamePort one other → IsPort one → IsPort other
-port-is one other s is = record {
-  doc = subst IsDoc s.doc is.doc;
-  name = name-is one.name other.name s.name is.name;
-  ltype = (type-kept (plain one.ltype) (plain other.ltype) s.ltype).is is.ltype;
+-- no types stand in it
+abbrev NoBounds : {A : Type 0} → A → Type 0
+NoBounds one = Unit {0}
+
+second-kept : (one other : Option AstName) → SameSecond one other → Kept second_text IsSecond NoBounds one other
+second-kept None None s = record { text = refl; is = λ is. is; within = λ w. w }
+second-kept (Some one) (Some other) s = record { text = ap (λ l. codes "." ++ l) s; is = name-is one other s; within = λ w. w }
+second-kept _ _ s = absurd s
+
+end-kept : (one other : AstEnd) → SameEnd one other → Kept end_text IsEnd NoBounds one other
+end-kept one other s =
+    let k = second-kept one.second other.second s.1 in
+    record { text = λ i. s.0 i ++ k.text i; is = λ is. (name-is one.first other.first s.0 is.0, k.is is.1); within = λ w. w }
+
+stmt-kept : (one other : AstStmt) → SameStmt one other → Kept stmt_text IsStmt NoBounds one other
+stmt-kept (stmts.Instance name streamlet) (stmts.Instance name' streamlet') s = record {
+  text = λ i. s.0 i ++ codes " = " ++ names-text streamlet.names streamlet'.names s.1 i ++ codes ";";
+  is = λ is. (name-is name name' s.0 is.0, path-is streamlet.names streamlet'.names s.1 is.1);
+  within = λ w. w;
 }
+stmt-kept (stmts.Link first second) (stmts.Link first' second') s =
+    let one = end-kept first first' s.0 in
+    let two = end-kept second second' s.1 in
+    record { text = λ i. one.text i ++ codes " -- " ++ two.text i ++ codes ";"; is = λ is. (one.is is.0, two.is is.1); within = λ w. w }
+stmt-kept _ _ s = absurd s
 
-ports-text : (ones others : List AstPort) → Alike SamePort ones others → ports_text ones ≡ ports_text others
-ports-text [] [] s = refl
-ports-text (one ∷ ones) (other ∷ others) s =
-    λ i. codes "(" ++ port-text one other s.0 i ++ flat_map-alike SamePort next_port_text (λ a b same. ap (λ l. codes ", " ++ l) (port-text a b same)) ones others s.1 i ++ codes ")"
-ports-text _ _ s = absurd s
-
-ports-within : (levels : ℕ) (ones others : List AstPort) → Alike SamePort ones others → PortsWithin levels ones → PortsWithin levels others
-ports-within levels = each-alike SamePort (λ port. depth (plain port.ltype) ≤ levels)
-    (λ one other s. subst (λ n. n ≤ levels) (type-kept (plain one.ltype) (plain other.ltype) s.ltype).deep)
-
--- ---- bodies
-
-second-text : (one other : Option AstName) → SameSecond one other → second_text one ≡ second_text other
-second-text None None s = refl
-second-text (Some one) (Some other) s = ap (λ l. codes "." ++ l) s
-second-text _ _ s = absurd s
-
-second-is : (one other : Option AstName) → SameSecond one other → IsSecond one → IsSecond other
-second-is None None s is = tt
-second-is (Some one) (Some other) s is = name-is one other s is
-second-is _ _ s is = absurd s
-
-end-text : (one other : AstEnd) → SameEnd one other → end_text one ≡ end_text other
-end-text one other s = λ i. s.0 i ++ second-text one.second other.second s.1 i
-
-end-is : (one other : AstEnd) → SameEnd one other → IsEnd one → IsEnd other
-end-is one other s is = (name-is one.first other.first s.0 is.0, second-is one.second other.second s.1 is.1)
-
-stmt-text : (one other : AstStmt) → SameStmt one other → stmt_text one ≡ stmt_text other
-stmt-text (stmts.Instance name streamlet) (stmts.Instance name' streamlet') s = λ i. s.0 i ++ codes " = " ++ names-text streamlet.names streamlet'.names s.1 i ++ codes ";"
-stmt-text (stmts.Link first second) (stmts.Link first' second') s = λ i. end-text first first' s.0 i ++ codes " -- " ++ end-text second second' s.1 i ++ codes ";"
-stmt-text _ _ s = absurd s
-
-stmt-is : (one other : AstStmt) → SameStmt one other → IsStmt one → IsStmt other
-stmt-is (stmts.Instance name streamlet) (stmts.Instance name' streamlet') s is = (name-is name name' s.0 is.0, path-is streamlet.names streamlet'.names s.1 is.1)
-stmt-is (stmts.Link first second) (stmts.Link first' second') s is = (end-is first first' s.0 is.0, end-is second second' s.1 is.1)
-stmt-is _ _ s is = absurd s
-
-body-text : (one other : AstBody) → SameBody one other → body_text one ≡ body_text other
-body-text (bodies.Linked one) (bodies.Linked other) s = ap quoted_text s
-body-text (bodies.Structural ones) (bodies.Structural others) s =
-    ap (λ l. codes "{ " ++ l ++ codes "}") (flat_map-alike SameStmt spaced_text (λ a b same. ap (λ l. l ++ codes " ") (stmt-text a b same)) ones others s)
-body-text _ _ s = absurd s
-
-body-is : (one other : AstBody) → SameBody one other → IsBody one → IsBody other
-body-is (bodies.Linked one) (bodies.Linked other) s is = subst IsQuote s is
-body-is (bodies.Structural ones) (bodies.Structural others) s is = each-alike SameStmt IsStmt stmt-is ones others s is
-body-is _ _ s is = absurd s
-
--- ---- declarations
-
-streamlet-text : (one other : AstPorts) → SamePorts one other → streamlet_text one ≡ streamlet_text other
-streamlet-text (ports.Own ones) (ports.Own others) s = ports-text ones others s
-streamlet-text (ports.Named one) (ports.Named other) s = names-text one.names other.names s
-streamlet-text _ _ s = absurd s
-
-streamlet-is : (one other : AstPorts) → SamePorts one other → ArePorts one → ArePorts other
-streamlet-is (ports.Own ones) (ports.Own others) s are = each-alike SamePort IsPort port-is ones others s are
-streamlet-is (ports.Named one) (ports.Named other) s are = path-is one.names other.names s are
-streamlet-is _ _ s are = absurd s
-
-streamlet-within : (levels : ℕ) (one other : AstPorts) → SamePorts one other → StreamletWithin levels one → StreamletWithin levels other
-streamlet-within levels (ports.Own ones) (ports.Own others) s within = ports-within levels ones others s within
-streamlet-within levels (ports.Named one) (ports.Named other) s within = tt
-streamlet-within levels _ _ s within = absurd s
-
-kind-text : (name : List ℕ) (one other : AstKind) → SameKind one other → kind_text name one ≡ kind_text name other
-kind-text name (decls.Alias one) (decls.Alias other) s = ap (λ l. codes "type " ++ name ++ codes " = " ++ l) (type-kept (plain one) (plain other) s).text
-kind-text name (decls.Interface ones) (decls.Interface others) s = ap (λ l. codes "interface " ++ name ++ codes " = " ++ l) (ports-text ones others s)
-kind-text name (decls.Streamlet one) (decls.Streamlet other) s = ap (λ l. codes "streamlet " ++ name ++ codes " = " ++ l) (streamlet-text one other s)
-kind-text name (decls.Impl target body) (decls.Impl target' body') s =
-    λ i. codes "impl " ++ name ++ codes " of " ++ names-text target.names target'.names s.0 i ++ codes " = " ++ body-text body body' s.1 i
-kind-text name (decls.Test target port value plan) (decls.Test target' port' value' plan') s =
-    λ i. codes "test " ++ name ++ codes " of " ++ names-text target.names target'.names s.0 i ++ codes " drive " ++ s.1 i ++ codes " = " ++ quoted_text (s.2 i) ++ codes " plan " ++ quoted_text (s.3 i)
-kind-text name _ _ s = absurd s
-
-kind-is : (one other : AstKind) → SameKind one other → IsKind one → IsKind other
-kind-is (decls.Alias one) (decls.Alias other) s is = (type-kept (plain one) (plain other) s).is is
-kind-is (decls.Interface ones) (decls.Interface others) s is = each-alike SamePort IsPort port-is ones others s is
-kind-is (decls.Streamlet one) (decls.Streamlet other) s is = streamlet-is one other s is
-kind-is (decls.Impl target body) (decls.Impl target' body') s is = (path-is target.names target'.names s.0 is.0, body-is body body' s.1 is.1)
-kind-is (decls.Test target port value plan) (decls.Test target' port' value' plan') s is = (
-  path-is target.names target'.names s.0 is.0,
-  name-is port port' s.1 is.1,
-  subst IsQuote s.2 is.2,
-  subst IsQuote s.3 is.3,
-)
-kind-is _ _ s is = absurd s
-
-kind-within : (levels : ℕ) (one other : AstKind) → SameKind one other → KindWithin levels one → KindWithin levels other
-kind-within levels (decls.Alias one) (decls.Alias other) s within = subst (λ n. n ≤ levels) (type-kept (plain one) (plain other) s).deep within
-kind-within levels (decls.Interface ones) (decls.Interface others) s within = ports-within levels ones others s within
-kind-within levels (decls.Streamlet one) (decls.Streamlet other) s within = streamlet-within levels one other s within
-kind-within levels (decls.Impl target body) (decls.Impl _ _) s within = tt
-kind-within levels (decls.Test target port value plan) (decls.Test _ _ _ _) s within = tt
-kind-within levels _ _ s within = absurd s
-
-decl-text : (one other : AstDecl) → SameDecl one other → decl_text one ≡ decl_text other
-decl-text one other s =
-    λ i. doc_line (codes "  ") (s.doc i) ++ codes "  " ++ (kind-text one.name.name one.kind other.kind s.kind ∙ ap (λ n. kind_text n other.kind) s.name) i ++ codes ";\n"
-
-decl-is : (one other : AstDecl) → SameDecl one other → IsDecl one → IsDecl other
-decl-is one other s is = record {
-  doc = subst IsDoc s.doc is.doc;
-  name = name-is one.name other.name s.name is.name;
-  kind = kind-is one.kind other.kind s.kind is.kind;
+body-kept : (one other : AstBody) → SameBody one other → Kept body_text IsBody NoBounds one other
+body-kept (bodies.Linked one) (bodies.Linked other) s = record { text = ap quoted_text s; is = subst IsQuote s; within = λ w. w }
+body-kept (bodies.Structural ones) (bodies.Structural others) s = record {
+  text = λ i. codes "{ " ++ flat_map-alike SameStmt spaced_text (λ a b same. ap (λ l. l ++ codes " ") (stmt-kept a b same).text) ones others s i ++ codes "}";
+  is = each-alike SameStmt IsStmt (λ a b same. (stmt-kept a b same).is) ones others s;
+  within = λ w. w;
 }
+body-kept _ _ s = absurd s
 
-decls-within : (levels : ℕ) (ones others : List AstDecl) → Alike SameDecl ones others → DeclsWithin levels ones → DeclsWithin levels others
-decls-within levels = each-alike SameDecl (λ decl. KindWithin levels decl.kind) (λ one other s. kind-within levels one.kind other.kind s.kind)
+module _ (levels : ℕ) where
+  port-kept : (one other : AstPort) → SamePort one other → Kept port_text IsPort (λ port. depth (plain port.ltype) ≤ levels) one other
+  port-kept one other s =
+      let t = type-kept (plain one.ltype) (plain other.ltype) s.ltype in
+      record {
+        text = λ i. doc_text (s.doc i) (codes " ") ++ s.name i ++ codes ": " ++ way_word (s.inward i) ++ codes " " ++ t.text i;
+        is = λ is. record { doc = subst IsDoc s.doc is.doc; name = name-is one.name other.name s.name is.name; ltype = t.is is.ltype };
+        within = subst (λ n. n ≤ levels) t.deep;
+      }
 
--- ---- namespaces
+  ports-text : (ones others : List AstPort) → Alike SamePort ones others → ports_text ones ≡ ports_text others
+  ports-text [] [] s = refl
+  ports-text (one ∷ ones) (other ∷ others) s = λ i. codes "(" ++ (port-kept one other s.0).text i
+      ++ flat_map-alike SamePort next_port_text (λ a b same. ap (λ l. codes ", " ++ l) (port-kept a b same).text) ones others s.1 i ++ codes ")"
+  ports-text _ _ s = absurd s
 
-namespace-text : (one other : AstNamespace) → SameNamespace one other → namespace_text one ≡ namespace_text other
-namespace-text one other s =
-    λ i. doc_line [] (s.doc i) ++ codes "namespace " ++ names-text one.path.names other.path.names s.path i ++ codes " {\n"
-    ++ flat_map-alike SameDecl decl_text decl-text one.decls other.decls s.decls i ++ codes "}\n"
+  ports-kept : (ones others : List AstPort) → Alike SamePort ones others → Kept ports_text (EachIs IsPort) (PortsWithin levels) ones others
+  ports-kept ones others s = record {
+    text = ports-text ones others s;
+    is = each-alike SamePort IsPort (λ a b same. (port-kept a b same).is) ones others s;
+    within = each-alike SamePort (λ port. depth (plain port.ltype) ≤ levels) (λ a b same. (port-kept a b same).within) ones others s;
+  }
 
-namespace-is : (one other : AstNamespace) → SameNamespace one other → IsNamespace one → IsNamespace other
-namespace-is one other s is = record {
-  doc = subst IsDoc s.doc is.doc;
-  path = path-is one.path.names other.path.names s.path is.path;
-  decls = each-alike SameDecl IsDecl decl-is one.decls other.decls s.decls is.decls;
-}
+  streamlet-kept : (one other : AstPorts) → SamePorts one other → Kept streamlet_text ArePorts (StreamletWithin levels) one other
+  streamlet-kept (ports.Own ones) (ports.Own others) s = let k = ports-kept ones others s in record { text = k.text; is = k.is; within = k.within }
+  streamlet-kept (ports.Named one) (ports.Named other) s =
+      record { text = names-text one.names other.names s; is = path-is one.names other.names s; within = λ w. w }
+  streamlet-kept _ _ s = absurd s
 
-namespaces-within : (levels : ℕ) (ones others : List AstNamespace) → Alike SameNamespace ones others → NamespacesWithin levels ones → NamespacesWithin levels others
-namespaces-within levels = each-alike SameNamespace (λ namespace. DeclsWithin levels namespace.decls)
-    (λ one other s. decls-within levels one.decls other.decls s.decls)
+  kind-kept : (name : List ℕ) (one other : AstKind) → SameKind one other → Kept (kind_text name) IsKind (KindWithin levels) one other
+  kind-kept name (decls.Alias one) (decls.Alias other) s =
+      let t = type-kept (plain one) (plain other) s in
+      record { text = λ i. codes "type " ++ name ++ codes " = " ++ t.text i; is = t.is; within = subst (λ n. n ≤ levels) t.deep }
+  kind-kept name (decls.Interface ones) (decls.Interface others) s =
+      let k = ports-kept ones others s in record { text = λ i. codes "interface " ++ name ++ codes " = " ++ k.text i; is = k.is; within = k.within }
+  kind-kept name (decls.Streamlet one) (decls.Streamlet other) s =
+      let k = streamlet-kept one other s in record { text = λ i. codes "streamlet " ++ name ++ codes " = " ++ k.text i; is = k.is; within = k.within }
+  kind-kept name (decls.Impl target body) (decls.Impl target' body') s = let k = body-kept body body' s.1 in record {
+    text = λ i. codes "impl " ++ name ++ codes " of " ++ names-text target.names target'.names s.0 i ++ codes " = " ++ k.text i;
+    is = λ is. (path-is target.names target'.names s.0 is.0, k.is is.1);
+    within = λ w. w;
+  }
+  kind-kept name (decls.Test target port value plan) (decls.Test target' port' value' plan') s = record {
+    text = λ i. codes "test " ++ name ++ codes " of " ++ names-text target.names target'.names s.0 i ++ codes " drive " ++ s.1 i
+        ++ codes " = " ++ quoted_text (s.2 i) ++ codes " plan " ++ quoted_text (s.3 i);
+    is = λ is. (path-is target.names target'.names s.0 is.0, name-is port port' s.1 is.1, subst IsQuote s.2 is.2, subst IsQuote s.3 is.3);
+    within = λ w. w;
+  }
+  kind-kept name _ _ s = absurd s
+
+  decl-kept : (one other : AstDecl) → SameDecl one other → Kept decl_text IsDecl (λ decl. KindWithin levels decl.kind) one other
+  decl-kept one other s =
+      let k = kind-kept one.name.name one.kind other.kind s.kind in
+      record {
+        text = λ i. doc_line (codes "  ") (s.doc i) ++ codes "  " ++ (k.text ∙ ap (λ n. kind_text n other.kind) s.name) i ++ codes ";\n";
+        is = λ is. record { doc = subst IsDoc s.doc is.doc; name = name-is one.name other.name s.name is.name; kind = k.is is.kind };
+        within = k.within;
+      }
+
+  namespace-kept : (one other : AstNamespace) → SameNamespace one other
+      → Kept namespace_text IsNamespace (λ namespace. DeclsWithin levels namespace.decls) one other
+  namespace-kept one other s = record {
+    text = λ i. doc_line [] (s.doc i) ++ codes "namespace " ++ names-text one.path.names other.path.names s.path i ++ codes " {\n"
+        ++ flat_map-alike SameDecl decl_text (λ a b same. (decl-kept a b same).text) one.decls other.decls s.decls i ++ codes "}\n";
+    is = λ is. record {
+      doc = subst IsDoc s.doc is.doc;
+      path = path-is one.path.names other.path.names s.path is.path;
+      decls = each-alike SameDecl IsDecl (λ a b same. (decl-kept a b same).is) one.decls other.decls s.decls is.decls;
+    };
+    within = each-alike SameDecl (λ decl. KindWithin levels decl.kind) (λ a b same. (decl-kept a b same).within) one.decls other.decls s.decls;
+  }
 
 pub trees-alike : PlacesAreLeftOut
 trees-alike one other s =
     let size = length-alike SameNamespace one.namespaces other.namespaces s in
     record {
-      text = flat_map-alike SameNamespace namespace_text namespace-text one.namespaces other.namespaces s;
+      text = flat_map-alike SameNamespace namespace_text (λ a b same. (namespace-kept 0 a b same).text) one.namespaces other.namespaces s;
       spellable = λ is. record {
         some = omega (arith, is.some);
-        each = each-alike SameNamespace IsNamespace namespace-is one.namespaces other.namespaces s is.each;
+        each = each-alike SameNamespace IsNamespace (λ a b same. (namespace-kept 0 a b same).is) one.namespaces other.namespaces s is.each;
       };
-      within = λ levels within. namespaces-within levels one.namespaces other.namespaces s within;
+      within = λ levels. each-alike SameNamespace (λ namespace. DeclsWithin levels namespace.decls) (λ a b same. (namespace-kept levels a b same).within)
+          one.namespaces other.namespaces s;
     }

@@ -166,17 +166,11 @@ module _ (n : ℕ) (inner : Reader Lexeme AstType) (D : Form) (one : IsRule IsFo
   abbrev V : AstType → Type 0
   V = Fits (suc n)
 
-  group_fit : (parts : List AstPart) → EachIs (λ p. Fits n p.ltype) parts → V (types.Group parts)
-  group_fit parts each = rw (plain-Group parts) (omega (arith, parts-depth n parts each))
+  parts_fit : (of : List AstPart → AstType) (parts : List AstPart) → depth (plain (of parts)) ≡ suc (depth_of_parts (plain_parts parts)) → EachIs (λ p. Fits n p.ltype) parts → V (of parts)
+  parts_fit of parts is each = omega (arith, is, parts-depth n parts each)
 
-  fit_group : (parts : List AstPart) → V (types.Group parts) → EachIs (λ p. Fits n p.ltype) parts
-  fit_group parts w = depth-parts n parts (let d = subst (λ t. depth t ≤ suc n) (plain-Group parts) w in omega (arith, d))
-
-  union_fit : (parts : List AstPart) → EachIs (λ p. Fits n p.ltype) parts → V (types.Union parts)
-  union_fit parts each = rw (plain-Union parts) (omega (arith, parts-depth n parts each))
-
-  fit_union : (parts : List AstPart) → V (types.Union parts) → EachIs (λ p. Fits n p.ltype) parts
-  fit_union parts w = depth-parts n parts (let d = subst (λ t. depth t ≤ suc n) (plain-Union parts) w in omega (arith, d))
+  fit_parts : (of : List AstPart → AstType) (parts : List AstPart) → depth (plain (of parts)) ≡ suc (depth_of_parts (plain_parts parts)) → V (of parts) → EachIs (λ p. Fits n p.ltype) parts
+  fit_parts of parts is w = depth-parts n parts (omega (arith, is, w))
 
   -- what leads to something too deep after the word of a type
   AfterTo : TypeWord → Form
@@ -193,8 +187,10 @@ module _ (n : ℕ) (inner : Reader Lexeme AstType) (D : Form) (one : IsRule IsFo
       (record { there = λ x ts s. s; back = λ x ts s. s; follow = λ x rest next. tt; within = λ x w. w; apart = λ x w. w; first = λ ts d. d; deep = λ ts d. d })
       (pure-rule IsFormed V types.Null (fits_null n))
   after-rule words.Bits = made-rule types.Bits (as_rule bits-rule) (λ _. PathNext) V (λ x rest next. tt) (λ x w. rw (plain-Bits x) (omega arith)) (λ x w. tt)
-  after-rule words.Group = made-rule types.Group (as_rule (parts-rule inner (Fits n) D one)) (λ _. PathNext) V (λ x rest next. tt) group_fit fit_group
-  after-rule words.Union = made-rule types.Union (as_rule (parts-rule inner (Fits n) D one)) (λ _. PathNext) V (λ x rest next. tt) union_fit fit_union
+  after-rule words.Group = made-rule types.Group (as_rule (parts-rule inner (Fits n) D one)) (λ _. PathNext) V (λ x rest next. tt)
+      (λ x. parts_fit types.Group x (ap depth (plain-Group x))) (λ x. fit_parts types.Group x (ap depth (plain-Group x)))
+  after-rule words.Union = made-rule types.Union (as_rule (parts-rule inner (Fits n) D one)) (λ _. PathNext) V (λ x rest next. tt)
+      (λ x. parts_fit types.Union x (ap depth (plain-Union x))) (λ x. fit_parts types.Union x (ap depth (plain-Union x)))
   after-rule words.Stream = made-rule types.Stream (as_rule (stream-rule inner (Fits n) D one (null_within n))) (λ _. PathNext) V
       (λ x rest next. tt) (λ s w. rw (plain-Stream s) (omega (arith, w arguments.Data, w arguments.User)))
       (λ s w. let d = subst (λ t. depth t ≤ suc n) (plain-Stream s) w in values_within inner (Fits n) D one (null_within n) s (omega (arith, d)) (omega (arith, d)))
