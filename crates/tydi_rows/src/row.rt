@@ -1,9 +1,11 @@
 //! The rows of a table. A line of it begins with a mark and a space: `#` says what a row shows, `$` has the words, `<` a line of
-//! the file, `~` the end of the file that has no LF, `>` a line of out, `|` the end of out that has no LF, and `!` a line of err.
+//! the file, `~` a part of it that has no LF, `+ 9 text` nine such parts, `>` a line of out, `|` a part that has no LF, and `!` a line
+//! of err.
 //! `-` has what fails: `store 2` the call of the store of this number, `out 2` the push to out; `most 4` is the most bytes that a
 //! call gives or takes. `=` has the status, and ends the row; `again` is Done, where the text of out is then the file of the same
 //! words, which give it again.
 
+use crate::calls::{byte, cut, number, small};
 use crate::running::{Faults, Outcome, run_on};
 use std::alloc::Global;
 use std::process::Abort;
@@ -13,23 +15,24 @@ pub(crate) const NO_FAULTS: Faults<'static> = Faults {
     store: &[],
     out: &[],
     err: &[],
-    most: 65535,
+    most: u16::MAX,
 };
 
 /// What a row hands in, and what is to come of it.
 #[derive(Drop)]
-pub(crate) struct Row {
-    pub(crate) words: List<Text>,
-    pub(crate) file: List<u8>,
-    pub(crate) out: List<u8>,
-    pub(crate) err: List<u8>,
+struct Row {
+    words: List<Text>,
+    file: List<u8>,
+    out: List<u8>,
+    err: List<u8>,
     failing_reads: List<u64>,
     failing_writes: List<u64>,
     most: u16,
 }
 
 impl Row {
-    pub(crate) fn new(alloc: Global) -> Row {
+    /// A row that was given nothing, where each call takes or gives one byte more than this at most.
+    fn new(alloc: Global, most: u16) -> Row {
         Row {
             words: List::new(alloc),
             file: List::new(alloc),
@@ -37,18 +40,20 @@ impl Row {
             err: List::new(alloc),
             failing_reads: List::new(alloc),
             failing_writes: List::new(alloc),
-            most: u16::MAX,
+            most,
         }
     }
 
     /// Takes a line of a table, but the one that ends a row.
-    pub(crate) fn take(&mut self, alloc: Global, mark: &str, text: &str) -> Result<(), Memory> {
+    fn take(&mut self, alloc: Global, mark: &str, text: &str) -> Result<(), Memory> {
         if mark == "$" {
             self.words = words_of(alloc, text)?;
         } else if mark == "<" {
             push_line(text, &mut self.file)?;
         } else if mark == "~" {
             self.file.extend_from_slice(text.as_bytes())?;
+        } else if mark == "+" {
+            push_repeated(text, &mut self.file)?;
         } else if mark == ">" {
             push_line(text, &mut self.out)?;
         } else if mark == "|" {
@@ -63,8 +68,8 @@ impl Row {
 
     /// Takes what fails.
     fn take_fault(&mut self, text: &str) -> Result<(), Memory> {
-        let (name, digits) = text.split_once(' ').unwrap_or((text, ""));
-        let number = digits.parse::<u16>().unwrap_or(u16::MAX);
+        let (name, digits) = cut(text);
+        let number = small(digits);
         if name == "store" {
             self.failing_reads.push(u64::from(number))?;
         } else if name == "out" {
@@ -79,6 +84,7 @@ impl Row {
     fn check_on(
         &self,
         rt: &(impl Abort + AllocGlobal),
+        number: usize,
         file: &[u8],
         status: u8,
     ) -> Result<(), Memory> {
@@ -92,6 +98,7 @@ impl Row {
         let outcome = run_on(rt.alloc(), self.words.as_slice(), file, &faults)?;
         expect(
             rt,
+            number,
             &outcome,
             status,
             self.out.as_slice(),
@@ -101,32 +108,48 @@ impl Row {
     }
 
     /// Runs the row, and compares what came of it.
-    fn check(&self, rt: &(impl Abort + AllocGlobal), status: &str) -> Result<(), Memory> {
+    fn check(
+        &self,
+        rt: &(impl Abort + AllocGlobal),
+        number: usize,
+        status: &str,
+    ) -> Result<(), Memory> {
         if status == "again" {
-            self.check_on(rt, self.file.as_slice(), 0)?;
-            return self.check_on(rt, self.out.as_slice(), 0);
+            self.check_on(rt, number, self.file.as_slice(), 0)?;
+            return self.check_on(rt, number, self.out.as_slice(), 0);
         }
-        let number = status.parse::<u8>().unwrap_or(u8::MAX);
-        self.check_on(rt, self.file.as_slice(), number)
+        self.check_on(rt, number, self.file.as_slice(), byte(status))
     }
 }
 
-/// Compares what came of a run.
-pub(crate) fn expect(rt: &impl Abort, outcome: &Outcome, status: u8, out: &[u8], err: &[u8]) {
-    assert_eq!(rt; outcome.out.as_slice(), out);
-    assert_eq!(rt; outcome.err.as_slice(), err);
-    assert_eq!(rt; outcome.status, status);
+/// Compares what came of the run of this number.
+pub(crate) fn expect(
+    rt: &impl Abort,
+    number: usize,
+    outcome: &Outcome,
+    status: u8,
+    out: &[u8],
+    err: &[u8],
+) {
+    assert!(rt; outcome.out.as_slice() == out, "out of {number}");
+    assert!(rt; outcome.err.as_slice() == err, "err of {number}");
+    assert!(rt; outcome.status == status, "status of {number}");
 }
 
-/// Runs each row of a table, and compares what came of it. Answers how many rows there were.
-pub(crate) fn check_rows(rt: &(impl Abort + AllocGlobal), table: &str) -> Result<usize, Memory> {
-    let mut row = Row::new(rt.alloc());
+/// Runs each row of a table, where a call takes or gives one byte more than this at most, and compares what came of it. Answers how
+/// many rows there were.
+pub(crate) fn check_rows(
+    rt: &(impl Abort + AllocGlobal),
+    table: &str,
+    most: u16,
+) -> Result<usize, Memory> {
+    let mut row = Row::new(rt.alloc(), most);
     let mut count = 0usize;
     for line in table.lines() {
-        let (mark, text) = line.split_once(' ').unwrap_or((line, ""));
+        let (mark, text) = cut(line);
         if mark == "=" {
-            row.check(rt, text)?;
-            row = Row::new(rt.alloc());
+            row.check(rt, count, text)?;
+            row = Row::new(rt.alloc(), most);
             count = count.saturating_add(1);
         } else {
             row.take(rt.alloc(), mark, text)?;
@@ -138,6 +161,15 @@ pub(crate) fn check_rows(rt: &(impl Abort + AllocGlobal), table: &str) -> Result
 fn push_line(text: &str, bytes: &mut List<u8>) -> Result<(), Memory> {
     bytes.extend_from_slice(text.as_bytes())?;
     bytes.extend_from_slice(b"\n")
+}
+
+// Pushes a text as often as the number before it says.
+fn push_repeated(text: &str, bytes: &mut List<u8>) -> Result<(), Memory> {
+    let (count, part) = cut(text);
+    for _ in 0..number(count) {
+        bytes.extend_from_slice(part.as_bytes())?;
+    }
+    Ok(())
 }
 
 /// The words of a line, with one space between each two. An empty line has none.

@@ -7,24 +7,24 @@ use tydi_tool::run;
 
 /// The numbers of the calls that fail, and one less than the most bytes that a call takes or gives.
 #[derive(Clone, Copy)]
-pub struct Faults<'a> {
-    pub store: &'a [u64],
-    pub out: &'a [u64],
-    pub err: &'a [u64],
-    pub most: u16,
+pub(crate) struct Faults<'a> {
+    pub(crate) store: &'a [u64],
+    pub(crate) out: &'a [u64],
+    pub(crate) err: &'a [u64],
+    pub(crate) most: u16,
 }
 
 /// What came of a run.
-#[derive(Debug, Drop)]
-pub struct Outcome {
+#[derive(Drop)]
+pub(crate) struct Outcome {
     /// The exit status.
-    pub status: u8,
-    pub out: List<u8>,
-    pub err: List<u8>,
+    pub(crate) status: u8,
+    pub(crate) out: List<u8>,
+    pub(crate) err: List<u8>,
 }
 
 /// Runs the tool on these words, over a store with one file, which is named `t`, and two sinks with room for 4,096 bytes.
-pub fn run_on(
+pub(crate) fn run_on(
     alloc: Global,
     words: &[Text],
     file: List<u8>,

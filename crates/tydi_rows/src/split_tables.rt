@@ -275,4 +275,28 @@ $ split p
 $ split t -
 ! tydi: Usage
 = 2
+# a nested stream, with all signals of both
+$ split t n::s.p
+~ namespace n { type t = Stream(data: Group(a: Bits(8), b: Stream(data: Bits(4), throughput: 1.5, dimensionality: 1, complexity: 7)), throughput: 3, dimensionality: 2, complexity: 7); streamlet s = (p: in t); }
+> stream - lanes 3 dims 2 level 7 element 8 user 0 forward
+>   root -
+>   valid 1
+>   ready 1
+>   data 24
+>   last 6
+>   stai 2
+>   endi 2
+>   strb 3
+>   field a 0 8
+> stream b lanes 5 dims 3 level 7 element 4 user 0 forward
+>   root -
+>   valid 1
+>   ready 1
+>   data 20
+>   last 15
+>   stai 3
+>   endi 3
+>   strb 5
+>   field - 0 4
+= 0
 ";

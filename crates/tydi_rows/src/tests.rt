@@ -1,11 +1,15 @@
+//! The tests of the tool.
+
 use crate::project_tables::{CANONICAL, FAULTS};
 use crate::refusal_tables::{HEADERS, ROWS, WORDS};
 use crate::row::{NO_FAULTS, check_rows, expect, words_of};
-use crate::running::{Faults, run_on};
+use crate::running::{Faults, Outcome, run_on};
 use crate::split_tables::SPLITS;
-use crate::trace_tables::{KINDS, ONE_STREAM, SEVERAL_STREAMS};
+use crate::trace_tables::{KINDS, LONG, ONE_STREAM, PIECES, SEVERAL_STREAMS};
+use std::alloc::Global;
+use std::process::Abort;
 use std::test::Fail;
-use tydi_base::List;
+use tydi_base::{List, Memory};
 
 const PACKET: &[u8] =
     b"tydi-trace 1\ncycles 2\nstream - lanes 1 dims 1 level 1 element 8 user 0 forward\n1 1 d=48 l=0 b=1\n1 1 d=69 l=1 b=1\n";
@@ -14,14 +18,9 @@ const REPORT: &[u8] = b"legal\nstream - transfers 2 packets 1\n";
 
 /// Each kind of answer, where memory is ample.
 #[test]
-fn answers_with_ample_memory(rt: HostRuntime) -> Result<(), Fail> {
-    assert_eq!(rt; check_rows(&rt, KINDS)?, 6);
-    Ok(())
-}
-
-#[test]
 fn tables(rt: HostRuntime) -> Result<(), Fail> {
-    let tables = [
+    for (table, count) in &[
+        (KINDS, 6),
         (WORDS, 12),
         (HEADERS, 18),
         (ROWS, 29),
@@ -29,10 +28,60 @@ fn tables(rt: HostRuntime) -> Result<(), Fail> {
         (SEVERAL_STREAMS, 9),
         (CANONICAL, 3),
         (FAULTS, 12),
-        (SPLITS, 26),
-    ];
-    for (table, count) in tables {
-        assert_eq!(rt; check_rows(&rt, table)?, count);
+        (SPLITS, 27),
+    ] {
+        assert!(rt; check_rows(&rt, table, u16::MAX)? == *count);
+    }
+    Ok(())
+}
+
+/// Traces that come in pieces of 1, 2, 3, 7 and 1,000 bytes.
+#[test]
+fn pieces(rt: HostRuntime) -> Result<(), Fail> {
+    for most in &[0, 1, 2, 6, 999] {
+        assert!(rt; check_rows(&rt, PIECES, *most)? == 9);
+    }
+    Ok(())
+}
+
+/// What comes of a run of these words on this file.
+fn outcome_of(
+    alloc: Global,
+    words: &str,
+    file: List<u8>,
+    faults: &Faults<'_>,
+) -> Result<Outcome, Memory> {
+    run_on(alloc, words_of(alloc, words)?.as_slice(), file, faults)
+}
+
+/// Compares what comes of a text in pieces of 1, 2, 3 and 7 bytes with what comes of it whole.
+fn check_cut(rt: &(impl Abort + AllocGlobal), text: &[u8]) -> Result<(), Memory> {
+    let file = List::from_slice(rt.alloc(), text)?;
+    let whole = outcome_of(rt.alloc(), "check t", file, &NO_FAULTS)?;
+    for most in &[0, 1, 2, 6] {
+        let faults = Faults {
+            most: *most,
+            ..NO_FAULTS
+        };
+        let file = List::from_slice(rt.alloc(), text)?;
+        let outcome = outcome_of(rt.alloc(), "check t", file, &faults)?;
+        expect(
+            rt,
+            text.len(),
+            &outcome,
+            whole.status,
+            whole.out.as_slice(),
+            whole.err.as_slice(),
+        );
+    }
+    Ok(())
+}
+
+/// A text that is cut has one fault, in whatever pieces it comes.
+#[test]
+fn cut_texts(rt: HostRuntime) -> Result<(), Fail> {
+    for cut in 0..LONG.len() {
+        check_cut(&rt, &LONG[..cut])?;
     }
     Ok(())
 }
@@ -40,37 +89,40 @@ fn tables(rt: HostRuntime) -> Result<(), Fail> {
 /// Files of bytes: the longest project, one byte more, and a text that is not UTF-8.
 #[test]
 fn bytes(rt: HostRuntime) -> Result<(), Fail> {
-    let words = words_of(rt.alloc(), "read t")?;
-    let rows = [
+    for (count, byte, err) in &[
         (4_194_304, 32, b"tydi: EndOfText t\n".as_slice()),
         (4_194_305, 32, b"tydi: TooLong t\n".as_slice()),
         (3, 255, b"tydi: NotUtf8 t 0\n".as_slice()),
-    ];
-    for (count, byte, err) in rows {
-        let file = List::from_vec(vec![in rt.alloc(); byte; count]?);
-        let outcome = run_on(rt.alloc(), words.as_slice(), file, &NO_FAULTS)?;
-        expect(&rt, &outcome, 1, b"", err);
+    ] {
+        let file = List::from_vec(vec![in rt.alloc(); *byte; *count]?);
+        let outcome = outcome_of(rt.alloc(), "read t", file, &NO_FAULTS)?;
+        expect(&rt, *count, &outcome, 1, b"", err);
     }
     Ok(())
+}
+
+/// What comes of the packet.
+fn packet_outcome(alloc: Global, faults: &Faults<'_>) -> Result<Outcome, Memory> {
+    let file = List::from_slice(alloc, PACKET)?;
+    outcome_of(alloc, "check t", file, faults)
 }
 
 /// Each call of the store failing in turn: the run ends in ReadFault with nothing written, or the call was not made.
 #[test]
 fn reads_that_fail(rt: HostRuntime) -> Result<(), Fail> {
-    let words = words_of(rt.alloc(), "check t")?;
-    for number in 0..12 {
+    for number in 0..12u8 {
         let faults = Faults {
-            store: &[number],
+            store: &[u64::from(number)],
             out: &[],
             err: &[],
             most: 15,
         };
-        let file = List::from_slice(rt.alloc(), PACKET)?;
-        let outcome = run_on(rt.alloc(), words.as_slice(), file, &faults)?;
+        let outcome = packet_outcome(rt.alloc(), &faults)?;
+        let number = usize::from(number);
         if number < 10 {
-            expect(&rt, &outcome, 3, b"", b"tydi: ReadFault t\n");
+            expect(&rt, number, &outcome, 3, b"", b"tydi: ReadFault t\n");
         } else {
-            expect(&rt, &outcome, 0, REPORT, b"");
+            expect(&rt, number, &outcome, 0, REPORT, b"");
         }
     }
     Ok(())
@@ -79,7 +131,6 @@ fn reads_that_fail(rt: HostRuntime) -> Result<(), Fail> {
 /// Each push to out failing in turn, in pieces of four bytes: the run ends in WriteFault with the pieces before in out.
 #[test]
 fn writes_that_fail(rt: HostRuntime) -> Result<(), Fail> {
-    let words = words_of(rt.alloc(), "check t")?;
     for number in 0..12u8 {
         let faults = Faults {
             store: &[],
@@ -87,13 +138,20 @@ fn writes_that_fail(rt: HostRuntime) -> Result<(), Fail> {
             err: &[],
             most: 3,
         };
-        let file = List::from_slice(rt.alloc(), PACKET)?;
-        let outcome = run_on(rt.alloc(), words.as_slice(), file, &faults)?;
-        let written = 4 * usize::from(number);
+        let outcome = packet_outcome(rt.alloc(), &faults)?;
+        let number = usize::from(number);
+        let written = 4 * number;
         if written < REPORT.len() {
-            expect(&rt, &outcome, 4, &REPORT[..written], b"tydi: WriteFault\n");
+            expect(
+                &rt,
+                number,
+                &outcome,
+                4,
+                &REPORT[..written],
+                b"tydi: WriteFault\n",
+            );
         } else {
-            expect(&rt, &outcome, 0, REPORT, b"");
+            expect(&rt, number, &outcome, 0, REPORT, b"");
         }
     }
     Ok(())
@@ -102,15 +160,13 @@ fn writes_that_fail(rt: HostRuntime) -> Result<(), Fail> {
 /// A push of the line of a failed read that fails: err has the front before it.
 #[test]
 fn a_line_that_fails(rt: HostRuntime) -> Result<(), Fail> {
-    let words = words_of(rt.alloc(), "check t")?;
     let faults = Faults {
         store: &[0],
         out: &[],
         err: &[1],
         most: 7,
     };
-    let file = List::from_slice(rt.alloc(), PACKET)?;
-    let outcome = run_on(rt.alloc(), words.as_slice(), file, &faults)?;
-    expect(&rt, &outcome, 4, b"", b"tydi: Re");
+    let outcome = packet_outcome(rt.alloc(), &faults)?;
+    expect(&rt, 0, &outcome, 4, b"", b"tydi: Re");
     Ok(())
 }

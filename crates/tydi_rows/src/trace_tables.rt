@@ -353,3 +353,90 @@ $ check t
 > stream a transfers 0 packets 0
 = 0
 ";
+
+/// Legal traces, verdicts and faults of texts that come in pieces.
+pub(crate) const PIECES: &str = "\
+$ check t
+< tydi-trace 1
+< cycles 2
+< stream a lanes 1 dims 0 level 1 element 4 user 0 forward
+< 1 1 d=f
+< 1 1 d=0
+> legal
+> stream a transfers 2 packets 2
+= 0
+$ check t
+< tydi-trace 1
+< cycles 0
+< stream a lanes 1 dims 0 level 1 element 4 user 0 forward
+> legal
+> stream a transfers 0 packets 0
+= 0
+$ check t
+< tydi-trace 1
+< cycles 2
+< stream a lanes 1 dims 0 level 1 element 4 user 0 forward
+< stream b lanes 1 dims 1 level 1 element 4 user 0 forward
+< 0 1 -
+< 1 1 d=f l=0 b=1
+< 0 1 -
+< 0 1 -
+> offence cycle 1 stream b rule 8 InnerPause
+= 6
+$ check t
+< tydi-trace 1
+< cycles 1
+< stream a lanes 1 dims 0 level 1 element 4 user 0 forward
+< stream b lanes 128 dims 1 level 1 element 0 user 0 forward
+< 1 1 d=f
+< 1 1 l=00000000000000000000000000000000 e=127 b=ffffffffffffffffffffffffffffffff
+> unfinished stream b open 0
+= 6
+# a header that is wrong twice
+$ check t
+< tydi-trace 1
+< cycles 1000001
+~ stream a
+! tydi: BadHeader t 3
+= 1
+$ check t
+< tydi-trace 1
+< cycles 1000000
+< stream a lanes 1 dims 0 level 1 element 4 user 0 forward
+< 1 1 d=f
+! tydi: RowsMissing t 1000000 1
+= 1
+# a row that is longer than any of its stream
+$ check t
+< tydi-trace 1
+< cycles 1
+< stream a lanes 1 dims 0 level 1 element 4 user 0 forward
+< 1 1 d=0000000000000000000000000000000000000000 \n\
+! tydi: BadRow t 4
+= 1
+# a row of the greatest width
+$ check t
+< tydi-trace 1
+< cycles 1
+< stream a lanes 2 dims 0 level 1 element 4096 user 0 forward
+~ 1 1 d=
++ 2048 0
+<
+> legal
+> stream a transfers 1 packets 2
+= 0
+# and one digit more
+$ check t
+< tydi-trace 1
+< cycles 1
+< stream a lanes 2 dims 0 level 1 element 4096 user 0 forward
+~ 1 1 d=
++ 2049 0
+<
+! tydi: WrongSignals t 4
+= 1
+";
+
+/// A text with a row that is longer than any of its stream, and one that follows the last.
+pub(crate) const LONG: &[u8] =
+    b"tydi-trace 1\ncycles 1\nstream a lanes 1 dims 0 level 1 element 4 user 0 forward\n1 1 d=0000000000000000000000000000000000000000 s=1 \n0 1 -\n";

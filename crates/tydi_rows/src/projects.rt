@@ -1,9 +1,7 @@
 //! Projects that trees stand for, by hand, as short texts.
 
-use crate::faults::TOWER_14;
 use crate::types::project_of;
 use std::alloc::Global;
-use std::test::Fail;
 use til_resolve::{Impl, Instance, Link, LinkEnd, Project, Streamlet};
 use tydi_base::{Colons, List, Memory, emit};
 
@@ -21,25 +19,27 @@ cycles 3
 \";
 }";
 
-// Texts, and the projects that they stand for: each port with the dimensions of its Stream.
-const PROJECTS: [(&str, &str); 5] = [
+/// Texts: the projects that they stand for, each port with the dimensions of its Stream.
+pub(crate) const PROJECTS: &[(&str, &str, &str)] = &[
     (
         VIDEO,
+        "",
         "video::invert(a in 2, b out 2, ); video::top(a in 2, b out 2, ) at 282 {i = 0; a -- i.a at 302; i.b -- b at 312; }; test video::two 1 a; ",
     ),
     // The ports of an interface are written in its own namespace; a namespace that is opened again is one.
     (
         "namespace a { streamlet s = b::i; } namespace b { type t = Stream(data: Null); interface i = (p: out t); } \
          namespace a { impl j of s = \"here\"; streamlet r = (); impl k of r = { x = s; }; }",
+        "",
         "a::s(p out 0, ) here; a::r() at 171 {x = 0; }; ",
     ),
     // A type by a name, and by a name of that name.
     (
         "namespace a { type t = u; type u = Stream(data: Null, dimensionality: 3); streamlet s = (p: in t, q: in u, r: in Stream(data: u)); }",
+        "",
         "a::s(p in 3, q in 3, r in 0, ); ",
     ),
-    ("namespace a { }", ""),
-    (TOWER_14, ""),
+    ("namespace a { }", "", ""),
 ];
 
 fn write_project(project: &Project, text: &mut List<u8>) -> Result<(), Memory> {
@@ -109,18 +109,6 @@ fn write_end(end: &LinkEnd, text: &mut List<u8>) -> Result<(), Memory> {
     emit!(text; &end.port)
 }
 
-// Whether a text stands for a project with this short text.
-fn is_shown(alloc: Global, text: &str, want: &str) -> Result<bool, Fail> {
-    let project = project_of(alloc, text)?;
-    let mut shown = List::new(alloc);
-    write_project(&project, &mut shown)?;
-    Ok(shown.as_slice() == want.as_bytes())
-}
-
-#[test]
-fn projects_are_made(rt: HostRuntime) -> Result<(), Fail> {
-    for (text, want) in PROJECTS {
-        assert!(rt; is_shown(rt.alloc(), text, want)?, "{text}");
-    }
-    Ok(())
+pub(crate) fn project(alloc: Global, text: &str, out: &mut List<u8>) -> Result<(), Memory> {
+    write_project(&project_of(alloc, text)?, out)
 }

@@ -1,6 +1,6 @@
 use Rattle.std.specs.List.{All}
 use Rattle.nest_shape.specs.Shape.{ClosesBelow}
-use Rattle.tydi_layers.proofs.nests.items_of.Given as goal
+use Rattle.tydi_rows.proofs.nests.items_of.Given as goal
 
 -- no item closes more than these dimensions
 abbrev pub invariant-bytes : goal.invariant-bytes

@@ -1,0 +1,65 @@
+//! Types by their text, as part of a project. A table of the examples has their faults and widths.
+
+use logical_types::LType;
+use std::alloc::Global;
+use til_lexer::lex;
+use til_parser::{Ast, parse};
+use til_resolve::{Project, resolve};
+use tydi_base::{List, Memory, emit};
+
+// A project with one port, whose elements are Groups of a part of this type.
+fn text_around(alloc: Global, ltype: &str) -> Result<List<u8>, Memory> {
+    let mut text = List::new(alloc);
+    emit!(text; "namespace a { streamlet s = (p: in Stream(data: Group(x: ", ltype, "))); }")?;
+    Ok(text)
+}
+
+/// The project with one port that has this type inside.
+pub(crate) fn project_around(alloc: Global, ltype: &str) -> Result<Project, Memory> {
+    let text = text_around(alloc, ltype)?;
+    match std::str::from_utf8(text.as_slice()) {
+        Ok(text) => project_of(alloc, text),
+        Err(_) => Err(Memory),
+    }
+}
+
+/// The project of a text. Each fault is told as want of memory, which no row expects.
+pub(crate) fn project_of(alloc: Global, text: &str) -> Result<Project, Memory> {
+    let Ok(ast) = tree_of(alloc, text) else {
+        return Err(Memory);
+    };
+    match resolve(alloc, &ast) {
+        Ok(project) => Ok(project),
+        Err(_) => Err(Memory),
+    }
+}
+
+fn tree_of(alloc: Global, text: &str) -> Result<Ast, Memory> {
+    if text.len() > 1_000_000 {
+        return Err(Memory);
+    }
+    let Ok(tokens) = lex(alloc, text) else {
+        return Err(Memory);
+    };
+    match parse(alloc, text, tokens.as_slice()) {
+        Ok(ast) => Ok(ast),
+        Err(_) => Err(Memory),
+    }
+}
+
+/// The type inside the port of such a project.
+pub(crate) fn type_in(project: &Project) -> Result<&LType, Memory> {
+    let Some(streamlet) = project.streamlets.get(0) else {
+        return Err(Memory);
+    };
+    let Some(port) = streamlet.ports.get(0) else {
+        return Err(Memory);
+    };
+    let LType::Group(parts) = &port.ltype.element else {
+        return Err(Memory);
+    };
+    match parts.as_slice().first() {
+        Some(part) => Ok(&part.ltype),
+        None => Err(Memory),
+    }
+}
