@@ -9,37 +9,70 @@ use std::alloc::Global;
 use std::process::Abort;
 use tydi_base::{List, Memory, read_decimal};
 
-/// The name of each call, and its rows.
-const TABLES: &[(&str, &[(&str, &str, &str)])] = &[
-    ("fraction", fractions::FRACTIONS),
-    ("product", fractions::PRODUCTS),
-    ("decimal", readings::DECIMALS),
-    ("piece", readings::PIECES),
-    ("name", readings::NAMES),
-    ("path", readings::PATHS),
-    ("compared", readings::COMPARED),
-    ("written", readings::WRITTEN),
-    ("width", words::WIDTHS),
-    ("ones", words::ONES),
-    ("digits", words::DIGITS),
-    ("numbered", words::NUMBERS),
-    ("joined", words::JOINED),
-    ("overwritten", words::OVERWRITTEN),
-    ("limit", streams::LIMITS),
-    ("items", streams::ITEMS),
-    ("copy", streams::COPIES),
-    ("pause", checkers::PAUSES),
-    ("start", checkers::START),
-    ("ended", checkers::ENDED),
-    ("series", nests::SERIES),
-    ("trace", traces::TRACES),
-    ("written trace", traces_written::WRITTEN_TRACE),
-    ("tokens", tokens::TOKENS),
-    ("counted", tokens::COUNTED),
-    ("project", projects::PROJECTS),
-    ("split", splits::FRONTS),
-    ("unpacked", values::UNPACKED),
-    ("fitting", values::FITTING),
+/// A call.
+enum Call {
+    Fraction,
+    Product,
+    Decimal,
+    Piece,
+    Name,
+    Path,
+    Compared,
+    Written,
+    Width,
+    Ones,
+    Digits,
+    Numbered,
+    Joined,
+    Overwritten,
+    Limit,
+    Items,
+    Copy,
+    Pause,
+    Start,
+    Ended,
+    Series,
+    Trace,
+    WrittenTrace,
+    Tokens,
+    Counted,
+    Project,
+    Split,
+    Unpacked,
+    Fitting,
+}
+
+/// Each call, and its rows.
+const TABLES: &[(Call, &[(&str, &str, &str)])] = &[
+    (Call::Fraction, fractions::FRACTIONS),
+    (Call::Product, fractions::PRODUCTS),
+    (Call::Decimal, readings::DECIMALS),
+    (Call::Piece, readings::PIECES),
+    (Call::Name, readings::NAMES),
+    (Call::Path, readings::PATHS),
+    (Call::Compared, readings::COMPARED),
+    (Call::Written, readings::WRITTEN),
+    (Call::Width, words::WIDTHS),
+    (Call::Ones, words::ONES),
+    (Call::Digits, words::DIGITS),
+    (Call::Numbered, words::NUMBERS),
+    (Call::Joined, words::JOINED),
+    (Call::Overwritten, words::OVERWRITTEN),
+    (Call::Limit, streams::LIMITS),
+    (Call::Items, streams::ITEMS),
+    (Call::Copy, streams::COPIES),
+    (Call::Pause, checkers::PAUSES),
+    (Call::Start, checkers::START),
+    (Call::Ended, checkers::ENDED),
+    (Call::Series, nests::SERIES),
+    (Call::Trace, traces::TRACES),
+    (Call::WrittenTrace, traces_written::WRITTEN_TRACE),
+    (Call::Tokens, tokens::TOKENS),
+    (Call::Counted, tokens::COUNTED),
+    (Call::Project, projects::PROJECTS),
+    (Call::Split, splits::FRONTS),
+    (Call::Unpacked, values::UNPACKED),
+    (Call::Fitting, values::FITTING),
 ];
 
 /// The first word of a text, and what comes after the space.
@@ -70,95 +103,52 @@ fn calls(rt: HostRuntime) {
 }
 
 // Makes the call of each row, and compares what it tells.
-fn check_calls(rt: &(impl Abort + AllocGlobal), call: &str, rows: &[(&str, &str, &str)]) {
+fn check_calls(rt: &(impl Abort + AllocGlobal), call: &Call, rows: &[(&str, &str, &str)]) {
     for (first, second, wanted) in rows {
         let mut told = List::new(rt.alloc());
         let is_told = tell(rt.alloc(), call, first, second, &mut told).is_ok();
         let is_wanted = told.as_slice() == wanted.as_bytes();
-        assert!(rt; is_told & is_wanted, "{call} {first} {second}");
+        assert!(rt; is_told & is_wanted, "{first} {second}");
     }
 }
 
 // What a call tells.
 fn tell(
     alloc: Global,
-    call: &str,
+    call: &Call,
     first: &str,
     second: &str,
     out: &mut List<u8>,
 ) -> Result<(), Memory> {
-    if call == "fraction" {
-        fractions::fraction(first, second, out)
-    } else if call == "product" {
-        fractions::product(first, second, out)
-    } else if call == "decimal" {
-        readings::decimal(first, out)
-    } else if call == "piece" {
-        readings::piece(first, second, out)
-    } else if call == "width" {
-        words::width(first, out)
-    } else if call == "limit" {
-        streams::limit(first, out)
-    } else if call == "pause" {
-        checkers::pause(first, second, out)
-    } else if call == "name" {
-        readings::name(alloc, first, out)
-    } else if call == "path" {
-        readings::path(alloc, first, second, out)
-    } else if call == "compared" {
-        readings::compared(alloc, first, second, out)
-    } else if call == "written" {
-        readings::written(alloc, first, out)
-    } else if call == "ones" {
-        words::ones(alloc, first, second, out)
-    } else if call == "digits" {
-        words::digits(alloc, first, second, out)
-    } else if call == "numbered" {
-        words::numbered(alloc, first, second, out)
-    } else if call == "joined" {
-        words::joined(alloc, first, second, out)
-    } else if call == "overwritten" {
-        words::overwritten(alloc, first, second, out)
-    } else if call == "items" {
-        streams::items(alloc, first, second, out)
-    } else if call == "copy" {
-        streams::copied(alloc, first, out)
-    } else {
-        tell_of_layers(alloc, call, first, second, out)
-    }
-}
-
-// What a call of the layers above tells.
-fn tell_of_layers(
-    alloc: Global,
-    call: &str,
-    first: &str,
-    second: &str,
-    out: &mut List<u8>,
-) -> Result<(), Memory> {
-    if call == "start" {
-        checkers::start(alloc, out)
-    } else if call == "ended" {
-        checkers::ended(alloc, out)
-    } else if call == "series" {
-        nests::series(alloc, first, second, out)
-    } else if call == "trace" {
-        traces::trace(alloc, first, out)
-    } else if call == "written trace" {
-        traces_written::written_trace(alloc, out)
-    } else if call == "tokens" {
-        tokens::tokens(alloc, first, out)
-    } else if call == "counted" {
-        tokens::counted(alloc, first, second, out)
-    } else if call == "project" {
-        projects::project(alloc, first, out)
-    } else if call == "unpacked" {
-        values::unpacked(alloc, first, second, out)
-    } else if call == "fitting" {
-        values::fitting(alloc, first, second, out)
-    } else if call == "split" {
-        splits::split(alloc, first, second, out)
-    } else {
-        Err(Memory)
+    match call {
+        Call::Fraction => fractions::fraction(first, second, out),
+        Call::Product => fractions::product(first, second, out),
+        Call::Decimal => readings::decimal(first, out),
+        Call::Piece => readings::piece(first, second, out),
+        Call::Width => words::width(first, out),
+        Call::Limit => streams::limit(first, out),
+        Call::Pause => checkers::pause(first, second, out),
+        Call::Name => readings::name(alloc, first, out),
+        Call::Path => readings::path(alloc, first, second, out),
+        Call::Compared => readings::compared(alloc, first, second, out),
+        Call::Written => readings::written(alloc, first, out),
+        Call::Ones => words::ones(alloc, first, second, out),
+        Call::Digits => words::digits(alloc, first, second, out),
+        Call::Numbered => words::numbered(alloc, first, second, out),
+        Call::Joined => words::joined(alloc, first, second, out),
+        Call::Overwritten => words::overwritten(alloc, first, second, out),
+        Call::Items => streams::items(alloc, first, second, out),
+        Call::Copy => streams::copied(alloc, first, out),
+        Call::Start => checkers::start(alloc, out),
+        Call::Ended => checkers::ended(alloc, out),
+        Call::Series => nests::series(alloc, first, second, out),
+        Call::Trace => traces::trace(alloc, first, out),
+        Call::WrittenTrace => traces_written::written_trace(alloc, out),
+        Call::Tokens => tokens::tokens(alloc, first, out),
+        Call::Counted => tokens::counted(alloc, first, second, out),
+        Call::Project => projects::project(alloc, first, out),
+        Call::Unpacked => values::unpacked(alloc, first, second, out),
+        Call::Fitting => values::fitting(alloc, first, second, out),
+        Call::Split => splits::split(alloc, first, second, out),
     }
 }
