@@ -10,7 +10,7 @@ use std::process::Abort;
 use tydi_base::{List, Memory, read_decimal};
 
 /// A call.
-enum Call {
+pub(crate) enum Call {
     Fraction,
     Product,
     Decimal,
@@ -42,39 +42,6 @@ enum Call {
     Fitting,
 }
 
-/// Each call, and its rows.
-const TABLES: &[(Call, &[(&str, &str, &str)])] = &[
-    (Call::Fraction, fractions::FRACTIONS),
-    (Call::Product, fractions::PRODUCTS),
-    (Call::Decimal, readings::DECIMALS),
-    (Call::Piece, readings::PIECES),
-    (Call::Name, readings::NAMES),
-    (Call::Path, readings::PATHS),
-    (Call::Compared, readings::COMPARED),
-    (Call::Written, readings::WRITTEN),
-    (Call::Width, words::WIDTHS),
-    (Call::Ones, words::ONES),
-    (Call::Digits, words::DIGITS),
-    (Call::Numbered, words::NUMBERS),
-    (Call::Joined, words::JOINED),
-    (Call::Overwritten, words::OVERWRITTEN),
-    (Call::Limit, streams::LIMITS),
-    (Call::Items, streams::ITEMS),
-    (Call::Copy, streams::COPIES),
-    (Call::Pause, checkers::PAUSES),
-    (Call::Start, checkers::START),
-    (Call::Ended, checkers::ENDED),
-    (Call::Series, nests::SERIES),
-    (Call::Trace, traces::TRACES),
-    (Call::WrittenTrace, traces_written::WRITTEN_TRACE),
-    (Call::Tokens, tokens::TOKENS),
-    (Call::Counted, tokens::COUNTED),
-    (Call::Project, projects::PROJECTS),
-    (Call::Split, splits::FRONTS),
-    (Call::Unpacked, values::UNPACKED),
-    (Call::Fitting, values::FITTING),
-];
-
 /// The first word of a text, and what comes after the space.
 pub(crate) fn cut(text: &str) -> (&str, &str) {
     text.split_once(' ').unwrap_or((text, ""))
@@ -95,15 +62,12 @@ pub(crate) fn byte(digits: &str) -> u8 {
     (number(digits) % 256) as u8
 }
 
-#[test]
-fn calls(rt: HostRuntime) {
-    for (call, rows) in TABLES {
-        check_calls(&rt, call, rows);
-    }
-}
-
-// Makes the call of each row, and compares what it tells.
-fn check_calls(rt: &(impl Abort + AllocGlobal), call: &Call, rows: &[(&str, &str, &str)]) {
+/// Makes the call of each row, and compares what it tells.
+pub(crate) fn check_calls(
+    rt: &(impl Abort + AllocGlobal),
+    call: &Call,
+    rows: &[(&str, &str, &str)],
+) {
     for (first, second, wanted) in rows {
         let mut told = List::new(rt.alloc());
         let is_told = tell(rt.alloc(), call, first, second, &mut told).is_ok();

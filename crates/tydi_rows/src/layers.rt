@@ -1,5 +1,10 @@
-//! Defaults and laws of the layers below the tool.
+//! The tests of the layers below the tool. No constant holds all tables: the check of one that did ran out of steps.
 
+use crate::calls::{Call, check_calls};
+use crate::{
+    checkers, fractions, nests, projects, readings, splits, streams, tokens, traces,
+    traces_written, values, words,
+};
 use complexity_rules::{items_are_nested, levels_are_kept, table_is_monotone};
 use physical_stream::shown_at_greater_levels;
 use signal_layout::{Signal, SignalDefault, default_of};
@@ -9,6 +14,59 @@ use tydi_base::{
     decimals_are_read_as_spelled, hexadecimal_is_read_as_spelled, index_width_is_least,
     paths_are_read_as_spelled, pieces_are_parts,
 };
+
+#[test]
+fn texts_and_numbers(rt: HostRuntime) {
+    check_calls(&rt, &Call::Fraction, fractions::FRACTIONS);
+    check_calls(&rt, &Call::Product, fractions::PRODUCTS);
+    check_calls(&rt, &Call::Decimal, readings::DECIMALS);
+    check_calls(&rt, &Call::Piece, readings::PIECES);
+    check_calls(&rt, &Call::Name, readings::NAMES);
+    check_calls(&rt, &Call::Path, readings::PATHS);
+    check_calls(&rt, &Call::Compared, readings::COMPARED);
+    check_calls(&rt, &Call::Written, readings::WRITTEN);
+}
+
+#[test]
+fn words_of_bits(rt: HostRuntime) {
+    check_calls(&rt, &Call::Width, words::WIDTHS);
+    check_calls(&rt, &Call::Ones, words::ONES);
+    check_calls(&rt, &Call::Digits, words::DIGITS);
+    check_calls(&rt, &Call::Numbered, words::NUMBERS);
+    check_calls(&rt, &Call::Joined, words::JOINED);
+    check_calls(&rt, &Call::Overwritten, words::OVERWRITTEN);
+}
+
+#[test]
+fn streams_of_items(rt: HostRuntime) {
+    check_calls(&rt, &Call::Limit, streams::LIMITS);
+    check_calls(&rt, &Call::Items, streams::ITEMS);
+    check_calls(&rt, &Call::Copy, streams::COPIES);
+    check_calls(&rt, &Call::Pause, checkers::PAUSES);
+    check_calls(&rt, &Call::Start, checkers::START);
+    check_calls(&rt, &Call::Ended, checkers::ENDED);
+    check_calls(&rt, &Call::Series, nests::SERIES);
+}
+
+#[test]
+fn traces_of_streams(rt: HostRuntime) {
+    check_calls(&rt, &Call::Trace, traces::TRACES);
+    check_calls(&rt, &Call::WrittenTrace, traces_written::WRITTEN_TRACE);
+}
+
+#[test]
+fn tokens_and_projects(rt: HostRuntime) {
+    check_calls(&rt, &Call::Tokens, tokens::TOKENS);
+    check_calls(&rt, &Call::Counted, tokens::COUNTED);
+    check_calls(&rt, &Call::Project, projects::PROJECTS);
+    check_calls(&rt, &Call::Split, splits::FRONTS);
+}
+
+#[test]
+fn values_of_types(rt: HostRuntime) {
+    check_calls(&rt, &Call::Unpacked, values::UNPACKED);
+    check_calls(&rt, &Call::Fitting, values::FITTING);
+}
 
 /// The defaults of signals that a stream lacks. How wide each is, a table of the examples says.
 #[test]
