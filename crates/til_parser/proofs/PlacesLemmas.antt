@@ -19,7 +19,7 @@ use Rattle.til_parser.specs.declared.tree.AstStmt.{AstStmt}
 use Rattle.til_parser.specs.declared.tree.AstStmt.TheVariants as stmts
 use Rattle.til_parser.specs.Canonical.{names_text, settings_text, type_text, parts_text, more_parts_text, doc_text, port_text, next_port_text, ports_text, second_text, end_text}
 use Rattle.til_parser.specs.Canonical.{stmt_text, spaced_text, body_text, streamlet_text, quoted_text, kind_text, doc_line, decl_text, namespace_text}
-use Rattle.til_parser.specs.Grammar.{PortsWithin, StreamletWithin, KindWithin, DeclsWithin, NamespacesWithin, way_word, truth_word}
+use Rattle.til_parser.specs.Grammar.{PortsWithin, StreamletWithin, KindWithin, DeclsWithin, way_word, truth_word}
 use Rattle.til_parser.specs.Laws.{PlacesAreLeftOut}
 use Rattle.til_parser.specs.Same.{Alike, SameName, SameNames, SameType, SameParts, SamePort, SameSecond, SameEnd, SameStmt, SameBody, SamePorts, SameKind, SameDecl, SameNamespace}
 use Rattle.til_parser.specs.Tree.{Ltype, null, bits, group, union, stream, path, Parts, no_parts, part, Settings, depth, depth_of_parts, plain}
