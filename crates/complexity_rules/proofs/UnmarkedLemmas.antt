@@ -1,5 +1,5 @@
 -- Lanes that mark no end, and a walk over them.
-use Rattle.std.proofs.Common.{◌≡◌, ◌∙◌, ℕ, zero, suc, ◌+◌, ◌-◌, ◌*◌, ◌/◌, ◌%◌, ◌^◌, ◌<◌, ◌≤◌, Bool, true, false, ◌==◌, MatchOption, cond, if◌then◌else◌, List, [], ◌∷◌, ◌++◌, get_or, Option, Some, refl, sym, ap, subst, arith}
+use Rattle.std.proofs.Common.{◌≡◌, ◌∙◌, ℕ, zero, suc, ◌+◌, ◌-◌, ◌*◌, ◌/◌, ◌%◌, ◌^◌, ◌<◌, ◌≤◌, Bool, true, false, ◌==◌, IfSome, MatchOption, cond, if◌then◌else◌, List, [], ◌∷◌, ◌++◌, get_or, Option, Some, refl, sym, ap, subst, arith}
 use Rattle.std.specs.Bool.{then_some}
 use Rattle.std.specs.Int.{bit_at}
 use Rattle.std.specs.Int.Count.{ones}
@@ -79,6 +79,14 @@ pub first_one-told : (number place rest zeros : ℕ) (some : Bool) (found : Opti
     → found ≡ then_some some zeros → MatchOption found ((count : ℕ) → AreZeros number place count) (AreZeros number place)
 first_one-told number place rest zeros false found is none lowest told = subst (λ (o : Option ℕ). MatchOption o ((count : ℕ) → AreZeros number place count) (AreZeros number place)) (sym told) (zeros-all number place rest is (none refl))
 first_one-told number place rest zeros true found is none lowest told = subst (λ (o : Option ℕ). MatchOption o ((count : ℕ) → AreZeros number place count) (AreZeros number place)) (sym told) (zeros-before number place rest zeros is (lowest refl))
+
+-- and there is one where it says
+pub first_one-set : (number place rest count : ℕ) (some : Bool) (found : Option ℕ) → rest ≡ number / 2 ^ place → (some ≡ true → bit_at rest count ≡ 1) → found ≡ then_some some count →
+    IfSome found (λ at. bit_at number (place + at) ≡ 1)
+first_one-set number place rest count false found is one told = subst (λ (o : Option ℕ). IfSome o (λ at. bit_at number (place + at) ≡ 1)) (sym told) tt
+first_one-set number place rest count true found is one told =
+    subst (λ (o : Option ℕ). IfSome o (λ at. bit_at number (place + at) ≡ 1)) (sym told)
+    (ap (λ (n : ℕ). n % 2) (sym (shr-shr number place count)) ∙ ap (λ (n : ℕ). bit_at n count) (sym is) ∙ one refl)
 
 -- no lane is marked where the number has zeros alone from the first of them on
 pub unmarked_all : (p : Parameters) (t : Transfer) (marks : Option ℕ) (number from to start : ℕ) → ShowsMarks marks t → marks ≡ Some number → start ≡ from * p.dims →

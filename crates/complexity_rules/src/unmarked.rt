@@ -1,6 +1,7 @@
 //! Lanes that mark no end. A walk goes past them at once.
 
-ghost use Rattle.std.specs.Prelude.{◌≡◌, ◌↔◌, ℕ, ◌-◌, ◌*◌, ◌/◌, ◌^◌, ◌<◌, ◌≤◌, IfSome, IsTrue, MatchOption, count_ones};
+ghost use Rattle.std.specs.Prelude.{◌≡◌, ◌↔◌, ℕ, ◌+◌, ◌-◌, ◌*◌, ◌/◌, ◌^◌, ◌<◌, ◌≤◌, IfSome, IsTrue, MatchOption, count_ones};
+ghost use Rattle.std.specs.Int.{bit_at};
 ghost use Rattle.physical_stream.specs.Items.{is_active};
 ghost use Rattle.physical_stream.specs.declared.transfer.Transfer.{Transfer};
 ghost use Rattle.complexity_rules.specs.Unmarked.{active_lanes, AreUnmarked, AreZeros, ShowsMarks};
@@ -84,6 +85,7 @@ pub(crate) fn next_marked(p: &Params, marks: Option<u128>, from: u16, to: u16) -
 fn first_one(number: u128, place: u32) -> Option<u32>
     requires { place < 128 }
     ensures zeros { MatchOption result ((count : ℕ) → AreZeros number place count) (AreZeros number place) }
+    ensures one { IfSome result (λ zeros. bit_at number (place + zeros) ≡ 1) }
     ensures few { IfSome result (λ zeros. zeros ≤ 128) }
 {
     if place < 64 && is_short(number) {
