@@ -1,12 +1,14 @@
 -- Summaries of types, by those of the declarations that they name. It serves the search for types that have a fault, and no public clause.
-use Rattle.std.specs.Prelude.{ℕ, List, map, slice_index_or, Option, None, IfSome}
+use Rattle.std.specs.Prelude.{◌≡◌, ℕ, false, List, map, slice_index_or, Option, None, IfSome}
 use Rattle.til_parser.specs.declared.ltype.AstPart.{AstPart}
 use Rattle.til_parser.specs.declared.ltype.AstStream.{AstStream}
 use Rattle.til_parser.specs.declared.tree.AstName.{AstName}
 use Rattle.til_parser.specs.Tree as tree
-use Rattle.logical_types.specs.Tree.{Ltype, stream}
-use Rattle.logical_types.specs.Summary.{IsSummary}
+use Rattle.logical_types.specs.Tree.{Ltype, stream, Parts, no_parts, names_of}
+use Rattle.logical_types.specs.Names.{has_name_twice}
+use Rattle.logical_types.specs.Summary.{IsSummary, IsSummed}
 use Rattle.logical_types.specs.declared.summary.Summary.{Summary}
+use Rattle.logical_types.specs.declared.summary.PartsSummary.{PartsSummary}
 use Rattle.til_resolve.specs.Declarations.{Declaration, declaration}
 use Rattle.til_resolve.specs.Tables.{AreEntries}
 use Rattle.til_resolve.specs.Types.{replaced, settings_of, meaning_of}
@@ -37,3 +39,8 @@ BySummaries all number table IsSo = (depth : ℕ) → AreSummaries all depth tab
 -- the Stream that a written one stands for
 abbrev pub stream_in : (List AstName → Ltype) → AstStream → Ltype
 stream_in meaning one = stream (replaced meaning (tree.plain one.element)) (replaced meaning (tree.plain one.user)) (settings_of (tree.settings_of one))
+
+-- a summary of these parts, which have no two equal names
+pub record AreSummed (parts : Parts) (sum : PartsSummary) : Type 0 where
+  pub summed : IsSummed parts no_parts sum
+  pub once : has_name_twice (names_of parts) ≡ false

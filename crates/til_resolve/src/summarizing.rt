@@ -1,13 +1,12 @@
 //! The summary of a written type, by a table of the summaries of declarations.
 
 ghost use Rattle.std.specs.Prelude.{◌≡◌, ◌<◌, length, IfSome};
-ghost use Rattle.logical_types.specs.Summary.{IsSummary, IsSummed};
-ghost use Rattle.logical_types.specs.Tree.{group, no_parts, union};
+ghost use Rattle.logical_types.specs.Summary.{IsSummary};
 ghost use Rattle.til_parser.specs.Tree.{plain};
 ghost use Rattle.til_resolve.specs.SharedTypes.{replaced_list};
 ghost use Rattle.til_resolve.specs.Scope.{declarations_of};
 ghost use Rattle.til_resolve.specs.Summaries as spec;
-ghost use Rattle.til_resolve.specs.Summaries.{BySummaries, stream_in, written_names};
+ghost use Rattle.til_resolve.specs.Summaries.{AreSummed, BySummaries, stream_in, written_names};
 ghost use Rattle.til_resolve.specs.Types.{replaced};
 
 use crate::kinds::Asked;
@@ -49,48 +48,16 @@ pub fn summary_in<'a>(
     match ltype {
         AstType::Null => Some(summary_of_null()),
         AstType::Bits(width) => summary_of_bits(*width),
-        AstType::Group(parts) => summary_in_group(scope, number, parts.as_slice(), table),
-        AstType::Union(parts) => summary_in_union(scope, number, parts.as_slice(), table),
+        AstType::Group(parts) => summed_parts(scope, number, parts.as_slice(), table)?.in_group(),
+        AstType::Union(parts) => {
+            summed_parts(scope, number, parts.as_slice(), table)?.in_union(parts.len())
+        }
         AstType::Stream(stream) => summary_in_stream(scope, number, stream.get(), table),
         AstType::Path(path) => summary_named(scope, number, path, table),
     }
 }
 
-#[cycle(summary_in)]
-fn summary_in_group<'a>(
-    scope: &Scope<'a>,
-    number: usize,
-    parts: &'a [AstPart],
-    table: &[Option<Summary>],
-) -> Option<Summary>
-    requires { number < length (declarations_of scope.now.declared) }
-    ensures { BySummaries (declarations_of scope.now.declared) number table.now (λ meaning. IfSome result (IsSummary (group (replaced_list meaning parts.now)))) }
-{
-    let summed = summed_parts(scope, number, parts, table)?;
-    if has_name_twice(&WrittenParts(parts)) {
-        return None;
-    }
-    summed.in_group()
-}
-
-#[cycle(summary_in)]
-fn summary_in_union<'a>(
-    scope: &Scope<'a>,
-    number: usize,
-    parts: &'a [AstPart],
-    table: &[Option<Summary>],
-) -> Option<Summary>
-    requires { number < length (declarations_of scope.now.declared) }
-    ensures { BySummaries (declarations_of scope.now.declared) number table.now (λ meaning. IfSome result (IsSummary (union (replaced_list meaning parts.now)))) }
-{
-    let summed = summed_parts(scope, number, parts, table)?;
-    if has_name_twice(&WrittenParts(parts)) {
-        return None;
-    }
-    summed.in_union(parts.len())
-}
-
-// The summary of parts together.
+// The summary of parts together, which have no two equal names.
 #[cycle(summary_in)]
 fn summed_parts<'a>(
     scope: &Scope<'a>,
@@ -99,12 +66,15 @@ fn summed_parts<'a>(
     table: &[Option<Summary>],
 ) -> Option<PartsSummary>
     requires { number < length (declarations_of scope.now.declared) }
-    ensures { BySummaries (declarations_of scope.now.declared) number table.now (λ meaning. IfSome result (IsSummed (replaced_list meaning parts.now) no_parts)) }
+    ensures { BySummaries (declarations_of scope.now.declared) number table.now (λ meaning. IfSome result (AreSummed (replaced_list meaning parts.now))) }
 {
     let mut summed = summary_of_no_parts();
     'parts: for part in parts {
         let one = summary_in(scope, number, &part.ltype, table)?;
         summed = summed.and(&one);
+    }
+    if has_name_twice(&WrittenParts(parts)) {
+        return None;
     }
     Some(summed)
 }

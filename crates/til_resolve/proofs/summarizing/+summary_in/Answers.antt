@@ -1,7 +1,8 @@
-use Rattle.std.proofs.Common.{◌+◌, ap, sym, subst, ◌∙◌, drop, IfSome}
+use Rattle.std.proofs.Common.{◌+◌, List, length, ap, sym, subst, ◌∙◌, drop, IfSome}
 use Rattle.logical_types.specs.Summary.{IsSummary, IsSummed}
 use Rattle.logical_types.specs.Tree.{Ltype, Parts}
 use Rattle.logical_types.specs.Names.{has_name_twice}
+use Rattle.til_parser.specs.declared.ltype.AstPart.{AstPart}
 use Rattle.til_parser.specs.Tree.{plain}
 use Rattle.til_resolve.specs.SharedTypes.{replaced_list}
 use Rattle.til_resolve.specs.Scope.{declarations_of}
@@ -10,29 +11,23 @@ use Rattle.til_resolve.specs.Types.{replaced}
 use Rattle.til_resolve.proofs.SummaryLemmas.{names-written, number-written, replaced_list-at, replaced_list-past, group-written, union-written}
 use Rattle.til_resolve.proofs.summarizing.+summary_in.Goals as goal
 
-pub summary_in-returns-in-Group : goal.summary_in-returns-in-Group
-summary_in-returns-in-Group k c =
+pub summary_in-returns-in_ok-summed_parts-in-Group : goal.summary_in-returns-in_ok-summed_parts-in-Group
+summary_in-returns-in_ok-summed_parts-in-Group k c =
     λ depth so.
     let meaning = meaning_in (declarations_of c.args.scope.now.declared) depth c.args.number in
-    subst (λ (t : Ltype). IfSome c.summary_in_group.result (IsSummary t)) (group-written meaning c.args.ltype.now c.in-Group.parts _ c.in-Group.is c.as_slice.ensures) (c.summary_in_group.ensures depth so)
+    let summed = c.in_ok-summed_parts-in-Group.ensures depth so in
+    subst (λ (t : Ltype). IfSome c.in_group.result (IsSummary t)) (group-written meaning c.args.ltype.now c.in-Group.parts _ c.in-Group.is c.as_slice.ensures)
+    (c.in_group.ensures (replaced_list meaning c.as_slice.result.now) summed.summed summed.once)
 
-pub summary_in-returns-in-Union : goal.summary_in-returns-in-Union
-summary_in-returns-in-Union k c =
+pub summary_in-returns-in_ok-summed_parts-in-Union : goal.summary_in-returns-in_ok-summed_parts-in-Union
+summary_in-returns-in_ok-summed_parts-in-Union k c =
     λ depth so.
     let meaning = meaning_in (declarations_of c.args.scope.now.declared) depth c.args.number in
-    subst (λ (t : Ltype). IfSome c.summary_in_union.result (IsSummary t)) (union-written meaning c.args.ltype.now c.in-Union.parts _ c.in-Union.is c.as_slice-in-Union.ensures) (c.summary_in_union.ensures depth so)
-
-pub summary_in_group-returns : goal.summary_in_group-returns
-summary_in_group-returns k c =
-    λ depth so.
-    let meaning = meaning_in (declarations_of c.args.scope.now.declared) depth c.args.number in
-    c.in_group.ensures (replaced_list meaning c.args.parts.now) (c.in_ok-summed.ensures depth so) (ap has_name_twice (names-written meaning c.args.parts.now) ∙ sym c.if-has_name_twice.ensures)
-
-pub summary_in_union-returns : goal.summary_in_union-returns
-summary_in_union-returns k c =
-    λ depth so.
-    let meaning = meaning_in (declarations_of c.args.scope.now.declared) depth c.args.number in
-    c.in_union.ensures (replaced_list meaning c.args.parts.now) (c.in_ok-summed.ensures depth so) (number-written meaning c.args.parts.now) (ap has_name_twice (names-written meaning c.args.parts.now) ∙ sym c.if-has_name_twice.ensures)
+    let parts = c.as_slice-in-Union.result.now in
+    let summed = c.in_ok-summed_parts-in-Union.ensures depth so in
+    let many = number-written meaning parts ∙ ap (λ (l : List AstPart). length l) c.as_slice-in-Union.ensures ∙ sym c.len.ensures in
+    subst (λ (t : Ltype). IfSome c.in_union.result (IsSummary t)) (union-written meaning c.args.ltype.now c.in-Union.parts _ c.in-Union.is c.as_slice-in-Union.ensures)
+    (c.in_union.ensures (replaced_list meaning parts) summed.summed many summed.once)
 
 pub summed_parts-parts-preserved : goal.summed_parts-parts-preserved
 summed_parts-parts-preserved k c =
@@ -48,7 +43,11 @@ pub summed_parts-returns : goal.summed_parts-returns
 summed_parts-returns k c =
     λ depth so.
     let meaning = meaning_in (declarations_of c.args.scope.now.declared) depth c.args.number in
-    subst (λ (ps : Parts). IsSummed (replaced_list meaning c.args.parts.now) ps c.parts.summed) (replaced_list-past meaning c.args.parts.now c.parts.part-index c.parts-test.false) (c.parts.invariant depth so)
+    record {
+      summed = subst (λ (ps : Parts). IsSummed (replaced_list meaning c.args.parts.now) ps c.parts.summed) (replaced_list-past meaning c.args.parts.now c.parts.part-index c.parts-test.false)
+          (c.parts.invariant depth so);
+      once = ap has_name_twice (names-written meaning c.args.parts.now) ∙ sym c.if-has_name_twice.ensures;
+    }
 
 pub summed_parts-parts-init : goal.summed_parts-parts-init
 summed_parts-parts-init k c =
