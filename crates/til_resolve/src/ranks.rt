@@ -2,9 +2,9 @@
 //! lower than what leads to it (Tarjan, Depth-first search and linear graph algorithms, 1972).
 //!
 //! Nothing is promised of them, and no answer rests on them. `certificate` tests that no rank rises along an edge, and searches
-//! where ranks don't show that a number is on no cycle; `chains` and `shapes` test the tables that are made in the order of ranks,
-//! `shared_types` tests the order itself, and each has another way where a test fails. What rests on ranks is time: with those that
-//! are found every test passes, so that one walk is enough.
+//! where ranks don't show that a number is on no cycle; `chains` tests the table that is made in the order of ranks, `tables` tests
+//! the order itself, and each has another way where a test fails. What rests on ranks is time: with those that are found every test
+//! passes, so that one walk is enough.
 
 use std::alloc::Global;
 use tydi_base::{List, Memory};

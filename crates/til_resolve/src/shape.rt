@@ -1,6 +1,6 @@
 //! How large a type is.
 
-ghost use Rattle.std.specs.Prelude.{◌≡◌, ◌+◌, ◌≤◌, min, IsTrue};
+ghost use Rattle.std.specs.Prelude.{◌≡◌, ◌+◌, min};
 ghost use Rattle.til_resolve.specs.Shapes as spec;
 
 /// The nodes of a type and its depth, each up to the first number that is too large, and whether it is a Stream.
@@ -60,11 +60,4 @@ fn capped_sum(one: u32, other: u32, most: u32) -> u32
     ensures { result ≡ min (one + other) most }
 {
     one.saturating_add(other).min(most)
-}
-
-/// Whether two shapes are the same.
-pub fn is_same(one: Shape, other: Shape) -> bool
-    ensures { IsTrue result → one ≡ other }
-{
-    one.nodes == other.nodes && one.depth == other.depth && one.stream == other.stream
 }

@@ -1,11 +1,6 @@
 use Rattle.til_resolve.specs.Scope.{declarations_of}
-use Rattle.til_resolve.proofs.EntryLemmas.{AreEntries-none, AreEntries-next}
+use Rattle.til_resolve.proofs.EntryLemmas.{AreEntries-next}
 use Rattle.til_resolve.proofs.tables.by_rounds.Goals as goal
-
-pub rounds-init : goal.rounds-init
-rounds-init g c =
-    let all = declarations_of c.args.scope.now.declared in
-    AreEntries-none g.E.Entries.least g.E.Entries.is_entry all c.new-table.result c.new-table.ensures g.met.E.Entries.is_least
 
 pub rounds-preserved : goal.rounds-preserved
 rounds-preserved g c =
