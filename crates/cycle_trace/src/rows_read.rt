@@ -37,7 +37,11 @@ pub(crate) struct RowsRead {
 
 impl RowsRead {
     /// No rows of no streams.
-    pub(crate) fn none(alloc: Global) -> RowsRead {
+    pub(crate) fn none(alloc: Global) -> RowsRead
+        ensures streams { result.streams.items ≡ [] }
+        ensures rows { (result.want ≡ 0) × (result.got ≡ 0) }
+        ensures next { (result.stream ≡ 0) × (result.room ≡ 0) }
+    {
         RowsRead {
             streams: Vec::new(alloc),
             want: 0,
