@@ -9,3 +9,4 @@ pub mod Tails
 pub mod Unmarked
 pub mod Waiting
 pub mod Walk
+pub mod LastItem

@@ -14,10 +14,11 @@ ghost use Rattle.complexity_rules.specs.Lowest.{is_broken};
 ghost use Rattle.complexity_rules.specs.Waiting.{IsLowestShown};
 ghost use Rattle.complexity_rules.specs.Walk.{Finds, first_close, misses_empty};
 
+use crate::last_item::LastItem;
 use crate::pauses::{breaks_inner_pause, breaks_outer_pause};
 use crate::table::binds;
 use crate::walk::{Shown, Walk};
-use physical_stream::{Params, Rule, Tail, Transfer, all_lanes};
+use physical_stream::{Params, Rule, Transfer, all_lanes};
 use tydi_base::Level;
 
 /// A row for each rule, in the order of their numbers: its name, and whether a cycle breaks it. The lowest rule that is broken.
@@ -32,7 +33,7 @@ macro_rules! lowest_broken {
 #[inline(always)]
 pub(crate) fn lowest_of_shown(
     p: &Params,
-    tail: Option<Tail>,
+    tail: LastItem,
     transfer: &Transfer,
     items: &Shown,
 ) -> Option<Rule>
@@ -53,13 +54,13 @@ pub(crate) fn lowest_of_shown(
 }
 
 /// The lowest rule that a cycle breaks that shows no transfer, where none waits.
-pub(crate) fn lowest_of_pause(p: &Params, tail: Option<Tail>) -> Option<Rule>
+pub(crate) fn lowest_of_pause(p: &Params, tail: LastItem) -> Option<Rule>
     ensures { (before : List Cycle) (ready : Bool) → waiting_of before ≡ None → tail ≡ tail_of (items_done p.now before)
         → IsLowestBroken p.now before (record { ready = ready; shown = None }) result }
 {
     lowest_broken! {
-        InnerPause if breaks_inner_pause(p, tail),
-        OuterPause if breaks_outer_pause(p, tail),
+        InnerPause if breaks_inner_pause(p, tail.kind()),
+        OuterPause if breaks_outer_pause(p, tail.kind()),
     }
 }
 
@@ -147,7 +148,7 @@ fn ends_early(p: &Params, transfer: &Transfer, walk: &Walk) -> bool
 
 /// Whether Empty is broken: no lane is active, and nothing is closed or not an empty sequence first.
 #[inline(always)]
-pub(crate) fn breaks_empty(p: &Params, tail: Option<Tail>, walk: &Walk) -> bool
+pub(crate) fn breaks_empty(p: &Params, tail: LastItem, walk: &Walk) -> bool
     ensures { result ≡ is_broken p.now.level Empty (not walk.now.active && misses_empty tail walk.now.first_close) }
 {
     binds(Rule::Empty, p.level) && !walk.active && misses_empty(tail, walk.first_close)
@@ -162,22 +163,11 @@ pub(crate) fn breaks_nest(p: &Params, walk: &Walk) -> bool
 }
 
 /// Whether nothing is closed first, or what is closed first is no empty sequence.
-fn misses_empty(tail: Option<Tail>, first_close: Option<u8>) -> bool
+fn misses_empty(tail: LastItem, first_close: Option<u8>) -> bool
     ensures { result ≡ misses_empty tail first_close }
 {
     match first_close {
         None => true,
-        Some(dim) => !closes_empty(tail, dim),
-    }
-}
-
-/// Whether a Close of this dimension closes an empty sequence after an item of this kind.
-fn closes_empty(tail: Option<Tail>, dim: u8) -> bool
-    ensures { result ≡ closes_empty tail dim }
-{
-    match tail {
-        None => true,
-        Some(Tail::Elem) => false,
-        Some(Tail::Close(inner)) => dim <= inner,
+        Some(dim) => !tail.closes_empty(dim),
     }
 }

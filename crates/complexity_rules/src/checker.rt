@@ -7,7 +7,8 @@ ghost use Rattle.complexity_rules.specs.Tails.{IsTailIn};
 ghost use Rattle.complexity_rules.specs.Waiting.{IsJudged};
 
 use crate::effect::Effect;
-use physical_stream::{Params, Tail, Transfer};
+use crate::last_item::LastItem;
+use physical_stream::{Params, Transfer};
 use std::alloc::Global;
 use tydi_base::Memory;
 
@@ -23,7 +24,7 @@ pub struct Checker {
     /// What the transfer that waits changes when it is done.
     pub(crate) effect: Effect,
     /// The kind of the last item done.
-    pub(crate) tail: Option<Tail>,
+    pub(crate) tail: LastItem,
     /// The cycles seen.
     pub(crate) seen: u32,
     /// The transfers done.

@@ -18,6 +18,7 @@ ghost use Rattle.complexity_rules.specs.Waiting.{IsLowestShown};
 use crate::breaking::{hold, lowest_of_pause, lowest_of_shown};
 use crate::checker::Checker;
 use crate::effect::Effect;
+use crate::last_item::LastItem;
 use crate::one_lane::{lowest_of_one, walk_over_one};
 use crate::walk::walk_over;
 use physical_stream::{End, Params, Row, Rule, Tail, Transfer};
@@ -45,10 +46,10 @@ impl Checker {
             waits: false,
             offered,
             effect: Effect {
-                tail: None,
+                tail: LastItem::none(),
                 packets: 0,
             },
-            tail: None,
+            tail: LastItem::none(),
             seen: 0,
             transfers: 0,
             packets: 0,
@@ -302,7 +303,7 @@ impl Checker {
     fn end_of_items(&self) -> End
         ensures { result ≡ ending_after (params_in self.now).dims self.now.tail }
     {
-        match self.tail {
+        match self.tail.kind() {
             None => End::Whole,
             Some(Tail::Elem) => {
                 if self.params.dims == 0 {
@@ -325,7 +326,7 @@ impl Checker {
     pub fn tail(&self) -> Option<Tail>
         ensures { (cycles : List Cycle) → StandsFor self.now cycles → result ≡ tail_of (items_done (params_in self.now) cycles) }
     {
-        self.tail
+        self.tail.kind()
     }
 
     /// The transfers done.

@@ -1,10 +1,10 @@
-use physical_stream::Tail;
+use crate::last_item::LastItem;
 
 /// What a transfer changes when it is done.
 #[derive(Clone, Copy, Debug, PartialEq, Eq)]
 pub(crate) struct Effect {
     /// The kind of the last item then.
-    pub tail: Option<Tail>,
+    pub tail: LastItem,
     /// The packets that it ends.
     pub packets: u64,
 }

@@ -7,6 +7,7 @@ mod breaking;
 mod checker;
 mod checking;
 mod effect;
+mod last_item;
 mod levels;
 mod nesting;
 mod one_lane;

@@ -9,12 +9,13 @@ ghost use Rattle.complexity_rules.specs.Waiting.{IsLowestShown};
 ghost use Rattle.complexity_rules.specs.Walk.{Finds};
 
 use crate::breaking::{breaks_empty, breaks_nest};
+use crate::last_item::LastItem;
 use crate::walk::Walk;
-use physical_stream::{Params, Rule, Tail, Transfer};
+use physical_stream::{Params, Rule, Transfer};
 
 /// Walks over the items of a transfer of one lane, after an item of this kind.
 #[inline(always)]
-pub(crate) fn walk_over_one(p: &Params, transfer: &Transfer, tail: Option<Tail>) -> Walk
+pub(crate) fn walk_over_one(p: &Params, transfer: &Transfer, tail: LastItem) -> Walk
     requires one { p.now.lanes ≡ 1 }
     requires fits { Fits p.now transfer.now }
     ensures found { Finds p.now.dims tail (items_of p.now transfer.now) result }
@@ -25,7 +26,7 @@ pub(crate) fn walk_over_one(p: &Params, transfer: &Transfer, tail: Option<Tail>)
 
 /// The lowest rule, the one on waiting transfers aside, that a cycle breaks that shows a transfer of one lane.
 #[inline(always)]
-pub(crate) fn lowest_of_one(p: &Params, tail: Option<Tail>, walk: &Walk) -> Option<Rule>
+pub(crate) fn lowest_of_one(p: &Params, tail: LastItem, walk: &Walk) -> Option<Rule>
     requires one { p.now.lanes ≡ 1 }
     ensures { (t : Transfer) → Fits p.now t → Finds p.now.dims tail (items_of p.now t) walk.now → IsLowestShown p.now tail t result }
 {

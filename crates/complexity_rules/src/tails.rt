@@ -4,6 +4,7 @@ ghost use Rattle.physical_stream.specs.Shape.{tail_of};
 ghost use Rattle.physical_stream.specs.Signals.{Fits};
 ghost use Rattle.physical_stream.specs.declared.item.Item.{Item};
 
+use crate::last_item::LastItem;
 use crate::walk::walk_over;
 use physical_stream::{Params, Tail, Transfer};
 
@@ -13,5 +14,5 @@ pub fn tail_after(p: &Params, tail: Option<Tail>, transfer: &Transfer) -> Option
     requires { Fits p.now transfer.now }
     ensures { (done : List Item) → tail ≡ tail_of done → result ≡ tail_of (done ++ items_of p.now transfer.now) }
 {
-    walk_over(p, transfer, tail).walk.tail
+    walk_over(p, transfer, LastItem::of(tail)).walk.tail.kind()
 }

@@ -13,14 +13,15 @@ ghost use Rattle.complexity_rules.specs.Unmarked.{AreUnmarked, ShowsMarks};
 ghost use Rattle.complexity_rules.specs.Walk.{Finds, first_of_two};
 
 use crate::effect::Effect;
+use crate::last_item::LastItem;
 use crate::unmarked::{active_between, is_lane_active, marks_of, next_marked};
-use physical_stream::{Params, Tail, Transfer, is_last};
+use physical_stream::{Params, Transfer, is_last};
 
 /// What a walk over items has found so far.
 #[derive(Clone, Copy, Debug, PartialEq, Eq)]
 pub(crate) struct Walk {
     /// The kind of the last item, also of those before the walk.
-    pub tail: Option<Tail>,
+    pub tail: LastItem,
     /// Whether an element came.
     pub active: bool,
     /// The dimension of the first Close that came.
@@ -34,7 +35,7 @@ pub(crate) struct Walk {
 impl Walk {
     /// A walk before its first item, after an item of this kind.
     #[inline(always)]
-    pub(crate) fn after(tail: Option<Tail>) -> Walk
+    pub(crate) fn after(tail: LastItem) -> Walk
         ensures found { (dims : ℕ) → Finds dims tail [] result }
         ensures few { result.packets ≡ 0 }
     {
@@ -67,7 +68,7 @@ impl Walk {
         ensures few { result.packets ≤ self.packets + 1 }
     {
         Walk {
-            tail: Some(Tail::Elem),
+            tail: LastItem::element(),
             active: true,
             packets: self.packets + counted(p.dims == 0),
             ..self
@@ -83,7 +84,7 @@ impl Walk {
         ensures few { result.packets ≤ self.packets + 1 }
     {
         Walk {
-            tail: Some(Tail::Close(dim)),
+            tail: LastItem::close(dim),
             active: self.active,
             first_close: first_of_two(self.first_close, dim),
             misplaced: either(self.misplaced, is_misplaced(self.tail, dim)),
@@ -105,7 +106,7 @@ impl Walk {
         let marked = is_last(p, transfer, lane, dim);
         if p.lanes == 1 {
             let closed = self.over_close(p, dim);
-            return chosen(marked, closed, self);
+            return chosen(marked, &closed, &self);
         }
         if marked {
             self.over_close(p, dim)
@@ -179,7 +180,7 @@ impl Walk {
             return self;
         }
         Walk {
-            tail: Some(Tail::Elem),
+            tail: LastItem::element(),
             active: true,
             packets: self.packets + packets_among(p, elements),
             ..self
@@ -226,7 +227,7 @@ pub(crate) struct Shown {
 
 /// Walks over the items of a transfer, after an item of this kind.
 #[inline(always)]
-pub(crate) fn walk_over(p: &Params, transfer: &Transfer, tail: Option<Tail>) -> Shown
+pub(crate) fn walk_over(p: &Params, transfer: &Transfer, tail: LastItem) -> Shown
     requires fits { Fits p.now transfer.now }
     ensures found { Finds p.now.dims tail (items_of p.now transfer.now) result.walk }
     ensures early { IsTrue result.early ↔ BreaksLaneLast p.now transfer.now }
@@ -244,12 +245,7 @@ pub(crate) fn walk_over(p: &Params, transfer: &Transfer, tail: Option<Tail>) -> 
 
 /// The same, lane by lane.
 #[inline(always)]
-fn walk_over_marked(
-    p: &Params,
-    transfer: &Transfer,
-    marks: Option<u128>,
-    tail: Option<Tail>,
-) -> Shown
+fn walk_over_marked(p: &Params, transfer: &Transfer, marks: Option<u128>, tail: LastItem) -> Shown
     requires fits { Fits p.now transfer.now }
     requires shows { ShowsMarks marks transfer.now }
     ensures found { Finds p.now.dims tail (items_of p.now transfer.now) result.walk }
@@ -295,8 +291,8 @@ fn counted(counts: bool) -> u64
 
 /// One of two walks. It branches on nothing, since which one it is is not foreseen.
 #[inline(always)]
-fn chosen(first: bool, one: Walk, other: Walk) -> Walk
-    ensures { result ≡ cond first one other }
+fn chosen(first: bool, one: &Walk, other: &Walk) -> Walk
+    ensures { result ≡ cond first one.now other.now }
 {
     Walk {
         tail: if first { one.tail } else { other.tail },
@@ -336,12 +332,8 @@ fn first_of_two(first: Option<u8>, dim: u8) -> Option<u8>
 
 /// Whether a Close of this dimension may not stand after an item of this kind.
 #[inline(always)]
-fn is_misplaced(tail: Option<Tail>, dim: u8) -> bool
+fn is_misplaced(tail: LastItem, dim: u8) -> bool
     ensures { result ≡ not (may_close tail dim) }
 {
-    match tail {
-        None => false,
-        Some(Tail::Elem) => dim > 0,
-        Some(Tail::Close(inner)) => u16::from(dim) > u16::from(inner) + 1,
-    }
+    !tail.may_close(dim)
 }

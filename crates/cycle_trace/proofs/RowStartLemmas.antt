@@ -1,9 +1,10 @@
 -- The bits at the front of a row.
-use Rattle.std.proofs.Common.{◌≡◌, ℕ, Bool, List, [], ◌∷◌, Result, Ok, Err, refl, ◌≢◌, ◌-◌, ◌≤◌, length, get_or, take, drop, arith}
+use Rattle.std.proofs.Common.{◌≡◌, ℕ, Bool, true, false, if◌then◌else◌, List, [], ◌∷◌, Result, Ok, Err, refl, ◌≢◌, ◌+◌, ◌*◌, ◌-◌, ◌<◌, ◌≤◌, length, get_or, take, drop, arith, ◌∙◌}
 use Rattle.std.proofs.lemmas.List.{take_rest}
 use Rattle.std.proofs.lemmas.List.Elements.{All-cons, All-nil}
 use Rattle.tydi_base.specs.Reading.{◌>>=◌}
 use Rattle.tydi_base.specs.Pieces.{Lacks, words_of}
+use Rattle.tydi_base.specs.WordsLeft.{words_after}
 use Rattle.tydi_base.proofs.PieceLaws.{pieces_of-append}
 use Rattle.physical_stream.specs.Params.{Parameters}
 use Rattle.physical_stream.specs.Cycles.{Cycle}
@@ -33,19 +34,47 @@ row_of_start p line = at_words p (words_of line)
 byte-lacks : (byte : ℕ) → byte ≢ 32 → Lacks 32 (byte ∷ [])
 byte-lacks byte ne = All-cons (λ b. b ≢ 32) byte [] ne (All-nil (λ b. b ≢ 32))
 
--- two bits with a space after each
-pub row_start-bits : (line : List ℕ) (valid ready : Bool) → 4 ≤ length line → get_or line 1 0 ≡ 32 → get_or line 3 0 ≡ 32 → get_or line 0 0 ≢ 32 → get_or line 2 0 ≢ 32
-    → bit_of (get_or line 0 0 ∷ []) ≡ Ok valid → bit_of (get_or line 2 0 ∷ []) ≡ Ok ready
-    → row_start (words_of line) ≡ Ok (valid, ready, words_of (take (length line - 4) (drop 4 line)))
+-- the byte of a bit
+abbrev pub byte_of_bit : Bool → ℕ
+byte_of_bit bit = if bit then 49 else 48
+
+bit_of-byte : (bit : Bool) → bit_of (byte_of_bit bit ∷ []) ≡ Ok bit
+unfolding bit_of
+bit_of-byte true = refl
+bit_of-byte false = refl
+
+byte_of_bit-lacks : (bit : Bool) → Lacks 32 (byte_of_bit bit ∷ [])
+byte_of_bit-lacks true = byte-lacks 49 (omega arith)
+byte_of_bit-lacks false = byte-lacks 48 (omega arith)
+
+bits_are : (valid ready : Bool) (rest : List ℕ) → row_start (words_of (byte_of_bit valid ∷ 32 ∷ byte_of_bit ready ∷ 32 ∷ rest)) ≡ Ok (valid, ready, words_of rest)
 unfolding row_start
-row_start-bits [] valid ready long _ _ _ _ _ _ = absurd (omega arith)
-row_start-bits (a ∷ []) valid ready long _ _ _ _ _ _ = absurd (omega arith)
-row_start-bits (a ∷ s ∷ []) valid ready long _ _ _ _ _ _ = absurd (omega arith)
-row_start-bits (a ∷ s ∷ b ∷ []) valid ready long _ _ _ _ _ _ = absurd (omega arith)
-row_start-bits (a ∷ s ∷ b ∷ t ∷ rest) valid ready long first second ne nf is_valid is_ready =
-    let whole : take (length (a ∷ s ∷ b ∷ t ∷ rest) - 4) rest ≡ rest = take_rest (a ∷ s ∷ b ∷ t ∷ rest) 4 in
-    let one : s ≡ 32 = first in
-    let two : t ≡ 32 = second in
-    let inner : words_of (b ∷ 32 ∷ rest) ≡ (b ∷ []) ∷ words_of rest = pieces_of-append 32 (b ∷ []) rest (byte-lacks b nf) in
-    let outer : words_of (a ∷ 32 ∷ b ∷ 32 ∷ rest) ≡ (a ∷ []) ∷ words_of (b ∷ 32 ∷ rest) = pieces_of-append 32 (a ∷ []) (b ∷ 32 ∷ rest) (byte-lacks a ne) in
-    rw (whole, one, two, outer, inner, is_valid, is_ready) refl
+bits_are valid ready rest =
+    let second = byte_of_bit ready ∷ [] in
+    let inner : words_of (byte_of_bit ready ∷ 32 ∷ rest) ≡ second ∷ words_of rest = pieces_of-append 32 second rest (byte_of_bit-lacks ready) in
+    let first = byte_of_bit valid ∷ [] in
+    let outer : words_of (byte_of_bit valid ∷ 32 ∷ byte_of_bit ready ∷ 32 ∷ rest) ≡ first ∷ words_of (byte_of_bit ready ∷ 32 ∷ rest) = pieces_of-append 32 first (byte_of_bit ready ∷ 32 ∷ rest) (byte_of_bit-lacks valid) in
+    rw (outer, inner, bit_of-byte valid, bit_of-byte ready) refl
+
+-- two bits with a space after each
+pub row_start-bits : (line : List ℕ) (valid ready : Bool) → 4 ≤ length line → get_or line 0 0 ≡ byte_of_bit valid → get_or line 1 0 ≡ 32 → get_or line 2 0 ≡ byte_of_bit ready → get_or line 3 0 ≡ 32
+    → row_start (words_of line) ≡ Ok (valid, ready, words_after (take (length line - 3) (drop 3 line)))
+row_start-bits [] valid ready long _ _ _ _ = absurd (omega arith)
+row_start-bits (a ∷ []) valid ready long _ _ _ _ = absurd (omega arith)
+row_start-bits (a ∷ s ∷ []) valid ready long _ _ _ _ = absurd (omega arith)
+row_start-bits (a ∷ s ∷ b ∷ []) valid ready long _ _ _ _ = absurd (omega arith)
+row_start-bits (a ∷ s ∷ b ∷ t ∷ rest) valid ready long one two three four =
+    let whole : take (length (a ∷ s ∷ b ∷ t ∷ rest) - 3) (t ∷ rest) ≡ t ∷ rest = take_rest (a ∷ s ∷ b ∷ t ∷ rest) 3 in
+    let first : a ≡ byte_of_bit valid = one in
+    let space : s ≡ 32 = two in
+    let second : b ≡ byte_of_bit ready = three in
+    let last : t ≡ 32 = four in
+    rw (whole, first, space, second, last) (bits_are valid ready rest)
+
+-- the same, where the four bytes are seen as one number
+module _ (line : List ℕ) (valid ready : Bool) (one other : ℕ) (first : one ≡ byte_of_bit valid) (second : other ≡ byte_of_bit ready) (lf : one < 256) (ls : other < 256) where
+  pub row_start-front : 4 ≤ length line → get_or line 0 0 < 256 → get_or line 1 0 < 256 → get_or line 2 0 < 256
+      → get_or line 0 0 + 256 * get_or line 1 0 + 65536 * get_or line 2 0 + 16777216 * get_or line 3 0 ≡ one + 256 * 32 + 65536 * other + 16777216 * 32
+      → row_start (words_of line) ≡ Ok (valid, ready, words_after (take (length line - 3) (drop 3 line)))
+  row_start-front long la lb lc same =
+      row_start-bits line valid ready long (let is : get_or line 0 0 ≡ one = omega arith in is ∙ first) (omega arith) (let is : get_or line 2 0 ≡ other = omega arith in is ∙ second) (omega arith)

@@ -1,9 +1,9 @@
 //! The rows of a trace text.
 
-ghost use Rattle.std.specs.Prelude.{◌≡◌, ◌≢◌, ◌≤◌, ◌+◌, ◌/◌, ◌^◌, ℕ, length, [], ◌∷◌, Ok, false, IfErr, IfSome, IsSome};
+ghost use Rattle.std.specs.Prelude.{◌≡◌, ◌≤◌, ◌+◌, ◌*◌, ◌/◌, ◌^◌, ℕ, length, [], ◌∷◌, Ok, false, IfErr, IfSome, IsSome, if◌then◌else◌};
 ghost use Rattle.tydi_base.specs.Pieces.{words_of};
 ghost use Rattle.tydi_base.specs.Reading.{Gives};
-ghost use Rattle.tydi_base.specs.WordsLeft.{words_left};
+ghost use Rattle.tydi_base.specs.WordsLeft.{words_after, words_left};
 ghost use Rattle.tydi_base.specs.declared.pieces.TheConstants.{SPACE};
 ghost use Rattle.physical_stream.specs.StreamLine.{not_form_in};
 ghost use Rattle.cycle_trace.specs.Faults.{fault_in};
@@ -19,7 +19,7 @@ use crate::row_bytes::{
 use crate::row_form::row_fault;
 use crate::row_layout::{RowLayout, WordSignal};
 use physical_stream::{NotForm, Transfer};
-use tydi_base::{Bits, EQUALS, SPACE, WordsLeft, hex_number, read_decimal};
+use tydi_base::{Bits, EQUALS, SPACE, WordsLeft, hex_number_within, read_decimal};
 
 /// The value of the first word, which is this key, `=` and the value; and the words after it.
 #[cold]
@@ -67,7 +67,7 @@ fn read_word<'a>(
     let Some((digits, rest)) = words.sized_value(key, signal.digits) else {
         return Err(NotForm);
     };
-    if bits.read_exact_hex(digits) {
+    if bits.read_sized_hex(digits) {
         Ok(rest)
     } else {
         Err(NotForm)
@@ -127,13 +127,10 @@ fn strobe_field<'a>(
     let Some((digits, rest)) = words.sized_value(STRB_KEY, layout.strb.digits) else {
         return Err(NotForm);
     };
-    let Some(number) = hex_number(digits) else {
-        return Err(NotForm);
-    };
-    if number > layout.all_lanes {
-        return Err(NotForm);
+    match hex_number_within(layout.all_lanes, digits) {
+        Some(number) => Ok((number, rest)),
+        None => Err(NotForm),
     }
-    Ok((number, rest))
 }
 
 /// That no word is left.
@@ -226,33 +223,37 @@ fn bit_of(word: &[u8]) -> Result<bool, NotForm>
     }
 }
 
-/// The bit that a byte is.
-#[inline(always)]
-#[tactic(auto, unfolding(crate::specs::RowText::bit_of))]
-fn bit_in(byte: u8) -> Option<bool>
-    ensures bit { IfSome result (λ bit. spec.bit_of (byte ∷ []) ≡ Ok bit) }
-    ensures plain { IfSome result (λ bit. byte ≢ SPACE) }
-{
-    if byte == ONE_BIT {
-        Some(true)
-    } else if byte == ZERO_BIT {
-        Some(false)
-    } else {
-        None
-    }
-}
-
-/// The valid bit and the ready bit of a row, and what follows the space after them. None where a row does not begin so.
+/// The valid bit and the ready bit of a row, and what follows them. None where a row does not begin so.
 #[inline(always)]
 fn two_bits(line: &[u8]) -> Option<(bool, bool, &[u8])>
-    ensures { IfSome result (λ x. row_start (words_of line.now) ≡ Ok (x.0, x.1, words_of x.2.now)) }
+    ensures { IfSome result (λ x. row_start (words_of line.now) ≡ Ok (x.0, x.1, words_after x.2.now)) }
 {
-    if line.len() < 4 || line[1] != SPACE || line[3] != SPACE {
+    if line.len() < 4 {
         return None;
     }
-    let valid = bit_in(line[0])?;
-    let ready = bit_in(line[2])?;
-    Some((valid, ready, &line[4..]))
+    let valid = line[0] == ONE_BIT;
+    let ready = line[2] == ONE_BIT;
+    let front = four_bytes(line[0], line[1], line[2], line[3]);
+    if front != four_bytes(bit_byte(valid), SPACE, bit_byte(ready), SPACE) {
+        return None;
+    }
+    Some((valid, ready, &line[3..]))
+}
+
+/// The byte of a bit.
+#[inline(always)]
+fn bit_byte(bit: bool) -> u8
+    ensures { result ≡ (if bit then ONE_BIT else ZERO_BIT) }
+{
+    ZERO_BIT + bit as u8
+}
+
+/// Four bytes as one number, by which they are compared at once.
+#[inline(always)]
+fn four_bytes(a: u8, b: u8, c: u8, d: u8) -> u32
+    ensures { result ≡ a + 256 * b + 65536 * c + 16777216 * d }
+{
+    u32::from(a) + 256 * u32::from(b) + 65536 * u32::from(c) + 16777216 * u32::from(d)
 }
 
 /// The valid bit and the ready bit of a row, and the words of its payload.
@@ -262,9 +263,9 @@ fn start_of(line: &[u8]) -> Result<(bool, bool, WordsLeft<'_>), NotForm>
     ensures { Gives not_form_in (λ x. (x.0, x.1, words_left x.2)) result (row_start (words_of line.now)) }
 {
     if let Some((valid, ready, payload)) = two_bits(line) {
-        return Ok((valid, ready, WordsLeft::of(payload)));
+        return Ok((valid, ready, WordsLeft::after_space(payload)));
     }
-    let (valid, words) = WordsLeft::of(line).next_word().ok_or(NotForm)?;
+    let (valid, words) = WordsLeft::first_of(line);
     let (ready, payload) = words.next_word().ok_or(NotForm)?;
     let valid = bit_of(valid)?;
     let ready = bit_of(ready)?;

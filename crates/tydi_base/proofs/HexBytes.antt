@@ -1,6 +1,6 @@
 -- Hexadecimal digits packed two to a byte, and the word of a width that bytes keep.
 use Rattle.std.proofs.Common.{◌≡◌, ◌∙◌, sym, ℕ, zero, suc, ◌+◌, ◌-◌, ◌*◌, ◌/◌, ◌%◌, ◌^◌, ◌<◌, ◌≤◌, Bool, true, false, not, ◌&&◌, eqb, List, [], ◌∷◌, ◌++◌, length, get_or, set, take, drop, Option, Some, None, option_map, option_and_then, refl, ap, arith, append_assoc}
-use Rattle.std.proofs.lemmas.Bool.{eq-eqb, ne_eqb}
+use Rattle.std.proofs.lemmas.Bool.{eq-eqb, eqb-false, eqb-true, ne_eqb}
 use Rattle.std.proofs.lemmas.Bool.Decides.{nat_tests}
 use Rattle.std.proofs.Math.Nat.{pow-succ', zero-add, suc-add, le_refl}
 use Rattle.std.proofs.Math.Numerals.{one-add}
@@ -274,6 +274,22 @@ pub no_ones-full : (width : ℕ) (bytes : List ℕ)
 unfolding no_ones
 no_ones-full width bytes none many =
     rw (drop_all width (unpack bytes) (rw length-unpack (omega arith))) refl
+
+-- the same of a word of one byte
+module _ (width : ℕ) (bytes : List ℕ) (byte : ℕ) (some : 0 < width) (few : width ≤ 8) (many : length bytes ≡ (width + 7) / 8) (below : get_or bytes 0 0 < 256) (is : byte ≡ get_or bytes 0 0) where
+  by_full : (full : Bool) → eqb width 8 ≡ full → eqb (byte / 2 ^ width) 0 ≡ no_ones (drop width (unpack bytes))
+  by_full true full =
+      let eight : width ≡ 8 = eqb-true width 8 full in
+      let high : byte / 2 ^ width ≡ 0 = rw eight (omega arith) in
+      rw high (sym (no_ones-full width bytes (omega arith) many))
+  by_full false full =
+      let less : width < 8 = omega (arith, few, eqb-false width 8 full) in
+      let first : width / 8 ≡ 0 = omega arith in
+      let used : width % 8 ≡ width = omega arith in
+      sym (no_ones-last width bytes (omega arith) many (rw first below) ∙ rw (first, used, ← is) refl)
+
+  pub no_ones-byte : eqb (byte / 2 ^ width) 0 ≡ no_ones (drop width (unpack bytes))
+  no_ones-byte = by_full (eqb width 8) refl
 
 -- ---- a word of a width
 

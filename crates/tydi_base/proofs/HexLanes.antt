@@ -53,7 +53,7 @@ marked_lanes_are n digits long fit =
 abbrev high_mask : ℕ → List ℕ → ℕ
 high_mask n values = mask_l (map (top 7) (zip2 at_most (replicate n 16) values))
 
-marked_digit-some : (digit value : ℕ) → digit_of digit ≡ Some value → marked_digit digit ≡ value
+pub marked_digit-some : (digit value : ℕ) → digit_of digit ≡ Some value → marked_digit digit ≡ value
 unfolding marked_digit
 marked_digit-some digit value is_value = rw is_value refl
 
@@ -83,7 +83,7 @@ unfolding marked_digit
 digit_of-marked_by digit None is_read small = let out : 255 < 16 = rw is_read at small in absurd (omega arith)
 digit_of-marked_by digit (Some value) is_read small = rw is_read refl
 
-digit_of-marked : (digit : ℕ) → marked_digit digit < 16 → digit_of digit ≡ Some (marked_digit digit)
+pub digit_of-marked : (digit : ℕ) → marked_digit digit < 16 → digit_of digit ≡ Some (marked_digit digit)
 digit_of-marked digit small = digit_of-marked_by digit (digit_of digit) refl small
 
 mask_small : (n : ℕ) (values : List ℕ) → length values ≡ n → n ≤ 64 → high_mask n values % 2 ^ 64 ≡ high_mask n values

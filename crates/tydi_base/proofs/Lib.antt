@@ -26,3 +26,5 @@ pub mod PlaceLemmas
 pub mod DigitNumbers
 pub mod SizedLemmas
 pub mod TestLemmas
+pub mod MarkLemmas
+pub mod DigitTable

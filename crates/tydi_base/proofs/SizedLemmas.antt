@@ -1,29 +1,38 @@
 -- Values of a known size in the words of a line.
-use Rattle.std.proofs.Common.{add-one, ◌≡◌, ◌≢◌, ℕ, ◌+◌, ◌-◌, ◌<◌, List, [], ◌∷◌, ◌++◌, inl, inr, length, get_or, take, drop, refl, sym, ap, subst, ◌∙◌, arith, append-nil, All}
+use Rattle.std.proofs.Common.{◌≡◌, ◌≢◌, ℕ, ◌-◌, ◌≤◌, List, [], ◌∷◌, ◌++◌, inl, inr, length, get_or, take, drop, refl, sym, ap, subst, ◌∙◌, arith, append-nil, All}
 use Rattle.std.proofs.lemmas.List.Elements.{All-cons, All-head, All-nil}
 use Rattle.std.specs.List.{join_with_byte}
-use Rattle.std.proofs.Math.Seq.{drop-cons, take-append_seam}
+use Rattle.std.proofs.Math.Seq.{drop-append_seam, take-append_seam}
 use Rattle.std.proofs.lemmas.List.{take-append-drop, take_rest, length-take-le}
 use Rattle.tydi_base.specs.Pieces.{Lacks, words_of}
 use Rattle.tydi_base.proofs.PieceLaws.{join-pieces_of, pieces_of-append, pieces_of-each_lacks, pieces_of-lacks}
-use Rattle.std.proofs.Common.{Bool, IsTrue, true, false, not, is_some, Option, Some, None, MatchOption, Bor}
-use Rattle.tydi_base.specs.WordsLeft.{words_in, words_left}
+use Rattle.std.proofs.Common.{Bool, IsTrue, Option, Some, None, MatchOption, Bor, eqb, suc}
+use Rattle.std.proofs.lemmas.Bool.{eqb-true}
+use Rattle.tydi_base.specs.WordsLeft.{words_after, words_left}
 use Rattle.tydi_base.specs.declared.words_left.WordsLeft.{WordsLeft}
 use Rattle.tydi_base.specs.WordsLeft.{Follows, HasNoSized, IsCut, IsEnd, IsSized, NoCut}
 
--- a text with a space at this place
-pub cut_space : (text : List ℕ) (size : ℕ) (rest : List (List ℕ)) → size < length text → get_or text size 0 ≡ 32
-    → rest ≡ words_of (take (length text - (size + 1)) (drop (size + 1) text)) → IsCut text size (take size text) rest
-cut_space text size rest lt space words =
-    let next : drop size text ≡ get_or text size 0 ∷ drop (size + 1) text = rw add-one (drop-cons text size 0 lt) in
-    let whole : take size text ++ drop size text ≡ text = take-append-drop size text in
-    let after : take (length text - (size + 1)) (drop (size + 1) text) ≡ drop (size + 1) text = take_rest text (size + 1) in
-    record {
-      tail = 32 ∷ drop (size + 1) text;
-      long = length-take-le size text (omega arith);
-      whole = cc;
-      follows = inr (drop (size + 1) text, refl, words ∙ ap words_of after);
-    }
+follows_end : (rest : List ℕ) → IsEnd rest → Follows rest (words_after rest)
+follows_end rest (inl none) = inl (none, ap words_after none)
+follows_end rest (inr more) = inr (more.0, more.1, ap words_after more.1)
+
+-- a text with a space or an end at this place, or another byte
+module _ (text rest : List ℕ) (size : ℕ) (le : size ≤ length text) (is : rest ≡ take (length text - size) (drop size text)) where
+  rest_is : rest ≡ drop size text
+  rest_is = is ∙ take_rest text size
+
+  pub cut_rest : IsEnd rest → IsCut text size (take size text) (words_after rest)
+  cut_rest end = record {
+    tail = rest;
+    long = length-take-le size text le;
+    whole = sym (take-append-drop size text) ∙ ap (λ (tail : List ℕ). take size text ++ tail) (sym rest_is);
+    follows = follows_end rest end;
+  }
+
+  pub cut_no_end : (IsEnd rest → ⊥) → NoCut text size
+  cut_no_end none value tail long whole end =
+      let same : rest ≡ tail = rest_is ∙ ap (drop size) whole ∙ ap (λ (n : ℕ). drop n (value ++ tail)) (sym long) ∙ drop-append_seam value tail in
+      none (subst IsEnd (sym same) end)
 
 -- what stands after the first word of a text
 first_word : (text word : List ℕ) (words : List (List ℕ)) → words_of text ≡ word ∷ words → (tail : List ℕ) × (text ≡ word ++ tail) × IsEnd tail
@@ -72,15 +81,17 @@ pub sized_cut : (key size : ℕ) (text after : List ℕ) (words : List (List ℕ
 sized_cut key size text after words None ne are is cut = rw (are, is) (sized_none key size after cut)
 sized_cut key size text after words (Some x) ne are is cut = rw (are, is) (sized_some key size after x.0.now (words_left x.1) ne cut)
 
--- a text that does not begin with a key and `=`
-pub sized_other : (key size : ℕ) (text : List ℕ) → ((after : List ℕ) → text ≡ key ∷ 61 ∷ after → ⊥) → HasNoSized key size (words_of text)
-sized_other key size text not other others is long =
+-- a text that does not go on with a key and `=` after its first byte
+pub sized_other : (key size : ℕ) (text : List ℕ) → ((first : ℕ) (after : List ℕ) → text ≡ first ∷ key ∷ 61 ∷ after → ⊥) → HasNoSized key size (words_after text)
+sized_other key size [] not other others is long = absurd cc
+sized_other key size (byte ∷ text) not other others is long =
     let first = first_word text (key ∷ 61 ∷ other) others is in
-    not (other ++ first.0) first.1
+    not byte (other ++ first.0) (ap (λ (text : List ℕ). byte ∷ text) first.1)
 
 -- no word begins with a space
-pub sized_space : (size : ℕ) (text : List ℕ) → HasNoSized 32 size (words_of text)
-sized_space size text other others is long =
+pub sized_space : (size : ℕ) (text : List ℕ) → HasNoSized 32 size (words_after text)
+sized_space size [] other others is long = absurd cc
+sized_space size (byte ∷ text) other others is long =
     let each : All (Lacks 32) ((32 ∷ 61 ∷ other) ∷ others) = subst (All (Lacks 32)) is (pieces_of-each_lacks 32 text) in
     let lacks : Lacks 32 (32 ∷ 61 ∷ other) = All-head (Lacks 32) (32 ∷ 61 ∷ other) others each in
     lacks 0 0 (omega arith) refl
@@ -93,11 +104,16 @@ words_of-some text none =
     let one : words_of text ≡ [] ∷ [] = rw empty (pieces_of-lacks 32 [] (All-nil (λ byte. byte ≢ 32))) in
     cc
 
-pub words_in-empty : (rest : Option (Bor (List ℕ))) (result : Bool) → is_some rest ≡ not result → (IsTrue result → words_in rest ≡ []) × (words_in rest ≡ [] → IsTrue result)
-words_in-empty None true is = (λ _. refl, λ _. refl)
-words_in-empty None false is = absurd cc
-words_in-empty (Some text) true is = absurd cc
-words_in-empty (Some text) false is = (λ no. absurd cc, λ none. absurd (words_of-some text.now none))
+pub words_after-empty : (text : List ℕ) (empty : Bool) → empty ≡ eqb (length text) 0 → (IsTrue empty → words_after text ≡ []) × (words_after text ≡ [] → IsTrue empty)
+words_after-empty [] empty is = (λ holds. refl, λ none. is)
+words_after-empty (byte ∷ text) empty is =
+    (λ holds. absurd (let zero : suc (length text) ≡ 0 = eqb-true _ _ (sym is ∙ holds) in omega arith), λ none. absurd (words_of-some text none))
+
+-- the words after a word, from the space on that follows it
+pub words_after-word : (line word after rest : List ℕ) → line ≡ word ++ 32 ∷ after → rest ≡ take (length line - length word) (drop (length word) line) → words_after rest ≡ words_of after
+words_after-word line word after rest whole is =
+    let same : rest ≡ 32 ∷ after = is ∙ take_rest line (length word) ∙ ap (drop (length word)) whole ∙ drop-append_seam word (32 ∷ after) in
+    ap words_after same
 
 -- ---- a value of one byte or two that are no spaces
 

@@ -3,8 +3,7 @@ use Rattle.std.specs.Prelude.{ℕ, ◌+◌, ◌-◌, ◌*◌, ◌/◌, ◌%◌, 
 use Rattle.std.specs.Option.{unwrap_or}
 use Rattle.tydi_base.specs.Bits.{bits_of, number_of_bits, zero_bits}
 use Rattle.tydi_base.specs.declared.decimal.TheConstants.{ZERO}
-use Rattle.tydi_base.specs.declared.hex.TheConstants.{LETTER_A}
-use Rattle.tydi_base.specs.declared.hex_digits.TheConstants.{NO_DIGIT}
+use Rattle.tydi_base.specs.declared.hex.TheConstants.{LETTER_A, NO_DIGIT}
 
 -- the byte of the digit of this value: `0` to `9` and then `a` to `f`
 unfoldable pub hex_digit : ℕ → ℕ

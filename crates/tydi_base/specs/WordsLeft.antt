@@ -1,18 +1,17 @@
 -- The words of a line that are left, and values of a known size among them. This project's own.
-use Rattle.std.specs.Prelude.{◌≡◌, ℕ, List, [], ◌∷◌, ◌++◌, ◌⊎◌, length, Option, Some, None}
-use Rattle.std.specs.Borrow.{Bor}
+use Rattle.std.specs.Prelude.{◌≡◌, ℕ, List, [], ◌∷◌, ◌++◌, ◌⊎◌, length}
 use Rattle.tydi_base.specs.Pieces.{Lacks, words_of}
 use Rattle.tydi_base.specs.declared.pieces.TheConstants.{SPACE}
 use Rattle.tydi_base.specs.declared.words_left.TheConstants.{EQUALS}
 use Rattle.tydi_base.specs.declared.words_left.WordsLeft.{WordsLeft}
 
--- the words of what is left of a line
-abbrev pub words_in : Option (Bor (List ℕ)) → List (List ℕ)
-words_in None = []
-words_in (Some text) = words_of text.now
+-- the words after the first byte of a text, which is a space: none where there is no byte
+abbrev pub words_after : List ℕ → List (List ℕ)
+words_after [] = []
+words_after (space ∷ text) = words_of text
 
 abbrev pub words_left : WordsLeft → List (List ℕ)
-words_left words = words_in words.rest
+words_left words = words_after words.text.now
 
 -- a word ends before this: before nothing, or before a space
 abbrev pub IsEnd : List ℕ → Type 0

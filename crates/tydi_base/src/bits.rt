@@ -66,7 +66,7 @@ impl Bits {
             return Ok(None);
         }
         let mut word = Bits::zeros(alloc, width)?;
-        if word.read_exact_hex(digits) {
+        if word.read_sized_hex(digits) {
             Ok(Some(word))
         } else {
             Ok(None)
@@ -75,8 +75,21 @@ impl Bits {
 
     /// Becomes the word of its width that these hexadecimal digits spell, the highest first. False exactly where they spell
     /// none, as `from_exact_hex` says; then only its width is as before. It takes no memory.
-    #[inline(always)]
     pub fn read_exact_hex(&mut self, digits: &[u8]) -> bool
+        ensures read { IsTrue result → word_at (length self.old) digits.now ≡ Some self.new }
+        ensures none { result ≡ false → word_at (length self.old) digits.now ≡ None }
+        ensures width { length self.new ≡ length self.old }
+    {
+        if digits.len() != self.len.div_ceil(4) {
+            return false;
+        }
+        self.read_sized_hex(digits)
+    }
+
+    /// The same of as many digits as spell a word of its width.
+    #[inline(always)]
+    pub fn read_sized_hex(&mut self, digits: &[u8]) -> bool
+        requires sized { length digits.now ≡ (length self.old + 3) / 4 }
         ensures read { IsTrue result → word_at (length self.old) digits.now ≡ Some self.new }
         ensures none { result ≡ false → word_at (length self.old) digits.now ≡ None }
         ensures width { length self.new ≡ length self.old }
@@ -265,6 +278,9 @@ fn has_ones_from(width: usize, bytes: &[u8]) -> bool
     requires { length bytes.now ≡ (width + 7) / 8 }
     ensures { result ≡ not (no_ones (drop width (unpack bytes.now))) }
 {
+    if bytes.len() == 1 {
+        return has_ones_in(width, bytes);
+    }
     let used = width % 8;
     if used == 0 {
         return false;
@@ -273,10 +289,21 @@ fn has_ones_from(width: usize, bytes: &[u8]) -> bool
     above != 0
 }
 
-// Fills the bytes of a word of this width with the word that these digits spell, or with zeros. False where they spell none.
+// The same of a word of one byte.
+#[inline(always)]
+fn has_ones_in(width: usize, bytes: &[u8]) -> bool
+    requires one { length bytes.now ≡ 1 }
+    requires bytes { length bytes.now ≡ (width + 7) / 8 }
+    ensures { result ≡ not (no_ones (drop width (unpack bytes.now))) }
+{
+    u32::from(bytes[0]) >> width != 0
+}
+
+// Fills the bytes of a word of this width with the word that as many digits spell, or with zeros. False where they spell none.
 #[inline(always)]
 fn fill_or_clear(width: usize, digits: &[u8], bytes: &mut [u8]) -> bool
-    requires { length bytes.old ≡ (width + 7) / 8 }
+    requires bytes { length bytes.old ≡ (width + 7) / 8 }
+    requires digits { length digits.now ≡ (width + 3) / 4 }
     ensures packed { IsPacked width bytes.new }
     ensures word { MatchBool result (word_at width digits.now ≡ Some (take width (unpack bytes.new))) (word_at width digits.now ≡ None) }
 {
@@ -287,16 +314,14 @@ fn fill_or_clear(width: usize, digits: &[u8], bytes: &mut [u8]) -> bool
     spelled
 }
 
-// Fills the bytes of a word of this width with the word that these digits spell. False where they spell none.
+// Fills the bytes of a word of this width with the word that as many digits spell. False where they spell none.
 #[inline(always)]
 fn fill_word(width: usize, digits: &[u8], bytes: &mut [u8]) -> bool
-    requires { length bytes.old ≡ (width + 7) / 8 }
+    requires bytes { length bytes.old ≡ (width + 7) / 8 }
+    requires digits { length digits.now ≡ (width + 3) / 4 }
     ensures packed { IsTrue result → IsPacked width bytes.new }
     ensures word { MatchBool result (word_at width digits.now ≡ Some (take width (unpack bytes.new))) (word_at width digits.now ≡ None) }
 {
-    if digits.len() != width.div_ceil(4) {
-        return false;
-    }
     if !fill_digits(digits, bytes) {
         return false;
     }

@@ -1,6 +1,6 @@
 //! The number that hexadecimal digits spell.
 
-ghost use Rattle.std.specs.Prelude.{◌≡◌, ◌<◌, ◌≤◌, length, option_map};
+ghost use Rattle.std.specs.Prelude.{◌≡◌, ℕ, ◌<◌, ◌≤◌, length, option_map, IfNone, IfSome, Some};
 ghost use Rattle.tydi_base.specs.Bits.{number_of_bits};
 ghost use Rattle.tydi_base.specs.Hex.{bits_of_digits};
 
@@ -45,4 +45,30 @@ pub fn hex_number(digits: &[u8]) -> Option<u128>
         return number_of_many(digits);
     }
     Some(u128::from(number_of_few(digits)?))
+}
+
+/// The number that hexadecimal digits spell, the highest first, where it is not above this one.
+// The test on one digit stands here, before room is made for what many digits spell.
+#[inline(always)]
+pub fn hex_number_within(most: u128, digits: &[u8]) -> Option<u128>
+    requires { length digits.now ≤ 32 }
+    ensures some { IfSome result (λ number. (option_map number_of_bits (bits_of_digits digits.now) ≡ Some number) × (number ≤ most)) }
+    ensures none { IfNone result ((number : ℕ) → option_map number_of_bits (bits_of_digits digits.now) ≡ Some number → most < number) }
+{
+    if digits.len() == 1 {
+        return digit_within(most, digits);
+    }
+    let number = hex_number(digits)?;
+    if number > most { None } else { Some(number) }
+}
+
+/// The same of one digit.
+#[inline(always)]
+fn digit_within(most: u128, digits: &[u8]) -> Option<u128>
+    requires { length digits.now ≡ 1 }
+    ensures some { IfSome result (λ number. (option_map number_of_bits (bits_of_digits digits.now) ≡ Some number) × (number ≤ most)) }
+    ensures none { IfNone result ((number : ℕ) → option_map number_of_bits (bits_of_digits digits.now) ≡ Some number → most < number) }
+{
+    let number = u128::from(digit_value(digits[0])?);
+    if number > most { None } else { Some(number) }
 }

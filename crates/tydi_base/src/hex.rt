@@ -17,6 +17,27 @@ pub fn hexadecimal_is_read_as_spelled()
 /// The first digit that is a letter.
 pub(crate) const LETTER_A: u8 = b'a';
 
+/// What stands for the value of a byte that is no digit.
+pub(crate) const NO_DIGIT: u8 = 255;
+
+/// For each byte, the value of the digit that it is, or `NO_DIGIT`.
+const VALUES: [u8; 256] = [
+    255, 255, 255, 255, 255, 255, 255, 255, 255, 255, 255, 255, 255, 255, 255, 255, 255, 255, 255,
+    255, 255, 255, 255, 255, 255, 255, 255, 255, 255, 255, 255, 255, 255, 255, 255, 255, 255, 255,
+    255, 255, 255, 255, 255, 255, 255, 255, 255, 255, 0, 1, 2, 3, 4, 5, 6, 7, 8, 9, 255, 255, 255,
+    255, 255, 255, 255, 255, 255, 255, 255, 255, 255, 255, 255, 255, 255, 255, 255, 255, 255, 255,
+    255, 255, 255, 255, 255, 255, 255, 255, 255, 255, 255, 255, 255, 255, 255, 255, 255, 10, 11,
+    12, 13, 14, 15, 255, 255, 255, 255, 255, 255, 255, 255, 255, 255, 255, 255, 255, 255, 255, 255,
+    255, 255, 255, 255, 255, 255, 255, 255, 255, 255, 255, 255, 255, 255, 255, 255, 255, 255, 255,
+    255, 255, 255, 255, 255, 255, 255, 255, 255, 255, 255, 255, 255, 255, 255, 255, 255, 255, 255,
+    255, 255, 255, 255, 255, 255, 255, 255, 255, 255, 255, 255, 255, 255, 255, 255, 255, 255, 255,
+    255, 255, 255, 255, 255, 255, 255, 255, 255, 255, 255, 255, 255, 255, 255, 255, 255, 255, 255,
+    255, 255, 255, 255, 255, 255, 255, 255, 255, 255, 255, 255, 255, 255, 255, 255, 255, 255, 255,
+    255, 255, 255, 255, 255, 255, 255, 255, 255, 255, 255, 255, 255, 255, 255, 255, 255, 255, 255,
+    255, 255, 255, 255, 255, 255, 255, 255, 255, 255, 255, 255, 255, 255, 255, 255, 255, 255, 255,
+    255, 255, 255, 255,
+];
+
 /// The value of a hexadecimal digit, `0` to `9` or `a` to `f`. None where the byte is none.
 // It branches on nothing but whether the byte is a digit, since that is foreseen, and which digit it is is not.
 #[inline(always)]
@@ -25,13 +46,8 @@ pub fn digit_value(byte: u8) -> Option<u8>
     ensures value { result ≡ digit_of byte }
     ensures below { IfSome result (λ value. value < 16) }
 {
-    let letter = (byte >= LETTER_A) as u8;
-    let value = byte.wrapping_sub(ZERO + (LETTER_A - 10 - ZERO) * letter);
-    if value < 10 + 6 * letter {
-        Some(value)
-    } else {
-        None
-    }
+    let value = VALUES[usize::from(byte)];
+    if value < 16 { Some(value) } else { None }
 }
 
 // The value of two digits, the first of them the higher.

@@ -5,12 +5,9 @@ ghost use Rattle.tydi_base.specs.Bits.{unpack};
 ghost use Rattle.tydi_base.specs.Hex.{bits_of_digits, marked_digit, whole_bytes};
 
 use crate::decimal::ZERO;
-use crate::hex::{LETTER_A, byte_value, digit_value};
+use crate::hex::{LETTER_A, NO_DIGIT, byte_value, digit_value};
 use std::simd::Simd;
 use std::simd::prelude::*;
-
-/// What stands for the value of a byte that is no digit.
-const NO_DIGIT: u8 = 255;
 
 /// Fills bytes with these digits, the last two in the first byte. False where one of them is no digit.
 // Most words of a stream have one byte.

@@ -33,7 +33,7 @@ pub use boxed::Boxed;
 pub use decimal::{
     decimal_length, decimals_are_read_as_spelled, number_of_digits, read_decimal, write_decimal,
 };
-pub use digit_numbers::hex_number;
+pub use digit_numbers::{hex_number, hex_number_within};
 pub use frac::Frac;
 pub use hex::{digit_value, hex_length, hexadecimal_is_read_as_spelled};
 pub use hex_word::BitsFault;

@@ -2,7 +2,8 @@
 
 ghost use Rattle.std.specs.Prelude.{◌≡◌, ◌↔◌, [], ◌∷◌, IfSome, IsTrue, List, MatchOption, ℕ};
 ghost use Rattle.tydi_base.specs.Pieces.{words_of};
-ghost use Rattle.tydi_base.specs.WordsLeft.{HasNoSized, IsCut, IsSized, NoCut, words_left};
+ghost use Rattle.tydi_base.specs.WordsLeft.{HasNoSized, IsCut, IsEnd, IsSized, NoCut, words_after, words_left};
+ghost use Rattle.tydi_base.specs.declared.pieces.TheConstants.{SPACE};
 ghost use Rattle.tydi_base.specs.declared.words_left.TheConstants.{EQUALS};
 
 use crate::pieces::{SPACE, first_piece};
@@ -13,23 +14,38 @@ pub const EQUALS: u8 = b'=';
 /// The words of a line that are left, with one space between each two.
 #[derive(Clone, Copy)]
 pub struct WordsLeft<'a> {
-    /// What is left of the line. None where no word is left.
-    rest: Option<&'a [u8]>,
+    /// What is left of the line, with the space before its first word. Empty where no word is left.
+    text: &'a [u8],
 }
 
 impl<'a> WordsLeft<'a> {
-    /// The words of a line.
-    pub fn of(line: &'a [u8]) -> WordsLeft<'a>
-        ensures { words_left result ≡ words_of line.now }
+    /// The words after the space that a text begins with. None where the text is empty.
+    #[inline(always)]
+    pub fn after_space(text: &'a [u8]) -> WordsLeft<'a>
+        ensures { words_left result ≡ words_after text.now }
     {
-        WordsLeft { rest: Some(line) }
+        WordsLeft { text }
     }
 
     /// No words.
     pub fn none() -> WordsLeft<'a>
         ensures { words_left result ≡ [] }
     {
-        WordsLeft { rest: None }
+        WordsLeft {
+            text: b"".as_slice(),
+        }
+    }
+
+    /// The first word of a line, and the words after it.
+    #[cold]
+    #[inline(never)]
+    pub fn first_of(line: &'a [u8]) -> (&'a [u8], WordsLeft<'a>)
+        ensures { words_of line.now ≡ result.0.now ∷ words_left result.1 }
+    {
+        match first_piece(line, SPACE) {
+            Some((word, _)) => (word, WordsLeft::after_space(&line[word.len()..])),
+            None => (line, WordsLeft::none()),
+        }
     }
 
     /// The first word, and the words after it. None exactly where no word is left.
@@ -38,11 +54,11 @@ impl<'a> WordsLeft<'a> {
     pub fn next_word(self) -> Option<(&'a [u8], WordsLeft<'a>)>
         ensures { MatchOption result (words_left self.entry ≡ []) (λ x. words_left self.entry ≡ x.0.now ∷ words_left x.1) }
     {
-        let text = self.rest?;
-        match first_piece(text, SPACE) {
-            Some((word, rest)) => Some((word, WordsLeft { rest: Some(rest) })),
-            None => Some((text, WordsLeft { rest: None })),
+        let text = self.text;
+        if text.is_empty() {
+            return None;
         }
+        Some(WordsLeft::first_of(&text[1..]))
     }
 
     /// The value of the first word, where that can be this key, `=` and so many bytes; and the words after it. The value is
@@ -51,11 +67,10 @@ impl<'a> WordsLeft<'a> {
     pub fn sized_value(self, key: u8, size: usize) -> Option<(&'a [u8], WordsLeft<'a>)>
         ensures { MatchOption result (HasNoSized key size (words_left self.entry)) (λ x. IsSized key size (words_left self.entry) x.0.now (words_left x.1)) }
     {
-        let text = self.rest?;
         if key == SPACE {
             return None;
         }
-        match after_key(key, text) {
+        match after_key(key, self.text) {
             Some(after) => cut(after, size),
             None => None,
         }
@@ -84,19 +99,19 @@ impl<'a> WordsLeft<'a> {
     pub fn is_empty(self) -> bool
         ensures { IsTrue result ↔ (words_left self.entry ≡ []) }
     {
-        self.rest.is_none()
+        self.text.is_empty()
     }
 }
 
-/// What follows this key and `=` at the front of a text.
+/// What follows a first byte, this key and `=` in a text.
 #[inline(always)]
 fn after_key(key: u8, text: &[u8]) -> Option<&[u8]>
-    ensures { MatchOption result ((after : List ℕ) → text.now ≡ key ∷ EQUALS ∷ after → ⊥) (λ after. text.now ≡ key ∷ EQUALS ∷ after.now) }
+    ensures { MatchOption result ((first : ℕ) (after : List ℕ) → text.now ≡ first ∷ key ∷ EQUALS ∷ after → ⊥) (λ after. (first : ℕ) × (text.now ≡ first ∷ key ∷ EQUALS ∷ after.now)) }
 {
-    if text.len() < 2 || !are_both(text[0], text[1], key, EQUALS) {
+    if text.len() < 3 || !are_both(text[1], text[2], key, EQUALS) {
         return None;
     }
-    Some(&text[2..])
+    Some(&text[3..])
 }
 
 /// Whether two bytes are these, compared at once.
@@ -112,11 +127,23 @@ fn are_both(first: u8, second: u8, one: u8, other: u8) -> bool
 fn cut(text: &[u8], size: usize) -> Option<(&[u8], WordsLeft<'_>)>
     ensures { MatchOption result (NoCut text.now size) (λ x. IsCut text.now size x.0.now (words_left x.1)) }
 {
-    if text.len() == size {
-        return Some((text, WordsLeft::none()));
+    if text.len() < size {
+        return None;
     }
-    if text.len() > size && text[size] == SPACE {
-        return Some((&text[..size], WordsLeft::of(&text[size + 1..])));
+    let rest = &text[size..];
+    if !is_end(rest) {
+        return None;
     }
-    None
+    Some((&text[..size], WordsLeft::after_space(rest)))
+}
+
+/// Whether a word ends before this.
+#[inline(always)]
+fn is_end(rest: &[u8]) -> bool
+    ensures { IsTrue result ↔ IsEnd rest.now }
+{
+    if rest.is_empty() {
+        return true;
+    }
+    rest[0] == SPACE
 }

@@ -8,4 +8,4 @@ use Rattle.complexity_rules.proofs.tails.tail_after.Goals as goal
 pub returns : goal.returns
 returns c done is =
     let carried = items_of c.args.p.now c.args.transfer.now in
-    c.walk_over.ensures.found.last ∙ ap (λ (tail : Option Tail). tail_over tail carried) is ∙ sym (tail_of-over done carried)
+    c.kind.ensures ∙ c.walk_over.ensures.found.last ∙ ap (λ (tail : Option Tail). tail_over tail carried) (c.of.ensures ∙ is) ∙ sym (tail_of-over done carried)

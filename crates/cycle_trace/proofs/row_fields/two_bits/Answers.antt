@@ -1,7 +1,10 @@
-use Rattle.cycle_trace.proofs.RowStartLemmas.{row_start-bits}
+use Rattle.std.proofs.Common.{◌∙◌, arith, sym}
+use Rattle.std.proofs.Math.Facts.{Fits-lt-pow}
+use Rattle.cycle_trace.proofs.RowStartLemmas.{row_start-front}
 use Rattle.cycle_trace.proofs.row_fields.two_bits.Goals as goal
 
 pub returns : goal.returns
 returns c =
-    row_start-bits c.args.line.now c.in_ok-valid.valid c.in_ok-ready.ready c.if-line-lt4.false c.if-line-ne-SPACE.false c.if-line-ne-SPACE-2.false
-    c.in_ok-valid.ensures.plain c.in_ok-ready.ensures.plain c.in_ok-valid.ensures.bit c.in_ok-ready.ensures.bit
+    row_start-front c.args.line.now _ _ c.bit_byte.result c.bit_byte-2.result c.bit_byte.ensures c.bit_byte-2.ensures c.bit_byte.type_inv c.bit_byte-2.type_inv
+    (omega (arith, c.if-line-lt4.false)) (Fits-lt-pow (c.type_inv.line 0)) (Fits-lt-pow (c.type_inv.line 1)) (Fits-lt-pow (c.type_inv.line 2))
+    (sym c.four_bytes-front.ensures ∙ c.if-front-four_bytes.false ∙ c.four_bytes.ensures)

@@ -1,11 +1,7 @@
 use Rattle.std.proofs.Common.{arith}
-use Rattle.tydi_base.proofs.HexBytes.{word_at-length, word_at-none}
+use Rattle.tydi_base.proofs.HexBytes.{word_at-none}
 use Rattle.tydi_base.proofs.HexFilling.{filled}
 use Rattle.tydi_base.proofs.bits.fill_word.Goals as goal
-
-pub returns-then-digits-div_ceil-clause-word : goal.returns-then-digits-div_ceil-clause-word
-returns-then-digits-div_ceil-clause-word c =
-    word_at-length c.args.width c.args.digits.now (λ same. c.if-digits-div_ceil.true (omega (arith, same)))
 
 pub returns-then-not-fill_digits-clause-word : goal.returns-then-not-fill_digits-clause-word
 returns-then-not-fill_digits-clause-word c =

@@ -1,4 +1,4 @@
-use Rattle.std.proofs.Common.{ℕ, List, map, ap, ◌∙◌, arith, take}
+use Rattle.std.proofs.Common.{ℕ, List, map, ap, ◌∙◌, arith}
 use Rattle.std.proofs.lemmas.List.{take_all}
 use Rattle.tydi_base.specs.Hex.{marked_digit}
 use Rattle.tydi_base.proofs.HexLanes.{half_block_none, half_block_some}

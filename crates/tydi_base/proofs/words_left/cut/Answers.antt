@@ -1,5 +1,6 @@
-use Rattle.tydi_base.proofs.SizedLemmas.{cut_space}
+use Rattle.std.proofs.Common.{refl, arith}
+use Rattle.tydi_base.proofs.SizedLemmas.{cut_rest}
 use Rattle.tydi_base.proofs.words_left.cut.Goals as goal
 
-pub returns-then-text-size-eq-SPACE : goal.returns-then-text-size-eq-SPACE
-returns-then-text-size-eq-SPACE c = cut_space c.args.text.now c.args.size _ c.if-text-size-2.true c.if-text-size-eq-SPACE.true c.of.ensures
+pub returns : goal.returns
+returns c = rw c.after_space.ensures (cut_rest c.args.text.now _ c.args.size (omega (arith, c.if-text-size.false)) refl (c.is_end.ensures.0 c.if-not-is_end.false))

@@ -15,7 +15,8 @@ pub returns-clause-found : goal.returns-clause-found
 returns-clause-found c begins found =
     let p = c.args.p.now in
     let t = c.args.transfer.now in
-    subst (Finds p.dims begins (parts_below (lane_items p t) c.args.to))
+    rw c.element.ensures
+    (subst (Finds p.dims begins (parts_below (lane_items p t) c.args.to))
     (some_elements p.dims _ c.active_between-elements.result _ c.args.self c.active_between-elements.ensures.lanes c.if-elements-eq0.false
     (ap (λ (n : ℕ). c.args.self.packets + n) (c.packets_among.ensures.packets ∙ ap (λ (n : ℕ). cond (p.dims == 0) n 0) c.active_between-elements.ensures.lanes)))
-    (Finds-unmarked p t begins c.args.from c.args.to c.args.self c.requires.order c.requires.unmarked found)
+    (Finds-unmarked p t begins c.args.from c.args.to c.args.self c.requires.order c.requires.unmarked found))
