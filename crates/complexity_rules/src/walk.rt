@@ -295,20 +295,20 @@ fn chosen(first: bool, one: &Walk, other: &Walk) -> Walk
     ensures { result ≡ cond first one.now other.now }
 {
     Walk {
-        tail: if first { one.tail } else { other.tail },
-        active: if first { one.active } else { other.active },
-        first_close: if first {
-            one.first_close
-        } else {
-            other.first_close
-        },
-        misplaced: if first {
-            one.misplaced
-        } else {
-            other.misplaced
-        },
-        packets: if first { one.packets } else { other.packets },
+        tail: one_of(first, one.tail, other.tail),
+        active: one_of(first, one.active, other.active),
+        first_close: one_of(first, one.first_close, other.first_close),
+        misplaced: one_of(first, one.misplaced, other.misplaced),
+        packets: one_of(first, one.packets, other.packets),
     }
+}
+
+/// One of two, of which both are there.
+#[inline(always)]
+fn one_of<T: Copy>(first: bool, one: T, other: T) -> T
+    ensures { result ≡ cond first one other }
+{
+    if first { one } else { other }
 }
 
 /// Whether one of two holds. It looks at both, since neither is foreseen.
