@@ -15,7 +15,7 @@ use Rattle.til_lexer.specs.Pieces.{piece_at}
 use Rattle.til_lexer.specs.Places.{start, place_after, place_past}
 use Rattle.til_lexer.specs.Spans.{is_space, space_length}
 use Rattle.til_lexer.specs.Spelling.{AreSpelled, HasForm, IsApart, IsSpelled, Spelled, SpelledTokensAreRead, SpellingsAreTheirTexts, own_text, runs_on, spelled_text, token_spelled, tokens_spelled}
-use Rattle.til_lexer.specs.Tokens.{tokens_from, tokens_in, with_front}
+use Rattle.til_lexer.specs.Tokens.{tokens_from, tokens_in, tokens_of, with_front}
 use Rattle.til_lexer.proofs.CutLemmas.{is_space-ascii}
 use Rattle.til_lexer.proofs.FormBegins.{ascii_utf8, first_of_all, form_begins, form_utf8}
 use Rattle.til_lexer.proofs.LexLemmas.{tokens_from-piece, with_front-nil}
@@ -92,22 +92,22 @@ space_stops kinds.Point byte is = refl
 space_stops kinds.DoubleDash byte is = refl
 
 -- how a text of tokens begins: with ASCII that is no white space, or it is empty
-record Opens (text : List ℕ) : Type 0 where
+pub record Opens (text : List ℕ) : Type 0 where
   pub utf8 : IsUtf8 text
   pub ascii : get_or text 0 0 < 128
   pub no_space : is_space (get_or text 0 0) ≡ false
 
-gap_utf8 : (gap : List ℕ) → list_all is_space gap ≡ true → IsUtf8 gap
+pub gap_utf8 : (gap : List ℕ) → list_all is_space gap ≡ true → IsUtf8 gap
 gap_utf8 gap all = ascii_utf8 gap (all_ascii is_space is_space-ascii gap all)
 
 -- the first byte of the text of tokens is that of the first token
-first_spelled : (piece : Spelled) (pieces : List Spelled) → IsSpelled piece → get_or (spelled_text (piece ∷ pieces)) 0 0 ≡ get_or piece.spelling 0 0
+pub first_spelled : (piece : Spelled) (pieces : List Spelled) → IsSpelled piece → get_or (spelled_text (piece ∷ pieces)) 0 0 ≡ get_or piece.spelling 0 0
 first_spelled piece pieces is =
     let some = (form_begins piece.kind piece.spelling is.form).some in
     first_of_front (piece.spelling ++ piece.gap) (spelled_text pieces) (omega (arith, length-append piece.spelling piece.gap))
     ∙ first_of_front piece.spelling piece.gap some
 
-opens : (pieces : List Spelled) → AreSpelled pieces → Opens (spelled_text pieces)
+pub opens : (pieces : List Spelled) → AreSpelled pieces → Opens (spelled_text pieces)
 opens [] are = record { utf8 = IsUtf8-nil; ascii = omega arith; no_space = refl }
 opens (piece ∷ pieces) are =
     let is = are.0 in
@@ -157,6 +157,11 @@ read place (piece ∷ pieces) are =
 pub spelled_tokens-read : SpelledTokensAreRead
 spelled_tokens-read pieces are = read start pieces are
 
+-- so they are behind white space
+pub spelled_behind-read : (gap : List ℕ) (pieces : List Spelled) → list_all is_space gap ≡ true → AreSpelled pieces
+    → tokens_of (gap ++ spelled_text pieces) ≡ Ok (tokens_spelled (place_past start gap) pieces)
+spelled_behind-read gap pieces space are = gap_step start gap (spelled_text pieces) space (opens pieces are).no_space ∙ read (place_past start gap) pieces are
+
 -- ---- the text of each token
 
 -- what is made of the kind, the text and the place of each token that is spelled
@@ -187,10 +192,11 @@ made_from make text front place (piece ∷ pieces) whole offset =
     ap (λ l. make piece.kind l place ∷ map (λ (token : Token). make token.kind (own_text text token) token.place) (tokens_spelled (place_past place bytes) pieces)) own
     ∙ ap (λ l. make piece.kind piece.spelling place ∷ l) further
 
--- what is made of each token of a text that is spelled, from its kind, its own text and its place
-pub map-tokens_spelled : {A : Type 0} (make : TokenKind → List ℕ → Place → A) (pieces : List Spelled)
-    → map (λ (token : Token). make token.kind (own_text (spelled_text pieces) token) token.place) (tokens_spelled start pieces) ≡ made_of make start pieces
-map-tokens_spelled make pieces = made_from make (spelled_text pieces) [] start pieces refl refl
+-- what is made of each token that is spelled behind white space, from its kind, its own text and its place
+pub map-tokens_spelled : {A : Type 0} (make : TokenKind → List ℕ → Place → A) (gap : List ℕ) (pieces : List Spelled)
+    → map (λ (token : Token). make token.kind (own_text (gap ++ spelled_text pieces) token) token.place) (tokens_spelled (place_past start gap) pieces)
+    ≡ made_of make (place_past start gap) pieces
+map-tokens_spelled make gap pieces = made_from make (gap ++ spelled_text pieces) gap (place_past start gap) pieces refl (offset_past start gap ∙ omega arith)
 
 made_of-spellings : (place : Place) (pieces : List Spelled)
     → made_of (λ kind text _. text) place pieces ≡ map (λ (piece : Spelled). piece.spelling) pieces
@@ -198,4 +204,4 @@ made_of-spellings place [] = refl
 made_of-spellings place (piece ∷ pieces) = ap (λ l. piece.spelling ∷ l) (made_of-spellings (place_past place (piece.spelling ++ piece.gap)) pieces)
 
 pub own_text-spelled : SpellingsAreTheirTexts
-own_text-spelled pieces = map-tokens_spelled (λ kind text _. text) pieces ∙ made_of-spellings start pieces
+own_text-spelled pieces = map-tokens_spelled (λ kind text _. text) [] pieces ∙ made_of-spellings start pieces

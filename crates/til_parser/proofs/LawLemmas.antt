@@ -1,5 +1,5 @@
 -- No text spells two trees.
-use Rattle.std.proofs.Common.{◌≡◌, ℕ, max, List, [], ◌∷◌, All, length, Ok, sym, ◌∙◌, subst, arith}
+use Rattle.std.proofs.Common.{◌≡◌, ◌≤◌, ℕ, max, List, [], ◌∷◌, All, length, Ok, sym, ◌∙◌, subst, arith}
 use Rattle.std.proofs.lemmas.List.Elements.{All-nil, All-cons, All-head, All-tail}
 use Rattle.std.specs.Str.{IsUtf8}
 use Rattle.til_lexer.proofs.FormLemmas.{tokens-have_form}
@@ -9,14 +9,17 @@ use Rattle.til_lexer.specs.Slices.{IsTokenOf}
 use Rattle.til_lexer.specs.Tokens.{tokens_of}
 use Rattle.til_lexer.specs.declared.token.Token.{Token}
 use Rattle.til_parser.specs.declared.fault.ParseFault.{ParseFault}
-use Rattle.til_parser.specs.declared.tree.Ast.{Ast}
-use Rattle.til_parser.specs.Grammar.{Spells}
+use Rattle.til_parser.specs.declared.tree.{Ast.Ast, AstKind.AstKind, AstPort.AstPort}
+use Rattle.til_parser.specs.declared.tree.AstKind.TheVariants as decls
+use Rattle.til_parser.specs.declared.tree.AstPorts.TheVariants as ports
+use Rattle.til_parser.specs.Grammar.{Spells, PortsWithin, KindWithin, IsWithin}
 use Rattle.til_parser.specs.Faults.{NamesToken, IsFaultOf, TreesOrFaults}
 use Rattle.til_parser.specs.Laws.{TreesAreApart}
+use Rattle.til_parser.specs.Tree.{plain, depth}
 use Rattle.til_parser.specs.Lexemes.{Lexeme, HasFormIn, IsFormed, lexeme_of, lexemes_of}
 use Rattle.til_parser.proofs.LexemeLemmas.{length-lexemes}
-use Rattle.til_parser.proofs.LevelLemmas.{IsWithin-more, IsWithin-some}
 use Rattle.til_parser.proofs.rules.ParseLemmas.{project_complete, tree_or_fault, named}
+use Rattle.tydi_reading.specs.Lists.{EachIs}
 use Rattle.tydi_reading.specs.Reading.{Outcome, took}
 
 -- what holds of each token of a text holds of it as a lexeme
@@ -35,14 +38,44 @@ pub placed_of : (text : List ℕ) (tokens : List Token) → IsUtf8 text → toke
 placed_of text tokens utf8 lexed =
     All-lexemes text (IsTokenOf text) (λ lexeme. IsPlaceIn text lexeme.place) (λ token is. token-stands text token is) tokens (tokens_of-are text tokens utf8 lexed)
 
+-- ---- how deep types nest
+
+-- some types nest no deeper than so many levels, from this count of levels on
+record NestAt (Within : ℕ → Type 0) : Type 0 where
+  least : ℕ
+  within : (levels : ℕ) → least ≤ levels → Within levels
+
+each-nests : {X : Type 0} {Within : ℕ → X → Type 0} → ((x : X) → NestAt (λ n. Within n x)) → (all : List X) → NestAt (λ n. EachIs (Within n) all)
+each-nests one [] = record { least = 0; within = λ n le. tt }
+each-nests one (x ∷ all) =
+    let first = one x in
+    let more = each-nests one all in
+    record { least = max first.least more.least; within = λ n le. (first.within n (omega arith), more.within n (omega arith)) }
+
+ports-nest : (all : List AstPort) → NestAt (λ n. PortsWithin n all)
+ports-nest = each-nests (λ port. record { least = depth (plain port.ltype); within = λ n le. le })
+
+kind-nests : (kind : AstKind) → NestAt (λ n. KindWithin n kind)
+kind-nests (decls.Alias ltype) = record { least = depth (plain ltype); within = λ n le. le }
+kind-nests (decls.Interface all) = ports-nest all
+kind-nests (decls.Streamlet (ports.Own all)) = ports-nest all
+kind-nests (decls.Streamlet (ports.Named target)) = record { least = 0; within = λ n le. tt }
+kind-nests (decls.Impl target body) = record { least = 0; within = λ n le. tt }
+kind-nests (decls.Test target port value plan) = record { least = 0; within = λ n le. tt }
+
+tree-nests : (ast : Ast) → NestAt (λ n. IsWithin n ast)
+tree-nests ast = each-nests (λ namespace. each-nests (λ decl. kind-nests decl.kind) namespace.decls) ast.namespaces
+
+-- ---- the laws
+
 -- tokens with their form spell one tree at most
 spelled_apart : (ts : List Lexeme) (one other : Ast) → All IsFormed ts → Spells one ts → Spells other ts → one ≡ other
 spelled_apart ts one other formed s s' =
-    let w = IsWithin-some one in
-    let w' = IsWithin-some other in
-    let levels = max w.0 w'.0 in
-    let read = project_complete levels ts one formed (IsWithin-more w.0 levels one (omega arith) w.1) s in
-    let read' = project_complete levels ts other formed (IsWithin-more w'.0 levels other (omega arith) w'.1) s' in
+    let w = tree-nests one in
+    let w' = tree-nests other in
+    let levels = max w.least w'.least in
+    let read = project_complete levels ts one formed (w.within levels (omega arith)) s in
+    let read' = project_complete levels ts other formed (w'.within levels (omega arith)) s' in
     let same : ◌≡◌ {A = Outcome Lexeme Ast} (took one []) (took other []) = sym read ∙ read' in cc
 
 pub trees_apart : TreesAreApart

@@ -1,22 +1,20 @@
 -- The tokens that are left.
-use Rattle.std.proofs.Common.{◌≡◌, ◌==◌, ◌+◌, ◌-◌, ◌<◌, ◌≤◌, ◌⊎◌, inl, inr, ℕ, suc, true, false, List, [], ◌∷◌, length, get_or, slice_index_or, All}
-use Rattle.std.proofs.Common.{length-append, refl, sym, ap, ◌∙◌, subst, rules, arith}
+use Rattle.std.proofs.Common.{◌≡◌, ◌==◌, ◌+◌, ◌-◌, ◌<◌, ◌≤◌, ◌⊎◌, inl, inr, ℕ, suc, true, false, cond, List, [], ◌∷◌, length, get_or, slice_index_or, All}
+use Rattle.std.proofs.Common.{IsUtf8, IsCharBoundary, length-append, refl, sym, ap, ◌∙◌, subst, rules, arith}
 use Rattle.std.proofs.Math.Seq.{get_or-append_seam}
+use Rattle.std.proofs.lemmas.List.Elements.{All-head}
 use Rattle.std.proofs.lemmas.Str.{IsCharBoundary-after_ascii, IsCharBoundary-before_ascii}
-use Rattle.std.specs.Str.{IsUtf8, IsCharBoundary}
 use denote.Enum.Bare.{same_true}
+use Rattle.tydi_reading.specs.declared.fault.Fault.TheVariants as reading
+use Rattle.tydi_reading.specs.Reading.{Outcome, stopped, too_deep, tells}
 use Rattle.til_lexer.specs.Spelling.{HasForm, IsBetween, own_text}
-use Rattle.til_lexer.specs.declared.token.TokenKind.TheVariants as kinds
 use Rattle.til_lexer.specs.contracts.token.TokenKind.{the_type}
 use Rattle.til_lexer.specs.declared.token.Token.{Token}
 use Rattle.til_lexer.specs.declared.token.TokenKind.{TokenKind}
+use Rattle.til_lexer.specs.declared.token.TokenKind.TheVariants as kinds
+use Rattle.til_parser.specs.declared.ltype.AstType.{AstType}
 use Rattle.til_parser.specs.Lexemes.{Lexeme, HasFormIn, lexeme_of, lexemes_of}
 use Rattle.til_parser.specs.Reading.{same_kind, begins_type}
-use Rattle.std.proofs.Common.{cond}
-use Rattle.std.proofs.lemmas.List.Elements.{All-head}
-use Rattle.tydi_reading.specs.declared.fault.Fault.TheVariants as reading
-use Rattle.tydi_reading.specs.Reading.{Outcome, stopped, too_deep, tells}
-use Rattle.til_parser.specs.declared.ltype.AstType.{AstType}
 
 -- as many are left as there are
 pub length-lexemes : (text : List ℕ) (tokens : List Token) → length (lexemes_of text tokens) ≡ length tokens
@@ -48,13 +46,10 @@ pub TooDeep-first : (text : List ℕ) (tokens : List Token) (token : Token) → 
     → ◌≡◌ {A = Outcome Lexeme AstType} (too_deep begins_type (lexemes_of text tokens)) (stopped reading.TooDeep (lexemes_of text tokens))
 TooDeep-first text [] token formed some same = absurd (omega arith)
 TooDeep-first text (t ∷ tokens) token formed some same =
-    let is : t.kind ≡ kinds.Word = kind_of t.kind same in
+    let is : t.kind ≡ kinds.Word = word_kind t.kind same in
     let form = subst (λ kind. HasForm kind (own_text text t)) is (All-head (HasFormIn text) t tokens formed) in
     let test : begins_type (lexeme_of text t) ≡ true = rw (same) form in
     ap (λ b. stopped (cond b reading.TooDeep reading.Refused) (lexemes_of text (t ∷ tokens))) test
-  where
-    kind_of : (kind : TokenKind) → same_kind kind kinds.Word ≡ true → kind ≡ kinds.Word
-    kind_of kind same = word_kind kind same
 
 -- ---- what stands between two marks
 

@@ -3,7 +3,6 @@ mod texts
 mod printed
 mod rules
 pub mod spelled
-mod LevelLemmas
 mod LexemeLemmas
 pub mod PlainLemmas
 mod PlacesLemmas

@@ -1,8 +1,4 @@
 pub mod PrintedForms
-pub mod PrintedTokens
 pub mod PrintedLeaves
-pub mod PrintedLists
-pub mod PrintedTypes
-pub mod PrintedBodies
-pub mod PrintedDecls
+pub mod PrintedTrees
 pub mod ReadAgain

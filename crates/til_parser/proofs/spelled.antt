@@ -1,4 +1,3 @@
 pub mod SpelledLeaves
-pub mod SpelledArguments
 pub mod SpelledTrees
 pub mod SpelledCounts

@@ -1,3 +1,2 @@
 pub mod NumberTextLemmas
-pub mod TypeTexts
 pub mod WrittenLemmas

@@ -3,6 +3,8 @@ use Rattle.std.specs.Prelude.{ℕ, zero, suc, ◌+◌, ◌*◌, ◌/◌, ◌%◌
 use Rattle.std.specs.Prelude.{if◌then◌else◌, codes, decimal}
 use Rattle.std.specs.List.{flat_map}
 use Rattle.tydi_base.specs.Frac.{Fraction}
+use Rattle.til_parser.specs.declared.ltype.AstPart.{AstPart}
+use Rattle.til_parser.specs.declared.ltype.AstStream.{AstStream}
 use Rattle.til_parser.specs.declared.tree.Ast.{Ast}
 use Rattle.til_parser.specs.declared.tree.AstBody.{AstBody}
 use Rattle.til_parser.specs.declared.tree.AstBody.TheVariants as bodies
@@ -18,7 +20,12 @@ use Rattle.til_parser.specs.declared.tree.AstPorts.TheVariants as ports
 use Rattle.til_parser.specs.declared.tree.AstStmt.{AstStmt}
 use Rattle.til_parser.specs.declared.tree.AstStmt.TheVariants as stmts
 use Rattle.til_parser.specs.Grammar.{sync_word, direction_word, truth_word, way_word}
-use Rattle.til_parser.specs.Tree.{Ltype, null, bits, group, union, stream, path, Parts, no_parts, part, Settings, PlainPart, PlainStream, plain}
+use Rattle.til_parser.specs.Tree.{Ltype, null, bits, group, union, stream, path, Parts, no_parts, part, Settings, plain, settings_of}
+
+-- one text and then another, from the right: so a text is its first part and then the others
+infixr 6 ◌⁀◌
+abbrev pub ◌⁀◌ : List ℕ → List ℕ → List ℕ
+one ⁀ other = one ++ other
 
 -- ---- numbers
 
@@ -48,66 +55,65 @@ abbrev pub names_text : List AstName → List ℕ
 names_text [] = []
 names_text (first ∷ more) = first.name ++ flat_map (λ (name : AstName). codes "::" ++ name.name) more
 
--- the arguments of a Stream that follow its data type, up to its user type
-abbrev pub settings_text : Settings → List ℕ
-settings_text settings =
-    codes ", throughput: " ++ number_text settings.throughput
-    ++ codes ", dimensionality: " ++ decimal settings.dims
-    ++ codes ", synchronicity: " ++ sync_word settings.sync
-    ++ codes ", complexity: " ++ decimal settings.level
-    ++ codes ", direction: " ++ direction_word settings.reverse
-    ++ codes ", user: "
+-- the arguments of a Stream that follow its data type, up to its user type, and what follows them
+abbrev pub settings_text : Settings → List ℕ → List ℕ
+settings_text settings after =
+    codes ", throughput: " ⁀ number_text settings.throughput
+    ⁀ codes ", dimensionality: " ⁀ decimal settings.dims
+    ⁀ codes ", synchronicity: " ⁀ sync_word settings.sync
+    ⁀ codes ", complexity: " ⁀ decimal settings.level
+    ⁀ codes ", direction: " ⁀ direction_word settings.reverse
+    ⁀ codes ", user: " ⁀ after
 
 abbrev mutual
   -- a type; of a Stream all arguments, in the order of the grammar
   pub type_text : Ltype → List ℕ
   type_text null = codes "Null"
-  type_text (bits width) = codes "Bits(" ++ decimal width ++ codes ")"
-  type_text (group parts) = codes "Group(" ++ parts_text parts ++ codes ")"
-  type_text (union parts) = codes "Union(" ++ parts_text parts ++ codes ")"
-  type_text (stream element user settings) =
-      codes "Stream(data: " ++ type_text element ++ settings_text settings ++ type_text user
-      ++ codes ", keep: " ++ truth_word settings.keep ++ codes ")"
+  type_text (bits width) = codes "Bits(" ⁀ decimal width ⁀ codes ")"
+  type_text (group parts) = codes "Group(" ⁀ parts_text parts ⁀ codes ")"
+  type_text (union parts) = codes "Union(" ⁀ parts_text parts ⁀ codes ")"
+  type_text (stream element user settings) = codes "Stream(data: "
+      ⁀ (type_text element ⁀ settings_text settings (type_text user ⁀ codes ", keep: " ⁀ truth_word settings.keep)) ⁀ codes ")"
   type_text (path names) = names_text names
 
   -- parts with a comma and a space between each two
   pub parts_text : Parts → List ℕ
   parts_text no_parts = []
-  parts_text (part name ltype more) = name.name ++ codes ": " ++ type_text ltype ++ more_parts_text more
+  parts_text (part name ltype more) = (name.name ⁀ codes ": " ⁀ type_text ltype) ++ more_parts_text more
 
   -- parts that follow another
   pub more_parts_text : Parts → List ℕ
   more_parts_text no_parts = []
-  more_parts_text (part name ltype more) = codes ", " ++ name.name ++ codes ": " ++ type_text ltype ++ more_parts_text more
+  more_parts_text (part name ltype more) = (codes ", " ⁀ name.name ⁀ codes ": " ⁀ type_text ltype) ++ more_parts_text more
 
 -- a part: its name and its type
-abbrev pub part_text : PlainPart → List ℕ
-part_text one = one.name.name ++ codes ": " ++ type_text one.ltype
+abbrev pub part_text : AstPart → List ℕ
+part_text one = one.name.name ⁀ codes ": " ⁀ type_text (plain one.ltype)
 
 -- a part that follows another
-abbrev pub next_part_text : PlainPart → List ℕ
+abbrev pub next_part_text : AstPart → List ℕ
 next_part_text one = codes ", " ++ part_text one
 
 -- parts with a comma and a space between each two, as a list
-abbrev pub listed_text : List PlainPart → List ℕ
+abbrev pub listed_text : List AstPart → List ℕ
 listed_text [] = []
 listed_text (first ∷ more) = part_text first ++ flat_map next_part_text more
 
 -- a Stream
-abbrev pub stream_text : PlainStream → List ℕ
-stream_text one = type_text (stream one.element one.user one.settings)
+abbrev pub stream_text : AstStream → List ℕ
+stream_text one = type_text (stream (plain one.element) (plain one.user) (settings_of one))
 
 -- ---- ports and bodies
 
 -- documentation between its marks, and what follows it
 abbrev pub doc_text : Option (List ℕ) → List ℕ → List ℕ
 doc_text None after = []
-doc_text (Some text) after = codes "#" ++ text ++ codes "#" ++ after
+doc_text (Some text) after = (codes "#" ++ text ++ codes "#") ++ after
 
 -- a port, after its documentation and a space
 abbrev pub port_text : AstPort → List ℕ
 port_text port =
-    doc_text port.doc (codes " ") ++ port.name.name ++ codes ": " ++ way_word port.inward ++ codes " " ++ type_text (plain port.ltype)
+    doc_text port.doc (codes " ") ⁀ port.name.name ⁀ codes ": " ⁀ way_word port.inward ⁀ codes " " ⁀ type_text (plain port.ltype)
 
 -- a port that follows another
 abbrev pub next_port_text : AstPort → List ℕ
@@ -116,7 +122,7 @@ next_port_text port = codes ", " ++ port_text port
 -- ports with a comma and a space between each two
 abbrev pub ports_text : List AstPort → List ℕ
 ports_text [] = codes "()"
-ports_text (first ∷ more) = codes "(" ++ port_text first ++ flat_map next_port_text more ++ codes ")"
+ports_text (first ∷ more) = codes "(" ⁀ (port_text first ++ flat_map next_port_text more) ⁀ codes ")"
 
 -- the second name of an end, after a point
 abbrev pub second_text : Option AstName → List ℕ
@@ -129,8 +135,8 @@ end_text end = end.first.name ++ second_text end.second
 
 -- a statement: an instance, or a link
 abbrev pub stmt_text : AstStmt → List ℕ
-stmt_text (stmts.Instance name streamlet) = name.name ++ codes " = " ++ names_text streamlet.names ++ codes ";"
-stmt_text (stmts.Link first second) = end_text first ++ codes " -- " ++ end_text second ++ codes ";"
+stmt_text (stmts.Instance name streamlet) = name.name ⁀ codes " = " ⁀ names_text streamlet.names ⁀ codes ";"
+stmt_text (stmts.Link first second) = end_text first ⁀ codes " -- " ⁀ end_text second ⁀ codes ";"
 
 -- a text between its marks
 abbrev pub quoted_text : List ℕ → List ℕ
@@ -142,7 +148,7 @@ spaced_text stmt = stmt_text stmt ++ codes " "
 
 -- statements in braces, on one line
 abbrev pub stmts_text : List AstStmt → List ℕ
-stmts_text all = codes "{ " ++ flat_map spaced_text all ++ codes "}"
+stmts_text all = codes "{ " ⁀ flat_map spaced_text all ⁀ codes "}"
 
 -- the body of an implementation
 abbrev pub body_text : AstBody → List ℕ
@@ -158,13 +164,13 @@ streamlet_text (ports.Named target) = names_text target.names
 
 -- a declaration of this name, up to its semicolon
 abbrev pub kind_text : List ℕ → AstKind → List ℕ
-kind_text name (decls.Alias ltype) = codes "type " ++ name ++ codes " = " ++ type_text (plain ltype)
-kind_text name (decls.Interface all) = codes "interface " ++ name ++ codes " = " ++ ports_text all
-kind_text name (decls.Streamlet all) = codes "streamlet " ++ name ++ codes " = " ++ streamlet_text all
-kind_text name (decls.Impl target body) = codes "impl " ++ name ++ codes " of " ++ names_text target.names ++ codes " = " ++ body_text body
+kind_text name (decls.Alias ltype) = codes "type " ⁀ name ⁀ codes " = " ⁀ type_text (plain ltype)
+kind_text name (decls.Interface all) = codes "interface " ⁀ name ⁀ codes " = " ⁀ ports_text all
+kind_text name (decls.Streamlet all) = codes "streamlet " ⁀ name ⁀ codes " = " ⁀ streamlet_text all
+kind_text name (decls.Impl target body) = codes "impl " ⁀ name ⁀ codes " of " ⁀ names_text target.names ⁀ codes " = " ⁀ body_text body
 kind_text name (decls.Test target port value plan) =
-    codes "test " ++ name ++ codes " of " ++ names_text target.names ++ codes " drive " ++ port.name
-    ++ codes " = " ++ quoted_text value ++ codes " plan " ++ quoted_text plan
+    codes "test " ⁀ name ⁀ codes " of " ⁀ names_text target.names ⁀ codes " drive " ⁀ port.name
+    ⁀ codes " = " ⁀ quoted_text value ⁀ codes " plan " ⁀ quoted_text plan
 
 -- documentation on a line of its own, after so much white space
 abbrev pub doc_line : List ℕ → Option (List ℕ) → List ℕ
@@ -173,13 +179,13 @@ doc_line indent (Some text) = indent ++ doc_text (Some text) (codes "\n")
 
 -- a declaration on a line of its own, after its documentation
 abbrev pub decl_text : AstDecl → List ℕ
-decl_text decl = doc_line (codes "  ") decl.doc ++ codes "  " ++ kind_text decl.name.name decl.kind ++ codes ";\n"
+decl_text decl = doc_line (codes "  ") decl.doc ⁀ codes "  " ⁀ kind_text decl.name.name decl.kind ⁀ codes ";\n"
 
 -- a namespace: its documentation, its declarations and its closing brace, each on a line of its own
 abbrev pub namespace_text : AstNamespace → List ℕ
 namespace_text namespace =
-    doc_line [] namespace.doc ++ codes "namespace " ++ names_text namespace.path.names ++ codes " {\n"
-    ++ flat_map decl_text namespace.decls ++ codes "}\n"
+    doc_line [] namespace.doc ⁀ codes "namespace " ⁀ names_text namespace.path.names ⁀ codes " {\n"
+    ⁀ flat_map decl_text namespace.decls ⁀ codes "}\n"
 
 -- the canonical text of a project
 abbrev pub canonical : Ast → List ℕ

@@ -3,8 +3,7 @@ use Rattle.std.specs.Prelude.{ℕ, suc, max, Bool, List, [], ◌∷◌}
 use Rattle.tydi_base.specs.Frac.{Fraction}
 use Rattle.til_parser.specs.declared.ltype.AstType.{AstType}
 use Rattle.til_parser.specs.declared.ltype.AstType.TheOpen.{AstType-F, AstPart-F, AstStream-F}
-use Rattle.til_parser.specs.declared.ltype.AstType.TheFolds.{fold-AstType, fold-AstPart, fold-AstStream}
-use Rattle.til_parser.specs.declared.ltype.AstPart.{AstPart}
+use Rattle.til_parser.specs.declared.ltype.AstType.TheFolds.{fold-AstType}
 use Rattle.til_parser.specs.declared.ltype.AstStream.{AstStream}
 use Rattle.til_parser.specs.declared.ltype.AstSync.{AstSync}
 use Rattle.til_parser.specs.declared.tree.AstName.{AstName}
@@ -85,14 +84,6 @@ plain_stream one = record {
 -- the plain data of a type
 abbrev pub plain : AstType → Ltype
 plain = fold-AstType Ltype PlainPart PlainStream plain_type plain_part plain_stream
-
--- the plain data of a part
-abbrev pub plain_of_part : AstPart → PlainPart
-plain_of_part = fold-AstPart Ltype PlainPart PlainStream plain_type plain_part plain_stream
-
--- the plain data of a Stream
-abbrev pub plain_of_stream : AstStream → PlainStream
-plain_of_stream = fold-AstStream Ltype PlainPart PlainStream plain_type plain_part plain_stream
 
 -- ---- how deep types nest: one for a type with none in it
 

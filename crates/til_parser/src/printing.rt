@@ -1,12 +1,12 @@
 //! The canonical text of a tree, by the text of each of its parts.
 
-ghost use Rattle.std.specs.Prelude.{◌≡◌, ◌++◌, IfOk, OnErr, OnOk, codes, map};
+ghost use Rattle.std.specs.Prelude.{◌≡◌, [], ◌++◌, IfOk, OnErr, OnOk, codes};
 ghost use Rattle.std.specs.List.{flat_map};
 ghost use Rattle.til_parser.specs.Canonical as spec;
 ghost use Rattle.til_parser.specs.Laws.{IsReadAgain};
 ghost use Rattle.til_parser.specs.Trees.{IsSpellable};
 ghost use Rattle.til_parser.specs.Grammar.{direction_word, sync_word, truth_word, way_word};
-ghost use Rattle.til_parser.specs.Tree.{plain, plain_of_part, plain_of_stream};
+ghost use Rattle.til_parser.specs.Tree.{plain, settings_of};
 ghost use Rattle.tydi_base.specs.Writing.{StandsInFront};
 
 use crate::ltype::{AstPart, AstStream, AstSync, AstType};
@@ -178,7 +178,7 @@ fn write_type(ltype: &AstType, out: &mut List<u8>) -> Result<(), Memory>
 /// Parts with this word before them, a comma and a space between each two, and a closing bracket.
 #[cycle(ltype)]
 fn write_parts(word: &str, parts: &[AstPart], out: &mut List<u8>) -> Result<(), Memory>
-    ensures ok { OnOk result (out.new ≡ out.old ++ word.now ++ spec.listed_text (map plain_of_part parts.now) ++ codes ")") }
+    ensures ok { OnOk result (out.new ≡ out.old ++ (word.now ++ (spec.listed_text parts.now ++ codes ")"))) }
     ensures err { OnErr result (StandsInFront out.old out.new) }
 {
     let [first, others @ ..] = parts else {
@@ -194,7 +194,7 @@ fn write_parts(word: &str, parts: &[AstPart], out: &mut List<u8>) -> Result<(), 
 /// A part, with this text before it.
 #[cycle(ltype)]
 fn write_part(before: &str, part: &AstPart, out: &mut List<u8>) -> Result<(), Memory>
-    ensures ok { OnOk result (out.new ≡ out.old ++ before.now ++ spec.part_text (plain_of_part part.now)) }
+    ensures ok { OnOk result (out.new ≡ out.old ++ before.now ++ spec.part_text part.now) }
     ensures err { OnErr result (StandsInFront out.old out.new) }
 {
     emit!(out; before, &part.name, ": ")?;
@@ -203,7 +203,7 @@ fn write_part(before: &str, part: &AstPart, out: &mut List<u8>) -> Result<(), Me
 
 #[cycle(ltype)]
 fn write_stream(stream: &AstStream, out: &mut List<u8>) -> Result<(), Memory>
-    ensures ok { OnOk result (out.new ≡ out.old ++ spec.stream_text (plain_of_stream stream.now)) }
+    ensures ok { OnOk result (out.new ≡ out.old ++ spec.stream_text stream.now) }
     ensures err { OnErr result (StandsInFront out.old out.new) }
 {
     emit!(out; "Stream(data: ")?;
@@ -218,7 +218,7 @@ fn write_stream(stream: &AstStream, out: &mut List<u8>) -> Result<(), Memory>
 struct Settings<'a>(&'a AstStream);
 
 impl Written for Settings<'_> {
-    ghost text = { λ settings. spec.settings_text (plain_of_stream settings.0.now).settings };
+    ghost text = { λ settings. spec.settings_text (settings_of settings.0.now) [] };
 
     fn write_to(&self, out: &mut List<u8>) -> Result<(), Memory> {
         let stream = self.0;

@@ -1,49 +1,38 @@
 -- Fractions in lowest terms, by the remainders of each part by the next.
-use Rattle.std.proofs.Common.{◌≡◌, ℕ, zero, suc, ◌+◌, ◌%◌, ◌<◌, ◌≤◌, Bool, true, false, cond, eqb, Option, None, Some, IfSome, refl, ap, ◌∙◌}
-use Rattle.std.proofs.Common.{arith}
-use Rattle.std.proofs.Math.Nat.{mod-lt}
+use Rattle.std.proofs.Common.{◌≡◌, ℕ, zero, suc, ◌%◌, ◌<◌, ◌≤◌, false, eqb, Option, None, Some, IfSome, refl, ◌∙◌, mod-lt, arith}
+use Prim.Native.Nat.{◌∣◌}
+use Rattle.std.proofs.Math.Nat.{eq-zero_of_zero-dvd}
 use Rattle.std.specs.Int.{IsGcd}
-use Rattle.std.proofs.lemmas.Bool.Decides.{nat_tests}
 use Rattle.std.proofs.lemmas.Nat.Gcd.{IsGcd-from_zero, IsGcd-from_mod}
+use Rattle.std.proofs.lemmas.Bool.Decides.{nat_tests}
 use Rattle.tydi_base.specs.Frac.{Fraction, IsReduced}
 use Rattle.tydi_base.proofs.FracLaws.{IsReduced-divided, same_from_IsReduced}
 use Rattle.til_parser.specs.Numbers.{divisor_from, lowest}
 
--- a greatest common divisor, which is not 0
-record IsDivisor (num den divisor : ℕ) : Type 0 where
-  greatest : IsGcd num den divisor
-  some : 1 ≤ divisor
-
-IsDivisor-step : (num den divisor : ℕ) (none : Bool) → eqb den 0 ≡ none → 1 ≤ num + den → (0 < den → IsDivisor den (num % den) divisor)
-    → IsDivisor num den (cond none num divisor)
-IsDivisor-step num den divisor true is some further = record {
-  greatest = IsGcd-from_zero num den (grind (arith, nat_tests));
-  some = grind (arith, nat_tests);
-}
-IsDivisor-step num den divisor false is some further =
-    let next = further (grind (arith, nat_tests)) in record { greatest = IsGcd-from_mod num den divisor next.greatest; some = next.some }
-
-divisor_from-is : (turns num den : ℕ) → den < turns → 1 ≤ num + den → IsDivisor num den (divisor_from turns num den)
+divisor_from-is : (turns num den : ℕ) → den < turns → IsGcd num den (divisor_from turns num den)
 unfolding divisor_from
-divisor_from-is zero num den less some = absurd (omega arith)
-divisor_from-is (suc turns) num den less some =
-    IsDivisor-step num den (divisor_from turns den (num % den)) (eqb den 0) refl some
-    (λ pos. let smaller : num % den < den = mod-lt num pos in divisor_from-is turns den (num % den) (omega arith) (omega arith))
+divisor_from-is zero num den less = absurd (omega arith)
+divisor_from-is (suc turns) num zero less = IsGcd-from_zero num 0 refl
+divisor_from-is (suc turns) num (suc den) less =
+    let smaller : num % suc den < suc den = mod-lt num (omega arith) in
+    let some : eqb (suc den) 0 ≡ false = grind (arith, nat_tests) in
+    rw some (IsGcd-from_mod num (suc den) (divisor_from turns (suc den) (num % suc den)) (divisor_from-is turns (suc den) (num % suc den) (omega arith)))
+
+divisor_some : (divisor den : ℕ) → divisor ∣ den → 0 < den → 1 ≤ divisor
+divisor_some zero den divides some = absurd (let none = eq-zero_of_zero-dvd divides in omega arith)
+divisor_some (suc divisor) den divides some = omega arith
 
 pub IsReduced-lowest : (num den : ℕ) → 0 < den → IsReduced num den (lowest num den)
 unfolding lowest
 IsReduced-lowest num den some =
-    let divisor = divisor_from-is (suc den) num den (omega arith) (omega arith) in
-    IsReduced-divided num den (divisor_from (suc den) num den) (omega arith) divisor.some divisor.greatest
+    let greatest = divisor_from-is (suc den) num den (omega arith) in
+    IsReduced-divided num den (divisor_from (suc den) num den) (omega arith) (divisor_some _ den greatest.1 some) greatest
 
 -- what is a fraction in lowest terms is the one of this project
 pub lowest_from_IsReduced : (num den : ℕ) (fraction : Fraction) → 0 < den → IsReduced num den fraction → fraction ≡ lowest num den
 lowest_from_IsReduced num den fraction some reduced =
     let same = same_from_IsReduced num den fraction (lowest num den) some reduced (IsReduced-lowest num den some) in
-    ap (λ n. over n fraction.den) same.0 ∙ ap (over (lowest num den).num) same.1
-  where
-    over : ℕ → ℕ → Fraction
-    over n d = record { num = n; den = d }
+    λ i. record { num = same.0 i; den = same.1 i }
 
 -- a fraction that is made in lowest terms
 pub lowest_from_Some : (num den n d : ℕ) (made : Option Fraction) (fraction : Fraction) → num ≡ n → den ≡ d → 0 < d

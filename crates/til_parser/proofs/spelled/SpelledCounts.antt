@@ -1,9 +1,8 @@
 -- The tree of a text: its form, its places, and how many declarations it has at most.
-use Rattle.std.proofs.Common.{◌≡◌, ℕ, ◌≤◌, ◌+◌, List, [], ◌∷◌, All, length, ap, ◌∙◌, arith}
+use Rattle.std.proofs.Common.{◌≡◌, ℕ, ◌≤◌, ◌+◌, List, [], ◌∷◌, length, ap, ◌∙◌, arith}
 use Rattle.std.proofs.lemmas.List.{length-append}
 use Rattle.tydi_reading.specs.Forms.{◌⋯◌}
 use Rattle.tydi_reading.specs.Lists.{Each, EachIs}
-use Rattle.tydi_base.specs.declared.place.Place.{Place}
 use Rattle.til_lexer.specs.Places.{IsPlaceIn}
 use Rattle.til_lexer.proofs.CountLemmas.{tokens_of-few}
 use Rattle.til_parser.specs.declared.tree.Ast.{Ast}
@@ -17,7 +16,7 @@ use Rattle.til_parser.specs.Trees.{NamespaceWith, IsSpellable, number_of_decls}
 use Rattle.til_parser.proofs.LawLemmas.{formed_of, placed_of}
 use Rattle.til_parser.proofs.LexemeLemmas.{length-lexemes}
 use Rattle.til_parser.proofs.rules.ProjectRules.{decl-filled}
-use Rattle.til_parser.proofs.spelled.SpelledLeaves.{IsAt, Shows, each_of, shows_name, shows_place}
+use Rattle.til_parser.proofs.spelled.SpelledLeaves.{Shows, each_of, shows_name, shows_place}
 use Rattle.til_parser.proofs.spelled.SpelledTrees.{namespace_of}
 
 -- ---- how many declarations
@@ -27,39 +26,36 @@ sum b = ap length b.all ∙ length-append b.front b.back
 
 decls-few : (all : List AstDecl) (ts : List Lexeme) → Each SpellsDecl all ts → length all ≤ length ts
 decls-few [] ts s = omega arith
-decls-few (decl ∷ all) ts s =
-    let whole = sum s in
-    let some = decl-filled 0 decl s.front s.begins in
-    let more = decls-few all s.back s.ends in
-    omega arith
-
-namespace-few : (one : AstNamespace) (ts : List Lexeme) → SpellsNamespace one ts → length one.decls ≤ length ts
-namespace-few one ts s =
-    let inside = s.ends.ends.ends.ends in
-    let few = decls-few one.decls inside.front inside.begins in
-    omega (arith, sum s, sum s.ends, sum s.ends.ends, sum s.ends.ends.ends, sum inside)
+decls-few (decl ∷ all) ts s = omega (arith, sum s, decl-filled 0 decl s.front s.begins, decls-few all s.back s.ends)
 
 namespaces-few : (all : List AstNamespace) (ts : List Lexeme) → Each SpellsNamespace all ts → number_of_decls all ≤ length ts
 namespaces-few [] ts s = omega arith
 namespaces-few (one ∷ all) ts s =
-    let whole = sum s in
-    let first = namespace-few one s.front s.begins in
+    let n = s.begins in
+    let inside = n.ends.ends.ends.ends in
+    let few = decls-few one.decls inside.front inside.begins in
     let more = namespaces-few all s.back s.ends in
-    omega arith
+    omega (arith, sum s, sum n, sum n.ends, sum n.ends.ends, sum n.ends.ends.ends, sum inside)
 
 -- ---- the form of the tree, and its places
 
 -- what the tokens of a text show of the tree that they spell
-shown-of : {At : Place → Type 0} {Named : AstName → Type 0} → Shows At Named → (text : List ℕ) (ast : Ast) (is : IsTreeOf text ast)
-    → All (IsAt At) (lexemes_of text is.tokens) → EachIs (NamespaceWith Named) ast.namespaces
-shown-of {At} {Named} shows text ast is placed = each_of (NamespaceWith Named) SpellsNamespace (namespace_of shows) ast.namespaces
-    (record { tokens = lexemes_of text is.tokens; formed = formed_of text is.tokens is.utf8 is.lexed; placed = placed; spelled = is.spelled.each })
+shown-of : {Named : AstName → Type 0} (text : List ℕ) → Shows (IsPlaceIn text) Named → (ast : Ast) → IsTreeOf text ast
+    → EachIs (NamespaceWith Named) ast.namespaces
+shown-of {Named} text shows ast is =
+    let formed = formed_of text is.tokens is.utf8 is.lexed in
+    let placed = placed_of text is.tokens is.utf8 is.lexed in
+    each_of (NamespaceWith Named) SpellsNamespace (namespace_of shows) ast.namespaces (record {
+      tokens = lexemes_of text is.tokens;
+      each = λ k d within. record { formed = formed k d within; placed = placed k d within };
+      spelled = is.spelled.each;
+    })
 
 pub spellable-of : (text : List ℕ) (ast : Ast) → IsTreeOf text ast → IsSpellable ast
-spellable-of text ast is = record { some = is.spelled.some; each = shown-of shows_name text ast is (λ k d within. tt) }
+spellable-of text ast is = record { some = is.spelled.some; each = shown-of text (shows_name (IsPlaceIn text)) ast is }
 
 pub trees-have_places : TreesHaveTheirPlaces
-trees-have_places text ast is = shown-of (shows_place (IsPlaceIn text)) text ast is (placed_of text is.tokens is.utf8 is.lexed)
+trees-have_places text ast is = shown-of text (shows_place (IsPlaceIn text)) ast is
 
 pub trees-have_form : TreesHaveTheirForm
 trees-have_form text ast is = record {
@@ -67,6 +63,7 @@ trees-have_form text ast is = record {
   tree = λ short within. record {
     spellable = spellable-of text ast is;
     within = within;
-    few = omega (arith, namespaces-few ast.namespaces (lexemes_of text is.tokens) is.spelled.each, length-lexemes text is.tokens, tokens_of-few text is.tokens is.lexed, short);
+    few = let few = namespaces-few ast.namespaces (lexemes_of text is.tokens) is.spelled.each in
+        omega (arith, length-lexemes text is.tokens, tokens_of-few text is.tokens is.lexed, short);
   };
 }

@@ -1,11 +1,9 @@
 -- What spells a name, a path, a number or a marked text has its form.
-use Rattle.std.proofs.Common.{◌≡◌, ℕ, ◌^◌, ◌≤◌, ◌<◌, inl, inr, Bool, true, false, ◌&&◌, List, [], ◌∷◌, ◌++◌, length, Option, Some, None, All, sym, ap, subst, ◌∙◌, arith}
+use Rattle.std.proofs.Common.{◌≡◌, ℕ, ◌^◌, ◌≤◌, ◌<◌, true, List, [], ◌∷◌, length, Option, Some, None, All, IsUtf8, refl, sym, ap, subst, ◌∙◌, append-nil, arith}
 use Rattle.std.specs.Char.{is_ascii_digit}
 use Rattle.std.specs.List.{list_all}
-use Rattle.std.specs.Str.{IsUtf8}
 use Rattle.std.proofs.Math.Nat.{pow-le-pow_right}
 use Rattle.std.proofs.lemmas.List.Elements.{All-head}
-use Rattle.tydi_base.specs.Decimal.{read_on}
 use Rattle.tydi_base.specs.Frac.{Fraction}
 use Rattle.tydi_base.specs.Pieces.{Lacks}
 use Rattle.tydi_base.specs.declared.place.Place.{Place}
@@ -18,46 +16,44 @@ use Rattle.tydi_reading.proofs.StepLemmas.{All-front, All-back}
 use Rattle.til_parser.specs.declared.tree.AstName.{AstName}
 use Rattle.til_parser.specs.Grammar.{Form, Bracketed, Commas, Doc, IsNamed, Name, Number, One, Path, Quoted, Whole}
 use Rattle.til_parser.specs.Lexemes.{Lexeme, IsFormed, between_marks}
+use Rattle.til_parser.specs.Numbers.{digits_before}
 use Rattle.til_parser.specs.Trees.{HasName, PathWith, IsDoc, IsQuote, FitsBetween, IsShort, IsSpelledNumber}
-use Rattle.til_parser.proofs.texts.NumberTextLemmas.{read_on-below}
+use Rattle.til_parser.proofs.numbers.NumberLemmas.{AreParts-number, cut_at, read_on-below}
 use Rattle.til_parser.proofs.printed.PrintedLeaves.{between_marks-of}
 
 -- ---- what spells
 
--- a token stands at such a place
-abbrev pub IsAt : (Place → Type 0) → Lexeme → Type 0
-IsAt At lexeme = At lexeme.place
+-- a token has the form of its kind and stands at such a place
+pub record IsAt (At : Place → Type 0) (lexeme : Lexeme) : Type 0 where
+  pub formed : IsFormed lexeme
+  pub placed : At lexeme.place
 
--- some tokens are of a form, each in the form of its kind and at such a place
+-- some tokens are of a form, each such a one
 pub record Spelt (At : Place → Type 0) (F : Form) : Type 0 where
   pub tokens : List Lexeme
-  pub formed : All IsFormed tokens
-  pub placed : All (IsAt At) tokens
+  pub each : All (IsAt At) tokens
   pub spelled : F tokens
 
 pub first_of : {At : Place → Type 0} {F G : Form} → Spelt At (F ⋯ G) → Spelt At F
-first_of {At} spelt = record {
-  tokens = spelt.spelled.front;
-  formed = All-front IsFormed spelt.tokens spelt.spelled.front spelt.spelled.back spelt.spelled.all spelt.formed;
-  placed = All-front (IsAt At) spelt.tokens spelt.spelled.front spelt.spelled.back spelt.spelled.all spelt.placed;
-  spelled = spelt.spelled.begins;
-}
+first_of {At} spelt =
+    let s = spelt.spelled in record { tokens = s.front; each = All-front (IsAt At) spelt.tokens s.front s.back s.all spelt.each; spelled = s.begins }
 
 pub second_of : {At : Place → Type 0} {F G : Form} → Spelt At (F ⋯ G) → Spelt At G
-second_of {At} spelt = record {
-  tokens = spelt.spelled.back;
-  formed = All-back IsFormed spelt.tokens spelt.spelled.front spelt.spelled.back spelt.spelled.all spelt.formed;
-  placed = All-back (IsAt At) spelt.tokens spelt.spelled.front spelt.spelled.back spelt.spelled.all spelt.placed;
-  spelled = spelt.spelled.ends;
-}
+second_of {At} spelt =
+    let s = spelt.spelled in record { tokens = s.back; each = All-back (IsAt At) spelt.tokens s.front s.back s.all spelt.each; spelled = s.ends }
+
+pub third_of : {At : Place → Type 0} {F G H : Form} → Spelt At (F ⋯ G ⋯ H) → Spelt At H
+third_of spelt = second_of (second_of spelt)
 
 pub inside_of : {At : Place → Type 0} {F : Form} → Spelt At (Bracketed F) → Spelt At F
 inside_of spelt = first_of (second_of spelt)
 
+one_at : {At : Place → Type 0} {Is : Lexeme → Type 0} (spelt : Spelt At (One Is)) → IsAt At spelt.spelled.lexeme
+one_at {At} spelt = All-head (IsAt At) spelt.spelled.lexeme [] (subst (All (IsAt At)) spelt.spelled.all spelt.each)
+
 one_form : {At : Place → Type 0} {Is : Lexeme → Type 0} (kind : TokenKind) (spelt : Spelt At (One Is)) → spelt.spelled.lexeme.kind ≡ kind
     → HasForm kind spelt.spelled.lexeme.spelling
-one_form kind spelt is = subst (λ k. HasForm k spelt.spelled.lexeme.spelling) is
-    (All-head IsFormed spelt.spelled.lexeme [] (subst (All IsFormed) spelt.spelled.all spelt.formed))
+one_form kind spelt is = subst (λ k. HasForm k spelt.spelled.lexeme.spelling) is (one_at spelt).formed
 
 -- ---- lists
 
@@ -69,7 +65,7 @@ module _ {At : Place → Type 0} {X : Type 0} (Is : X → Type 0) (Spell : X →
   pub commas_of : (all : List X) → Spelt At (Commas Spell all) → EachIs Is all
   commas_of [] spelt = tt
   commas_of (x ∷ []) spelt = (of_one x (first_of spelt), tt)
-  commas_of (x ∷ next ∷ all) spelt = (of_one x (first_of spelt), commas_of (next ∷ all) (second_of (second_of spelt)))
+  commas_of (x ∷ next ∷ all) spelt = (of_one x (first_of spelt), commas_of (next ∷ all) (third_of spelt))
 
 -- ---- names and paths
 
@@ -78,21 +74,20 @@ pub record Shows (At : Place → Type 0) (Named : AstName → Type 0) : Type 0 w
   pub named : (name : AstName) (lexeme : Lexeme) → IsNamed name lexeme → At lexeme.place → Named name
 
 -- that it is one
-pub shows_name : Shows (λ _. Unit {0}) HasName
-shows_name = record { named = λ name lexeme is at. is.named }
+pub shows_name : (At : Place → Type 0) → Shows At HasName
+shows_name At = record { named = λ name lexeme is at. is.named }
 
 -- its place
 pub shows_place : (At : Place → Type 0) → Shows At (λ name. At name.place)
 shows_place At = record { named = λ name lexeme is at. subst At is.place at }
 
 pub name_of : {At : Place → Type 0} {Named : AstName → Type 0} → Shows At Named → (name : AstName) → Spelt At (Name name) → Named name
-name_of {At} shows name spelt =
-    shows.named name spelt.spelled.lexeme spelt.spelled.is (All-head (IsAt At) spelt.spelled.lexeme [] (subst (All (IsAt At)) spelt.spelled.all spelt.placed))
+name_of shows name spelt = shows.named name spelt.spelled.lexeme spelt.spelled.is (one_at spelt).placed
 
 names_of : {At : Place → Type 0} {Named : AstName → Type 0} → Shows At Named → (names : List AstName) → Spelt At (Path names) → EachIs Named names
 names_of shows [] spelt = tt
 names_of shows (name ∷ []) spelt = (name_of shows name spelt, tt)
-names_of shows (name ∷ next ∷ names) spelt = (name_of shows name (first_of spelt), names_of shows (next ∷ names) (second_of (second_of spelt)))
+names_of shows (name ∷ next ∷ names) spelt = (name_of shows name (first_of spelt), names_of shows (next ∷ names) (third_of spelt))
 
 some_names : (names : List AstName) (ts : List Lexeme) → Path names ts → 0 < length names
 some_names [] ts s = absurd s
@@ -103,27 +98,16 @@ path_of shows names spelt = record { some = some_names names spelt.tokens spelt.
 
 -- ---- numbers
 
-point_is_no_digit : (before behind : List ℕ) → list_all is_ascii_digit (before ++ 46 ∷ behind) ≡ true → ⊥
-point_is_no_digit [] behind all = absurd cc
-point_is_no_digit (byte ∷ before) behind all = by_cases (is_ascii_digit byte) all (point_is_no_digit before behind)
-  where
-    by_cases : (first : Bool) → (first && list_all is_ascii_digit (before ++ 46 ∷ behind)) ≡ true
-        → (list_all is_ascii_digit (before ++ 46 ∷ behind) ≡ true → ⊥) → ⊥
-    by_cases true all none = none all
-    by_cases false all none = absurd cc
-
 few_digits : (text : List ℕ) → HasForm kinds.Number text → list_all is_ascii_digit text ≡ true → length text ≤ 18
-few_digits text (inl whole) all = whole.few
-few_digits text (inr point) all = absurd (point_is_no_digit point.before point.behind (subst (λ l. list_all is_ascii_digit l ≡ true) point.parts all))
+few_digits text form all =
+    let same : digits_before text ≡ text = rw append-nil at (cut_at text [] all refl).0 in omega (arith, (AreParts-number text form).few, ap length same)
 
 pub whole_of : {At : Place → Type 0} → (whole : ℕ) → Spelt At (Whole whole) → IsShort whole
 whole_of whole spelt =
     let is = spelt.spelled.is in
     let text : List ℕ = spelt.spelled.lexeme.spelling in
-    let few : length text ≤ 18 = few_digits text (one_form kinds.Number spelt is.kind) is.digits in
-    let below : read_on 0 text < 10 ^ length text = read_on-below text is.digits in
-    let wide : 10 ^ length text ≤ 10 ^ 18 = pow-le-pow_right (omega arith) few in
-    omega (arith, is.value)
+    let wide : 10 ^ length text ≤ 10 ^ 18 = pow-le-pow_right (omega arith) (few_digits text (one_form kinds.Number spelt is.kind) is.digits) in
+    omega (arith, is.value, read_on-below text is.digits)
 
 pub number_of : {At : Place → Type 0} → (number : Fraction) → Spelt At (Number number) → IsSpelledNumber number
 number_of number spelt = record {
