@@ -1,65 +1,57 @@
 -- Texts that are printed of tokens and white space, and what their tokens spell when they are read.
-use Rattle.std.proofs.Common.{◌≡◌, true, false, ℕ, List, [], ◌∷◌, ◌++◌, Option, Some, None, get_or, length, map, flat_map, take, drop}
+use Rattle.std.proofs.Common.{◌≡◌, true, false, ℕ, List, [], ◌∷◌, ◌++◌, get_or, length, map, take, drop}
 use Rattle.std.proofs.Common.{refl, sym, ap, subst, ◌∙◌, append_assoc, append-nil, take-append-drop, codes}
 use Rattle.std.specs.List.{list_all}
 use Rattle.std.proofs.Math.Seq.{drop-append_seam, take-append_seam}
-use Rattle.std.proofs.lemmas.Grind.{flat_map-append}
 use Rattle.std.proofs.lemmas.List.{drop-map, take-map}
+use Rattle.std.proofs.lemmas.List.Folds.{list_all-append}
+use Rattle.tydi_base.specs.declared.place.Place.{Place}
+use Rattle.til_lexer.specs.Places.{place_past}
 use Rattle.til_lexer.specs.Spans.{is_space}
-use Rattle.til_lexer.specs.Spelling.{HasForm, runs_on}
+use Rattle.til_lexer.specs.Spelling.{AreSpelled, HasForm, IsApart, Spelled, runs_on, spelled_text}
 use Rattle.til_lexer.specs.declared.token.TokenKind.{TokenKind}
 use Rattle.til_lexer.specs.declared.token.TokenKind.TheVariants as kinds
+use Rattle.til_lexer.proofs.SpelledTokens.{first_spelled, made_of}
 use Rattle.tydi_reading.specs.Forms.{◌⋯◌, Nothing}
 use Rattle.til_parser.specs.Grammar.{Form, Bracketed, Of, One, Word}
 use Rattle.til_parser.specs.Lexemes.{Lexeme}
 
--- ---- items
+-- ---- texts of tokens
 
--- what a text is printed of: a token of a kind, or white space
-pub record Item : Type 0 where
-  pub kind : Option TokenKind
-  pub text : List ℕ
+-- a token is shown by its kind and its text
+abbrev pub Shown : Type 0
+Shown = TokenKind × List ℕ
 
-abbrev pub items_text : List Item → List ℕ
-items_text items = flat_map (λ (item : Item). item.text) items
+abbrev pub shown : Lexeme → Shown
+shown lexeme = (lexeme.kind, lexeme.spelling)
+
+-- a text is white space, and then these tokens, each spelled in its form, with white space after it or apart from the next
+pub record IsSplit (text : List ℕ) (tokens : List Shown) : Type 0 where
+  pub gap : List ℕ
+  pub pieces : List Spelled
+  pub is : text ≡ gap ++ spelled_text pieces
+  pub space : list_all is_space gap ≡ true
+  pub spelled : AreSpelled pieces
+  pub made : (place : Place) → made_of (λ kind text _. (kind, text)) place pieces ≡ tokens
 
 -- a token of this kind would not go on with a text after it
 abbrev pub Stops : TokenKind → List ℕ → Type 0
 Stops kind text = runs_on kind (get_or text 0 0) ≡ false
 
--- a token has the form of its kind, and would not go on with what follows
-abbrev pub FitsBefore : Option TokenKind → List ℕ → List ℕ → Type 0
-FitsBefore None text rest = list_all is_space text ≡ true
-FitsBefore (Some kind) text rest = HasForm kind text × Stops kind rest
-
-abbrev pub Fits : List Item → Type 0
-Fits [] = Unit {0}
-Fits (item ∷ items) = FitsBefore item.kind item.text (items_text items) × Fits items
-
--- the kind and the text of a token
-abbrev pub shown_of : Option TokenKind → List ℕ → List (TokenKind × List ℕ)
-shown_of None text = []
-shown_of (Some kind) text = (kind, text) ∷ []
-
-abbrev pub shown : List Item → List (TokenKind × List ℕ)
-shown items = flat_map (λ (item : Item). shown_of item.kind item.text) items
-
-abbrev pub shown_lexeme : Lexeme → TokenKind × List ℕ
-shown_lexeme lexeme = (lexeme.kind, lexeme.spelling)
-
--- the tokens are those of the items
-abbrev pub Matches : List Item → List Lexeme → Type 0
-Matches items ts = map shown_lexeme ts ≡ shown items
+apart_from : (kind : TokenKind) (spelling gap : List ℕ) (pieces : List Spelled) → AreSpelled pieces → Stops kind (gap ++ spelled_text pieces)
+    → IsApart (record { kind = kind; spelling = spelling; gap = gap }) pieces
+apart_from kind spelling gap [] are stops = tt
+apart_from kind spelling gap (next ∷ pieces) are stops = λ none.
+    ap (runs_on kind) (sym (first_spelled next pieces are.0)) ∙ subst (λ g. Stops kind (g ++ spelled_text (next ∷ pieces))) none stops
 
 -- ---- what is printed
 
--- a text is printed of items. Its last token is of this kind, or of one that goes on with less; what is read of its tokens is
+-- a text is printed of tokens. Its last one is of this kind, or of one that goes on with less; what is read of its tokens is
 -- something of A, in the form that belongs to it.
 pub record Printed {A : Type 0} (last : TokenKind) (text : List ℕ) (P : A → Form) : Type 0 where
-  pub items : List Item
-  pub is : items_text items ≡ text
-  pub fits : (rest : List Item) → Stops last (items_text rest) → Fits rest → Fits (items ++ rest)
-  pub reads : (ts : List Lexeme) → Matches items ts → (a : A) × P a ts
+  pub tokens : List Shown
+  pub before : (rest : List ℕ) (more : List Shown) → Stops last rest → IsSplit rest more → IsSplit (text ++ rest) (tokens ++ more)
+  pub reads : (ts : List Lexeme) → map shown ts ≡ tokens → (a : A) × P a ts
 
 -- a kind of token that goes on with nothing
 abbrev pub free : TokenKind
@@ -72,19 +64,14 @@ Between last other next = (rest : List ℕ) → Stops next rest → Stops last (
 pub joined : {A B : Type 0} {P : A → Form} {Q : B → Form} {last next : TokenKind} {one other : List ℕ}
     → Printed last one P → Printed next other Q → Between last other next
     → Printed next (one ++ other) (λ (both : A × B). P both.0 ⋯ Q both.1)
-joined {A = A} {B = B} {P = P} {Q = Q} {last = last} {other = other} first second between = record {
-  items = first.items ++ second.items;
-  is = flat_map-append _ first.items second.items ∙ (λ i. first.is i ++ second.is i);
-  fits = λ rest stops are.
-      let text : items_text (second.items ++ rest) ≡ other ++ items_text rest = flat_map-append _ second.items rest
-      ∙ ap (λ l. l ++ items_text rest) second.is in
-      subst Fits (sym (append_assoc first.items second.items rest))
-      (first.fits (second.items ++ rest) (subst (Stops last) (sym text) (between (items_text rest) stops)) (second.fits rest stops are));
+joined {one = one} {other = other} first second between = record {
+  tokens = first.tokens ++ second.tokens;
+  before = λ rest more stops split. rw (append_assoc one other rest, append_assoc first.tokens second.tokens more)
+      (first.before (other ++ rest) (second.tokens ++ more) (between rest stops) (second.before rest more stops split));
   reads = λ ts are.
-      let n = length (shown first.items) in
-      let all : map shown_lexeme ts ≡ shown first.items ++ shown second.items = are ∙ flat_map-append _ first.items second.items in
-      let front = first.reads (take n ts) (sym (take-map shown_lexeme n ts) ∙ ap (take n) all ∙ take-append_seam (shown first.items) (shown second.items)) in
-      let back = second.reads (drop n ts) (sym (drop-map shown_lexeme n ts) ∙ ap (drop n) all ∙ drop-append_seam (shown first.items) (shown second.items)) in
+      let n = length first.tokens in
+      let front = first.reads (take n ts) (sym (take-map shown n ts) ∙ ap (take n) are ∙ take-append_seam first.tokens second.tokens) in
+      let back = second.reads (drop n ts) (sym (drop-map shown n ts) ∙ ap (drop n) are ∙ drop-append_seam first.tokens second.tokens) in
       ((front.0, back.0), record { front = take n ts; back = drop n ts; all = sym (take-append-drop n ts); begins = front.1; ends = back.1 });
 }
 
@@ -92,9 +79,8 @@ joined {A = A} {B = B} {P = P} {Q = Q} {last = last} {other = other} first secon
 pub made : {A B : Type 0} {P : A → Form} {Q : B → Form} {last : TokenKind} {text : List ℕ} (f : A → B) → ((a : A) (ts : List Lexeme) → P a ts → Q (f a) ts)
     → Printed last text P → Printed last text Q
 made f holds printed = record {
-  items = printed.items;
-  is = printed.is;
-  fits = printed.fits;
+  tokens = printed.tokens;
+  before = printed.before;
   reads = λ ts are. let found = printed.reads ts are in (f found.0, holds found.0 ts found.1);
 }
 
@@ -105,12 +91,8 @@ of_text {P = P} {last = last} same printed = subst (λ text. Printed last text P
 -- a kind that goes on with more
 pub ends_as : {A : Type 0} {P : A → Form} {last : TokenKind} {text : List ℕ} (wide : TokenKind)
     → ((rest : List ℕ) → Stops wide rest → Stops last rest) → Printed last text P → Printed wide text P
-ends_as wide less printed = record {
-  items = printed.items;
-  is = printed.is;
-  fits = λ rest stops are. printed.fits rest (less (items_text rest) stops) are;
-  reads = printed.reads;
-}
+ends_as wide less printed =
+    record { tokens = printed.tokens; before = λ rest more stops. printed.before rest more (less rest stops); reads = printed.reads }
 
 -- a fixed form before another
 pub prefixed : {A : Type 0} {F : Form} {P : A → Form} {last next : TokenKind} {one other : List ℕ}
@@ -124,11 +106,7 @@ suffixed first second between = made (λ both. both.0) (λ both ts is. is) (join
 
 -- ---- tokens and white space
 
-no_tokens : (ts : List Lexeme) → map shown_lexeme ts ≡ [] → ts ≡ []
-no_tokens [] are = refl
-no_tokens (t ∷ ts) are = absurd cc
-
-one_match : (kind : TokenKind) (spelling : List ℕ) (ts : List Lexeme) → map shown_lexeme ts ≡ (kind, spelling) ∷ []
+one_match : (kind : TokenKind) (spelling : List ℕ) (ts : List Lexeme) → map shown ts ≡ (kind, spelling) ∷ []
     → (lexeme : Lexeme) × (ts ≡ lexeme ∷ []) × (lexeme.kind ≡ kind) × (lexeme.spelling ≡ spelling)
 one_match kind spelling [] are = absurd cc
 one_match kind spelling (lexeme ∷ []) are = let first = ap (λ l. get_or l 0 (kind, spelling)) are in (lexeme, refl, ap (λ p. p.0) first, ap (λ p. p.1) first)
@@ -138,20 +116,36 @@ one_match kind spelling (lexeme ∷ next ∷ ts) are = absurd cc
 pub one_token : {A : Type 0} {Is : A → Lexeme → Type 0} (kind : TokenKind) (spelling : List ℕ) → HasForm kind spelling
     → ((lexeme : Lexeme) → lexeme.kind ≡ kind → lexeme.spelling ≡ spelling → (a : A) × Is a lexeme) → Printed kind spelling (λ a. One (Is a))
 one_token kind spelling form reads = record {
-  items = record { kind = Some kind; text = spelling } ∷ [];
-  is = append-nil spelling;
-  fits = λ rest stops are. ((form, stops), are);
+  tokens = (kind, spelling) ∷ [];
+  before = λ rest more stops s. record {
+    gap = [];
+    pieces = record { kind = kind; spelling = spelling; gap = s.gap } ∷ s.pieces;
+    is = ap (λ l. spelling ++ l) s.is ∙ sym (append_assoc spelling s.gap (spelled_text s.pieces));
+    space = refl;
+    spelled = (record { form = form; space = s.space }, apart_from kind spelling s.gap s.pieces s.spelled (subst (Stops kind) s.is stops), s.spelled);
+    made = λ place. ap (λ l. (kind, spelling) ∷ l) (s.made (place_past place (spelling ++ s.gap)));
+  };
   reads = λ ts are.
       let one = one_match kind spelling ts are in
       let found = reads one.0 one.2 one.3 in
       (found.0, record { lexeme = one.0; all = one.1; is = found.1 });
 }
 
+no_tokens : (ts : List Lexeme) → map shown ts ≡ [] → ts ≡ []
+no_tokens [] are = refl
+no_tokens (t ∷ ts) are = absurd cc
+
 white : (gap : List ℕ) → list_all is_space gap ≡ true → Printed {A = Unit {0}} free gap (λ _. Nothing)
 white gap space = record {
-  items = record { kind = None; text = gap } ∷ [];
-  is = append-nil gap;
-  fits = λ rest stops are. (space, are);
+  tokens = [];
+  before = λ rest more stops s. record {
+    gap = gap ++ s.gap;
+    pieces = s.pieces;
+    is = ap (λ l. gap ++ l) s.is ∙ sym (append_assoc gap s.gap (spelled_text s.pieces));
+    space = list_all-append is_space gap s.gap ∙ rw (space, s.space) refl;
+    spelled = s.spelled;
+    made = s.made;
+  };
   reads = λ ts are. (tt, no_tokens ts are);
 }
 
