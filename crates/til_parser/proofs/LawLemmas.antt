@@ -1,26 +1,31 @@
--- No text spells two trees.
-use Rattle.std.proofs.Common.{◌≡◌, ◌≤◌, ℕ, max, List, [], ◌∷◌, All, length, Ok, sym, ◌∙◌, subst, arith}
+-- The laws of trees and their texts: no text spells two trees, and the tree of a text has its form and its places.
+use Rattle.std.proofs.Common.{◌≡◌, ℕ, ◌≤◌, ◌+◌, max, List, [], ◌∷◌, All, length, Ok, IsUtf8, ap, sym, ◌∙◌, subst, length-append, arith}
 use Rattle.std.proofs.lemmas.List.Elements.{All-nil, All-cons, All-head, All-tail}
-use Rattle.std.specs.Str.{IsUtf8}
-use Rattle.til_lexer.proofs.FormLemmas.{tokens-have_form}
-use Rattle.til_lexer.proofs.SliceLemmas.{token-stands, tokens_of-are}
 use Rattle.til_lexer.specs.Places.{IsPlaceIn}
 use Rattle.til_lexer.specs.Slices.{IsTokenOf}
 use Rattle.til_lexer.specs.Tokens.{tokens_of}
 use Rattle.til_lexer.specs.declared.token.Token.{Token}
+use Rattle.til_lexer.proofs.CountLemmas.{tokens_of-few}
+use Rattle.til_lexer.proofs.FormLemmas.{tokens-have_form}
+use Rattle.til_lexer.proofs.SliceLemmas.{token-stands, tokens_of-are}
+use Rattle.tydi_reading.specs.Forms.{◌⋯◌}
+use Rattle.tydi_reading.specs.Lists.{Each, EachIs}
+use Rattle.tydi_reading.specs.Reading.{Outcome, took}
 use Rattle.til_parser.specs.declared.fault.ParseFault.{ParseFault}
-use Rattle.til_parser.specs.declared.tree.{Ast.Ast, AstKind.AstKind, AstPort.AstPort}
+use Rattle.til_parser.specs.declared.tree.{Ast.Ast, AstDecl.AstDecl, AstKind.AstKind, AstName.AstName, AstNamespace.AstNamespace, AstPort.AstPort}
 use Rattle.til_parser.specs.declared.tree.AstKind.TheVariants as decls
 use Rattle.til_parser.specs.declared.tree.AstPorts.TheVariants as ports
-use Rattle.til_parser.specs.Grammar.{Spells, PortsWithin, KindWithin, IsWithin}
 use Rattle.til_parser.specs.Faults.{NamesToken, IsFaultOf, TreesOrFaults}
-use Rattle.til_parser.specs.Laws.{TreesAreApart}
-use Rattle.til_parser.specs.Tree.{plain, depth}
+use Rattle.til_parser.specs.Grammar.{Form, Spells, SpellsDecl, SpellsNamespace, PortsWithin, KindWithin, IsWithin}
+use Rattle.til_parser.specs.Laws.{IsTreeOf, TreesAreApart, TreesHaveTheirForm, TreesHaveTheirPlaces}
 use Rattle.til_parser.specs.Lexemes.{Lexeme, HasFormIn, IsFormed, lexeme_of, lexemes_of}
+use Rattle.til_parser.specs.Tree.{plain, depth}
+use Rattle.til_parser.specs.Trees.{NamespaceWith, IsSpellable, number_of_decls}
 use Rattle.til_parser.proofs.LexemeLemmas.{length-lexemes}
 use Rattle.til_parser.proofs.rules.ParseLemmas.{project_complete, tree_or_fault, named}
-use Rattle.tydi_reading.specs.Lists.{EachIs}
-use Rattle.tydi_reading.specs.Reading.{Outcome, took}
+use Rattle.til_parser.proofs.rules.ProjectRules.{decl-filled}
+use Rattle.til_parser.proofs.spelled.SpelledLeaves.{Shows, each_of, shows_name, shows_place}
+use Rattle.til_parser.proofs.spelled.SpelledTrees.{namespace_of}
 
 -- what holds of each token of a text holds of it as a lexeme
 All-lexemes : (text : List ℕ) (P : Token → Type 0) (Q : Lexeme → Type 0) → ((token : Token) → P token → Q (lexeme_of text token)) → (tokens : List Token)
@@ -34,7 +39,7 @@ pub formed_of : (text : List ℕ) (tokens : List Token) → IsUtf8 text → toke
 formed_of text tokens utf8 lexed = All-lexemes text (HasFormIn text) IsFormed (λ token is. is) tokens (tokens-have_form text tokens utf8 lexed)
 
 -- each stands at its place in the text
-pub placed_of : (text : List ℕ) (tokens : List Token) → IsUtf8 text → tokens_of text ≡ Ok tokens → All (λ (lexeme : Lexeme). IsPlaceIn text lexeme.place) (lexemes_of text tokens)
+placed_of : (text : List ℕ) (tokens : List Token) → IsUtf8 text → tokens_of text ≡ Ok tokens → All (λ (lexeme : Lexeme). IsPlaceIn text lexeme.place) (lexemes_of text tokens)
 placed_of text tokens utf8 lexed =
     All-lexemes text (IsTokenOf text) (λ lexeme. IsPlaceIn text lexeme.place) (λ token is. token-stands text token is) tokens (tokens_of-are text tokens utf8 lexed)
 
@@ -66,7 +71,7 @@ kind-nests (decls.Test target port value plan) = record { least = 0; within = λ
 tree-nests : (ast : Ast) → NestAt (λ n. IsWithin n ast)
 tree-nests ast = each-nests (λ namespace. each-nests (λ decl. kind-nests decl.kind) namespace.decls) ast.namespaces
 
--- ---- the laws
+-- ---- no text spells two trees
 
 -- tokens with their form spell one tree at most
 spelled_apart : (ts : List Lexeme) (one other : Ast) → All IsFormed ts → Spells one ts → Spells other ts → one ≡ other
@@ -90,3 +95,52 @@ trees_or_faults text tokens utf8 lexed = tree_or_fault (lexemes_of text tokens) 
 -- a fault of the tokens of a text names one of them
 pub names_token : (text : List ℕ) (tokens : List Token) (fault : ParseFault) → IsFaultOf (lexemes_of text tokens) fault → NamesToken (length tokens) fault
 names_token text tokens fault is = named (lexemes_of text tokens) (length tokens) fault (sym (length-lexemes text tokens)) (λ _. is)
+
+-- ---- how many declarations
+
+sum : {F G : Form} {ts : List Lexeme} (b : (F ⋯ G) ts) → length ts ≡ length b.front + length b.back
+sum b = ap length b.all ∙ length-append b.front b.back
+
+decls-few : (all : List AstDecl) (ts : List Lexeme) → Each SpellsDecl all ts → length all ≤ length ts
+decls-few [] ts s = omega arith
+decls-few (decl ∷ all) ts s = omega (arith, sum s, decl-filled 0 decl s.front s.begins, decls-few all s.back s.ends)
+
+namespaces-few : (all : List AstNamespace) (ts : List Lexeme) → Each SpellsNamespace all ts → number_of_decls all ≤ length ts
+namespaces-few [] ts s = omega arith
+namespaces-few (one ∷ all) ts s =
+    let n = s.begins in
+    let inside = n.ends.ends.ends.ends in
+    let few = decls-few one.decls inside.front inside.begins in
+    let more = namespaces-few all s.back s.ends in
+    omega (arith, sum s, sum n, sum n.ends, sum n.ends.ends, sum n.ends.ends.ends, sum inside)
+
+-- ---- the form of the tree, and its places
+
+-- what the tokens of a text show of the tree that they spell
+shown-of : {Named : AstName → Type 0} (text : List ℕ) → Shows (IsPlaceIn text) Named → (ast : Ast) → IsTreeOf text ast
+    → EachIs (NamespaceWith Named) ast.namespaces
+shown-of {Named} text shows ast is =
+    let formed = formed_of text is.tokens is.utf8 is.lexed in
+    let placed = placed_of text is.tokens is.utf8 is.lexed in
+    each_of (NamespaceWith Named) SpellsNamespace (namespace_of shows) ast.namespaces (record {
+      tokens = lexemes_of text is.tokens;
+      each = λ k d within. record { formed = formed k d within; placed = placed k d within };
+      spelled = is.spelled.each;
+    })
+
+pub spellable-of : (text : List ℕ) (ast : Ast) → IsTreeOf text ast → IsSpellable ast
+spellable-of text ast is = record { some = is.spelled.some; each = shown-of text (shows_name (IsPlaceIn text)) ast is }
+
+pub trees-have_places : TreesHaveTheirPlaces
+trees-have_places text ast is = shown-of text (shows_place (IsPlaceIn text)) ast is
+
+pub trees-have_form : TreesHaveTheirForm
+trees-have_form text ast is = record {
+  spellable = spellable-of text ast is;
+  tree = λ short within. record {
+    spellable = spellable-of text ast is;
+    within = within;
+    few = let few = namespaces-few ast.namespaces (lexemes_of text is.tokens) is.spelled.each in
+        omega (arith, length-lexemes text is.tokens, tokens_of-few text is.tokens is.lexed, short);
+  };
+}

@@ -2,7 +2,7 @@ mod numbers
 mod texts
 mod printed
 mod rules
-pub mod spelled
+mod spelled
 mod LexemeLemmas
 pub mod PlainLemmas
 mod PlacesLemmas

@@ -1,3 +1,2 @@
 pub mod SpelledLeaves
 pub mod SpelledTrees
-pub mod SpelledCounts

@@ -4,7 +4,7 @@ use Rattle.std.proofs.lemmas.Bool.{ltb-true, ltb-false}
 use Rattle.std.proofs.lemmas.Bool.Decides.{nat_tests}
 use Rattle.tydi_base.specs.declared.place.Place.{Place}
 use Rattle.til_lexer.specs.Places.{IsPlaceIn, place_past, start}
-use Rattle.til_parser.proofs.spelled.SpelledCounts.{trees-have_places}
+use Rattle.til_parser.proofs.LawLemmas.{trees-have_places}
 use Rattle.logical_types.specs.Faults.{faults_of}
 use Rattle.logical_types.specs.declared.fault.TypeFault.{TypeFault}
 use Rattle.til_resolve.specs.declared.fault.ResolveFault.{ResolveFault}

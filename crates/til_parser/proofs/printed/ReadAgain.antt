@@ -1,5 +1,5 @@
 -- The canonical text of a spellable tree is lexed to the tokens of which it is printed, and so it spells that tree again.
-use Rattle.std.proofs.Common.{◌≡◌, ℕ, ◌<◌, List, [], ◌∷◌, ◌++◌, map, Ok, refl, sym, ap, subst, ◌∙◌, append-nil, IsUtf8, arith}
+use Rattle.std.proofs.Common.{◌≡◌, ℕ, List, [], ◌∷◌, ◌++◌, map, refl, sym, ap, subst, ◌∙◌, append-nil, IsUtf8, arith}
 use Rattle.std.proofs.lemmas.Str.{IsUtf8-append}
 use Rattle.til_lexer.specs.Places.{start, place_past}
 use Rattle.til_lexer.specs.Spelling.{own_text, spelled_text, tokens_spelled}
@@ -13,9 +13,9 @@ use Rattle.til_parser.specs.Lexemes.{lexemes_of}
 use Rattle.til_parser.specs.Same.{SameNamespace}
 use Rattle.til_parser.specs.Trees.{IsSpellable}
 use Rattle.til_parser.proofs.PlacesLemmas.{length-alike, trees-alike}
-use Rattle.til_parser.proofs.printed.PrintedForms.{IsSplit, shown}
+use Rattle.til_parser.proofs.printed.PrintedForms.{shown}
 use Rattle.til_parser.proofs.printed.PrintedTrees.{printed_namespaces}
-use Rattle.til_parser.proofs.spelled.SpelledCounts.{spellable-of}
+use Rattle.til_parser.proofs.LawLemmas.{spellable-of}
 
 lexemes-shown : (text : List ℕ) (tokens : List Token) → map shown (lexemes_of text tokens) ≡ map (λ (token : Token). (token.kind, own_text text token)) tokens
 lexemes-shown text [] = refl

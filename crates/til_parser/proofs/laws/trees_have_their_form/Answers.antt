@@ -1,4 +1,4 @@
-use Rattle.til_parser.proofs.spelled.SpelledCounts.{trees-have_form}
+use Rattle.til_parser.proofs.LawLemmas.{trees-have_form}
 use Rattle.til_parser.proofs.laws.trees_have_their_form.Goals as goal
 
 pub returns : goal.returns
