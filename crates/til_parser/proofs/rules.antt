@@ -1,15 +1,10 @@
 pub mod TokenRules
 pub mod LeafRules
 pub mod ListRules
-pub mod TypeWords
 pub mod StreamFields
 pub mod StreamRules
-pub mod PartRules
 pub mod TypeRules
-pub mod LevelRules
 pub mod BodyRules
-pub mod PortRules
 pub mod DeclRules
 pub mod ProjectRules
-pub mod Shrinking
 pub mod ParseLemmas

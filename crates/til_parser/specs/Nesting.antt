@@ -1,19 +1,23 @@
 -- How deep types nest: which tokens lead to where a type begins that stands inside so many others, by recursion on the grammar alone.
 -- No reader is in it. This project's own.
-use Rattle.std.specs.Prelude.{ℕ, zero, suc, ◌⊎◌, Bool, List, Option, codes}
-use Rattle.tydi_reading.specs.Forms.{◌⋯◌, Nothing, Never}
+use Rattle.std.specs.Prelude.{ℕ, zero, suc, codes}
+use Rattle.tydi_reading.specs.Forms.{◌⋯◌, Past, Nothing, Never}
 use Rattle.tydi_reading.specs.Lists.{EachTo, SeparatedTo}
 use Rattle.tydi_reading.specs.Named.{NamedTo}
 use Rattle.til_lexer.specs.declared.token.TokenKind.TheVariants as kinds
 use Rattle.til_parser.specs.declared.keyword.Argument.{Argument}
 use Rattle.til_parser.specs.declared.keyword.Argument.TheVariants as arguments
+use Rattle.til_parser.specs.declared.keyword.Keyword.{Keyword}
+use Rattle.til_parser.specs.declared.keyword.Keyword.TheVariants as keywords
+use Rattle.til_parser.specs.declared.keyword.TypeWord.{TypeWord}
+use Rattle.til_parser.specs.declared.keyword.TypeWord.TheVariants as words
 use Rattle.til_parser.specs.declared.ltype.AstPart.{AstPart}
 use Rattle.til_parser.specs.declared.ltype.AstStream.{AstStream}
-use Rattle.til_parser.specs.declared.tree.AstName.{AstName}
 use Rattle.til_parser.specs.declared.tree.AstPath.{AstPath}
 use Rattle.til_parser.specs.Grammar.{Form, Of, Word, Name, Doc, Path, Given, SpellsType, argument_word, way_word}
 use Rattle.til_parser.specs.Grammar.{SpellsPort, SpellsDecl, SpellsNamespace}
 use Rattle.til_parser.specs.Tree.{plain, settings_of}
+use Rattle.til_parser.specs.Words.{keyword_word, type_word}
 
 -- ---- lists
 
@@ -33,7 +37,7 @@ SpellsPart part = Name part.name ⋯ Of kinds.Colon ⋯ SpellsType (plain part.l
 
 -- the name of a part and a colon, and then what leads on in its type
 abbrev pub PartTo : Form → Form
-PartTo To ts = (name : AstName) × ((Name name ⋯ Of kinds.Colon ⋯ To) ts)
+PartTo To = Past Name (Of kinds.Colon ⋯ To)
 
 -- a colon, and then what leads on in the value of an argument that is a type
 abbrev pub ValueTo : Form → Argument → Form
@@ -49,11 +53,16 @@ SpellsArgument one = Given (SpellsType (plain one.element)) (SpellsType (plain o
 abbrev pub ArgumentsTo : Form → Form
 ArgumentsTo To = NamedTo (Of kinds.Comma) SpellsArgument (λ name. Word (argument_word name) ⋯ ValueTo To name)
 
--- the front of a Group, a Union or a Stream, and then what leads on in a type inside it
+-- after the word of a type, what leads on in a type inside it
+abbrev pub AfterTo : Form → TypeWord → Form
+AfterTo To words.Group = BracketedTo SpellsPart (PartTo To)
+AfterTo To words.Union = BracketedTo SpellsPart (PartTo To)
+AfterTo To words.Stream = Of kinds.OpenParen ⋯ ArgumentsTo To
+AfterTo To _ = Never
+
+-- the word of a type, and then what leads on in a type inside it
 abbrev pub InsideTo : Form → Form
-InsideTo To ts =
-    (Word (codes "Group") ⋯ BracketedTo SpellsPart (PartTo To)) ts
-    ⊎ ((Word (codes "Union") ⋯ BracketedTo SpellsPart (PartTo To)) ts ⊎ (Word (codes "Stream") ⋯ Of kinds.OpenParen ⋯ ArgumentsTo To) ts)
+InsideTo To ts = (word : TypeWord) × ((Word (type_word word) ⋯ AfterTo To word) ts)
 
 -- from where a type begins to where one begins that stands inside so many others
 unfoldable pub TypeTo : ℕ → Form
@@ -64,28 +73,30 @@ TypeTo (suc levels) = InsideTo (TypeTo levels)
 
 -- the front of a port, and then what leads on in its type
 abbrev pub PortTo : ℕ → Form
-PortTo levels ts = (doc : Option (List ℕ)) × (name : AstName) × (inward : Bool)
-    × ((Doc doc ⋯ Name name ⋯ Of kinds.Colon ⋯ Word (way_word inward) ⋯ TypeTo levels) ts)
+PortTo levels = Past Doc (Past Name (Of kinds.Colon ⋯ Past (λ inward. Word (way_word inward)) (TypeTo levels)))
 
 -- the front of a list of ports, and then what leads on in one of them
 abbrev pub PortsTo : ℕ → Form
 PortsTo levels = BracketedTo SpellsPort (PortTo levels)
 
--- a keyword, a name and `=`, and then what leads on: in a type, or in ports
+-- after a keyword and a name, what leads on: in a type, or in ports
+abbrev pub RestTo : ℕ → Keyword → Form
+RestTo levels keywords.Type = Of kinds.Equals ⋯ TypeTo levels
+RestTo levels keywords.Interface = Of kinds.Equals ⋯ PortsTo levels
+RestTo levels keywords.Streamlet = Of kinds.Equals ⋯ PortsTo levels
+RestTo levels _ = Never
+
+-- a keyword and a name, and then what leads on
 abbrev pub KindTo : ℕ → Form
-KindTo levels ts = (name : AstName) × (
-    (Word (codes "type") ⋯ Name name ⋯ Of kinds.Equals ⋯ TypeTo levels) ts
-    ⊎ ((Word (codes "interface") ⋯ Name name ⋯ Of kinds.Equals ⋯ PortsTo levels) ts
-    ⊎ (Word (codes "streamlet") ⋯ Name name ⋯ Of kinds.Equals ⋯ PortsTo levels) ts))
+KindTo levels ts = (begun : Keyword) × ((Word (keyword_word begun) ⋯ Past Name (RestTo levels begun)) ts)
 
 -- the front of a declaration, and then what leads on in it
 abbrev pub DeclTo : ℕ → Form
-DeclTo levels ts = (doc : Option (List ℕ)) × ((Doc doc ⋯ KindTo levels) ts)
+DeclTo levels = Past Doc (KindTo levels)
 
 -- the front of a namespace, and then what leads on in one of its declarations
 abbrev pub NamespaceTo : ℕ → Form
-NamespaceTo levels ts = (doc : Option (List ℕ)) × (path : AstPath)
-    × ((Doc doc ⋯ Word (codes "namespace") ⋯ Path path.names ⋯ BracedTo SpellsDecl (DeclTo levels)) ts)
+NamespaceTo levels = Past Doc (Word (codes "namespace") ⋯ Past (λ (path : AstPath). Path path.names) (BracedTo SpellsDecl (DeclTo levels)))
 
 -- from the front of a project to where a type begins that stands inside so many others
 abbrev pub ProjectTo : ℕ → Form

@@ -1,13 +1,14 @@
 -- How `parse` reads names, numbers, paths and types. No public clause names these. This project's own.
-use Rattle.std.specs.Prelude.{ℕ, zero, suc, nat_lt, ◌&&◌, Bool, true, false, List, Option, Some, None}
+use Rattle.std.specs.Prelude.{ℕ, zero, suc, nat_lt, ◌&&◌, Bool, true, false, List, [], ◌∷◌, ◌++◌, Option, Some, None}
 use Rattle.std.specs.Prelude.{option_map, if◌then◌else◌, codes}
 use Rattle.std.specs.Option.{is_some, unwrap_or}
 use Rattle.tydi_base.specs.Name.{name_of}
 use Rattle.tydi_base.specs.Frac.{Fraction}
 use Rattle.tydi_base.specs.declared.place.Place.{Place}
-use Rattle.tydi_reading.specs.Lists.{separated, joined}
+use Rattle.tydi_reading.specs.Lists.{steps, joined}
 use Rattle.tydi_reading.specs.Named.{named}
-use Rattle.tydi_reading.specs.Reading.{◌>>◌, ◌<$>◌, ◌<&>◌, ◌<<◌, pure, rest_of, choose, checked, led, too_deep, took}
+use Rattle.tydi_reading.specs.Reading.{◌>>◌, ◌<$>◌, ◌<&>◌, ◌<<◌, pure, choose, checked, led, optional, too_deep}
+use Rattle.til_lexer.specs.declared.token.TokenKind.{TokenKind}
 use Rattle.til_lexer.specs.declared.token.TokenKind.TheVariants as kinds
 use Rattle.til_parser.specs.declared.arguments.Arguments.{Arguments}
 use Rattle.til_parser.specs.declared.keyword.Argument.{Argument}
@@ -25,7 +26,7 @@ use Rattle.til_parser.specs.declared.tree.AstPath.{AstPath}
 use Rattle.til_parser.specs.Lexemes.{between_marks}
 use Rattle.til_parser.specs.Numbers.{whole_of, numerator_of, denominator_of, lowest}
 use Rattle.til_parser.specs.Words.{sync_of, type_word_at, argument_at}
-use Rattle.til_parser.specs.Reading.{Reader, is_kind, is_word, begins_type, expect, expect_word, next_of, token}
+use Rattle.til_parser.specs.Reading.{Reader, is_kind, is_word, begins_type, expect, expect_word, token}
 
 -- ---- names and numbers
 
@@ -55,18 +56,17 @@ level_of (Some n) = if nat_lt 0 n && nat_lt n 9 then Some n else None
 abbrev pub level : Reader ℕ
 level = token kinds.Number (λ place spelling. level_of (whole_of spelling))
 
+-- the text between the marks of a token of this kind
+abbrev pub marked : TokenKind → Reader (List ℕ)
+marked kind = token kind (λ place spelling. Some (between_marks spelling))
+
 -- the text of a quoted text
 abbrev pub quoted : Reader (List ℕ)
-quoted = token kinds.Quoted (λ place spelling. Some (between_marks spelling))
+quoted = marked kinds.Quoted
 
--- the text of documentation, where it stands next
-abbrev pub doc_of : Option (Place × List ℕ) → Reader (Option (List ℕ))
-doc_of None = pure None
-doc_of (Some next) = λ ts. took (Some (between_marks next.1)) (rest_of ts)
-
--- documentation, if there is any
+-- the text of documentation, if there is any
 unfoldable pub doc : Reader (Option (List ℕ))
-doc = λ ts. doc_of (next_of kinds.Doc ts) ts
+doc = optional (is_kind kinds.Doc) (marked kinds.Doc)
 
 -- ---- paths and lists
 
@@ -74,9 +74,17 @@ doc = λ ts. doc_of (next_of kinds.Doc ts) ts
 unfoldable pub path : Reader AstPath
 path = (λ names. record { names = names }) <$> joined (is_kind kinds.DoubleColon) name
 
+-- one item more, behind those that are found
+abbrev pub one_more : {A : Type 0} → Reader A → List A → Reader (List A)
+one_more item found = (λ x. found ++ x ∷ []) <$> item
+
+-- steps with commas between brackets
+unfoldable pub bracketed_steps : {S : Type 0} → (S → Reader S) → S → Reader S
+bracketed_steps step start = expect kinds.OpenParen >> (steps (is_kind kinds.CloseParen) false (is_kind kinds.Comma) step start << expect kinds.CloseParen)
+
 -- a list with commas between its brackets
-unfoldable pub bracketed : {A : Type 0} → Reader A → Reader (List A)
-bracketed item = expect kinds.OpenParen >> (separated (is_kind kinds.CloseParen) false (is_kind kinds.Comma) item << expect kinds.CloseParen)
+abbrev pub bracketed : {A : Type 0} → Reader A → Reader (List A)
+bracketed item = bracketed_steps (one_more item) []
 
 -- ---- the arguments of a Stream
 

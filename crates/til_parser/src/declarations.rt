@@ -2,11 +2,9 @@
 
 ghost use Rattle.std.specs.Prelude.{◌≡◌, true, false};
 ghost use Rattle.til_parser.specs.ReadDecls as spec;
-ghost use Rattle.til_parser.specs.ReadTypes.{bracketed};
-ghost use Rattle.til_parser.specs.Reading as reading;
-ghost use Rattle.tydi_reading.specs.Lists.{repeated, separated};
+ghost use Rattle.til_parser.specs.ReadTypes.{bracketed, one_more};
+ghost use Rattle.tydi_reading.specs.Lists.{repeated};
 ghost use Rattle.tydi_reading.specs.Reading.{Reads, ReadsAlways};
-ghost use Rattle.til_lexer.specs.declared.token.TokenKind.TheVariants as kinds;
 
 use crate::keyword::{Keyword, keyword_of};
 use crate::parser::Parser;
@@ -34,11 +32,8 @@ impl<'a> Parser<'a> {
     fn namespaces(&mut self, levels: usize) -> Result<List<AstNamespace>, Fault>
         ensures { Reads (repeated (λ _. false) true (spec.namespace levels) self.old) result self.new }
     {
-        let mut namespaces = List::new(self.alloc());
-        'namespaces: while !self.is_at_end() {
-            namespaces.push(self.namespace(levels)?)?;
-        }
-        Ok(namespaces)
+        let none = List::new(self.alloc());
+        self.repeated(none, |rest| rest.is_at_end(), |rest| rest.namespace(levels))
     }
 
     /// `namespace`
@@ -54,25 +49,10 @@ impl<'a> Parser<'a> {
     }
 
     /// `"{" { [doc] decl } "}"`
-    #[tactic(auto, unfolding(crate::specs::ReadDecls::braced))]
     fn decls(&mut self, levels: usize) -> Result<List<AstDecl>, Fault>
         ensures { Reads (spec.braced (spec.decl levels) self.old) result self.new }
     {
-        self.expect(TokenKind::OpenBrace)?;
-        let decls = self.repeated_decls(levels)?;
-        self.expect(TokenKind::CloseBrace)?;
-        Ok(decls)
-    }
-
-    /// `{ [doc] decl }`, up to a closing brace.
-    fn repeated_decls(&mut self, levels: usize) -> Result<List<AstDecl>, Fault>
-        ensures { Reads (repeated (reading.is_kind kinds.CloseBrace) false (spec.decl levels) self.old) result self.new }
-    {
-        let mut decls = List::new(self.alloc());
-        'decls: while !self.sees(TokenKind::CloseBrace) {
-            decls.push(self.decl(levels)?)?;
-        }
-        Ok(decls)
+        self.braced(|rest| rest.decl(levels))
     }
 
     /// `[doc] decl`
@@ -138,27 +118,21 @@ impl<'a> Parser<'a> {
     }
 
     /// `ports`
-    #[tactic(auto, unfolding(crate::specs::ReadTypes::bracketed))]
     fn ports(&mut self, levels: usize) -> Result<List<AstPort>, Fault>
         ensures { Reads (bracketed (spec.port levels) self.old) result self.new }
     {
-        self.expect(TokenKind::OpenParen)?;
-        let ports = self.separated_ports(levels)?;
-        self.expect(TokenKind::CloseParen)?;
-        Ok(ports)
+        self.bracketed(
+            List::new(self.alloc()),
+            |rest, found| rest.next_port(found, levels),
+        )
     }
 
-    /// `[ port { "," port } [ "," ] ]`, up to a closing bracket.
-    fn separated_ports(&mut self, levels: usize) -> Result<List<AstPort>, Fault>
-        ensures { Reads (separated (reading.is_kind kinds.CloseParen) false (reading.is_kind kinds.Comma) (spec.port levels) self.old) result self.new }
+    /// One port more, behind those that are found.
+    fn next_port(&mut self, found: List<AstPort>, levels: usize) -> Result<List<AstPort>, Fault>
+        ensures { Reads (one_more (spec.port levels) found self.old) result self.new }
     {
-        let mut ports = List::new(self.alloc());
-        'ports: while !self.sees(TokenKind::CloseParen) {
-            ports.push(self.port(levels)?)?;
-            if !self.eat(TokenKind::Comma) {
-                return Ok(ports);
-            }
-        }
+        let mut ports = found;
+        ports.push(self.port(levels)?)?;
         Ok(ports)
     }
 
@@ -226,17 +200,10 @@ impl<'a> Parser<'a> {
     }
 
     /// `"{" { stmt } "}"`
-    #[tactic(auto, unfolding(crate::specs::ReadDecls::braced))]
     fn stmts(&mut self) -> Result<List<AstStmt>, Fault>
         ensures { Reads (spec.braced spec.stmt self.old) result self.new }
     {
-        self.expect(TokenKind::OpenBrace)?;
-        let mut stmts = List::new(self.alloc());
-        'stmts: while !self.sees(TokenKind::CloseBrace) {
-            stmts.push(self.stmt()?)?;
-        }
-        self.expect(TokenKind::CloseBrace)?;
-        Ok(stmts)
+        self.braced(|rest| rest.stmt())
     }
 
     /// `stmt`: after the name with which both forms begin, the next token tells which it is.

@@ -78,16 +78,10 @@ impl<'a> Parser<'a> {
     }
 
     /// `quoted`: the text between the two `"`.
-    #[tactic(auto, unfolding(crate::specs::Reading::token))]
     pub(crate) fn quoted(&mut self) -> Result<Text, Fault>
         ensures { Reads (spec.quoted self.old) result self.new }
     {
-        let Some((_, spelling)) = self.next_of(TokenKind::Quoted) else {
-            return Err(Fault::Refused);
-        };
-        let text = Text::new(self.alloc(), inside(spelling))?;
-        self.skip();
-        Ok(text)
+        self.marked(TokenKind::Quoted)
     }
 
     /// `[doc]`: the text between the two `#`, where documentation stands next.
@@ -95,12 +89,24 @@ impl<'a> Parser<'a> {
     pub(crate) fn doc(&mut self) -> Result<Option<Text>, Fault>
         ensures { Reads (spec.doc self.old) result self.new }
     {
-        let Some((_, spelling)) = self.next_of(TokenKind::Doc) else {
+        if !self.sees(TokenKind::Doc) {
             return Ok(None);
+        }
+        Ok(Some(self.marked(TokenKind::Doc)?))
+    }
+
+    /// The text between the two marks of a token.
+    #[tactic(auto, unfolding(crate::specs::Reading::token))]
+    fn marked(&mut self, kind: TokenKind) -> Result<Text, Fault>
+        requires { (kind ≡ kinds.Quoted) ⊎ (kind ≡ kinds.Doc) }
+        ensures { Reads (spec.marked kind self.old) result self.new }
+    {
+        let Some((_, spelling)) = self.next_of(kind) else {
+            return Err(Fault::Refused);
         };
         let text = Text::new(self.alloc(), inside(spelling))?;
         self.skip();
-        Ok(Some(text))
+        Ok(text)
     }
 
     /// `path`
@@ -110,12 +116,15 @@ impl<'a> Parser<'a> {
     {
         let mut names = room_for_one(self.alloc())?;
         names.push(self.name()?)?;
-        'names: while self.eat(TokenKind::DoubleColon) {
-            names.push(self.name()?)?;
-        }
-        Ok(AstPath {
-            names: fitted(names),
-        })
+        let all = self.repeated(
+            names,
+            |rest| !rest.sees(TokenKind::DoubleColon),
+            |rest| {
+                rest.expect(TokenKind::DoubleColon)?;
+                rest.name()
+            },
+        )?;
+        Ok(AstPath { names: fitted(all) })
     }
 }
 

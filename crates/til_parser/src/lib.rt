@@ -12,6 +12,7 @@ mod fault;
 mod keyword;
 mod laws;
 mod leaves;
+mod lists;
 mod ltype;
 mod parser;
 mod parsing;

@@ -1,13 +1,10 @@
 //! Types, and the arguments of a Stream.
 
-ghost use Rattle.std.specs.Prelude.{◌≡◌, false};
+ghost use Rattle.std.specs.Prelude.{◌≡◌};
 ghost use Rattle.til_parser.specs.ReadTypes as spec;
-ghost use Rattle.til_parser.specs.Reading as reading;
-ghost use Rattle.tydi_reading.specs.Lists.{separated};
 ghost use Rattle.til_parser.specs.Words.{argument_at};
 ghost use Rattle.tydi_reading.specs.Named.{argument};
 ghost use Rattle.tydi_reading.specs.Reading.{Reads, ReadsAlways};
-ghost use Rattle.til_lexer.specs.declared.token.TokenKind.TheVariants as kinds;
 
 use crate::arguments::Arguments;
 use crate::keyword::{Argument, TypeWord, sync_of};
@@ -55,28 +52,24 @@ impl<'a> Parser<'a> {
 
     /// `"(" [ part { "," part } [ "," ] ] ")"`, of types of at most so many levels.
     #[cycle(ltype)]
-    #[tactic(auto, unfolding(crate::specs::ReadTypes::bracketed))]
     fn parts(&mut self, levels: usize) -> Result<List<AstPart>, Fault>
         ensures { Reads (spec.bracketed (spec.part (spec.ltype levels)) self.old) result self.new }
     {
-        self.expect(TokenKind::OpenParen)?;
-        let parts = self.separated_parts(levels)?;
-        self.expect(TokenKind::CloseParen)?;
-        Ok(parts)
+        self.bracketed(
+            List::new(self.alloc()),
+            |rest, found| -> Result<List<AstPart>, Fault>
+                ensures { Reads (spec.one_more (spec.part (spec.ltype levels)) found rest.old) result rest.new }
+            { rest.next_part(found, levels) },
+        )
     }
 
-    /// `[ part { "," part } [ "," ] ]`, up to a closing bracket, of types of at most so many levels.
+    /// One part more, behind those that are found.
     #[cycle(ltype)]
-    fn separated_parts(&mut self, levels: usize) -> Result<List<AstPart>, Fault>
-        ensures { Reads (separated (reading.is_kind kinds.CloseParen) false (reading.is_kind kinds.Comma) (spec.part (spec.ltype levels)) self.old) result self.new }
+    fn next_part(&mut self, found: List<AstPart>, levels: usize) -> Result<List<AstPart>, Fault>
+        ensures { Reads (spec.one_more (spec.part (spec.ltype levels)) found self.old) result self.new }
     {
-        let mut parts = List::new(self.alloc());
-        'parts: while !self.sees(TokenKind::CloseParen) {
-            parts.push(self.part(levels)?)?;
-            if !self.eat(TokenKind::Comma) {
-                return Ok(parts);
-            }
-        }
+        let mut parts = found;
+        parts.push(self.part(levels)?)?;
         Ok(parts)
     }
 
@@ -112,14 +105,12 @@ impl<'a> Parser<'a> {
     fn arguments(&mut self, levels: usize) -> Result<Arguments, Fault>
         ensures { Reads (spec.arguments_from (spec.ltype levels) spec.none_given self.old) result self.new }
     {
-        let mut given = Arguments::none();
-        'arguments: while !self.sees(TokenKind::CloseParen) {
-            given = self.argument(given, levels)?;
-            if !self.eat(TokenKind::Comma) {
-                return Ok(given);
-            }
-        }
-        Ok(given)
+        self.steps(
+            Arguments::none(),
+            |rest, given| -> Result<Arguments, Fault>
+                ensures { Reads (argument argument_at spec.is_given (spec.value (spec.ltype levels)) given rest.old) result rest.new }
+            { rest.argument(given, levels) },
+        )
     }
 
     /// An argument that is not given yet, whose value may hold a type of at most so many levels.

@@ -203,13 +203,13 @@ both-rule {T} {A} {B} Good p q One OneNext OneWithin OneDeep Other OtherNext Oth
 
 pub too_deep-rule : {T A : Type 0} (Good : T → Type 0) (begins : T → Bool) (Spelled : A → Form T) (Next : A → Form T)
     → GoesOn Good Spelled [] → ((t : T) → begins t ≡ true → GoesOn Good Spelled (t ∷ []))
-    → ((x : A) (front : List T) → All Good front → Spelled x front → (t : T) × (more : List T) × (front ≡ t ∷ more) × (begins t ≡ true))
+    → ((x : A) (front : List T) → All Good front → Spelled x front → tells begins false front ≡ true)
     → IsRule Good (too_deep begins) Spelled Next (λ _. ⊥) Nothing
 too_deep-rule {T} {A} Good begins Spelled Next example begun starts = record {
   example = example;
   local = local;
   sound = λ ts rest x is. absurd (never ts rest x is);
-  complete = λ front rest x good s next. complete front rest x (starts x front good s);
+  complete = λ front rest x good s next. complete x front rest (starts x front good s);
   finishes = finishes;
   stops = λ front rest _ d. stops front rest d;
 }
@@ -229,12 +229,12 @@ too_deep-rule {T} {A} Good begins Spelled Next example begun starts = record {
     never [] rest x is = cc
     never (t ∷ ts) rest x is = cc
 
-    complete : (front rest : List T) (x : A) → (t : T) × (more : List T) × (front ≡ t ∷ more) × (begins t ≡ true)
-        → Reached (λ (x : A). ⊥) rest x (too_deep begins (front ++ rest))
-    complete front rest x s = inr (record {
-      at = front ++ rest;
-      is = rw s.2 (ap (λ b. stopped (cond b faults.TooDeep faults.Refused) ((s.0 ∷ s.1) ++ rest)) s.3);
-      before = let sum = length-append front rest in omega arith;
+    complete : (x : A) (front rest : List T) → tells begins false front ≡ true → Reached (λ (x : A). ⊥) rest x (too_deep begins (front ++ rest))
+    complete x [] rest s = absurd cc
+    complete x (t ∷ more) rest s = inr (record {
+      at = (t ∷ more) ++ rest;
+      is = ap (λ b. stopped (cond b faults.TooDeep faults.Refused) ((t ∷ more) ++ rest)) s;
+      before = let sum = length-append (t ∷ more) rest in omega arith;
       beyond = λ w. w;
     })
 

@@ -11,6 +11,7 @@ use Rattle.tydi_reading.specs.Reading.{Reader, stopped, leaf, tells, ◌>>◌, �
 use Rattle.tydi_reading.specs.Rules.{IsRule}
 use Rattle.tydi_reading.proofs.ExactLemmas.{refused-exact}
 use Rattle.tydi_reading.proofs.MarkLemmas.{IsMark}
+use Rattle.tydi_reading.proofs.RepeatedRule.{begins-repeats}
 use Rattle.tydi_reading.proofs.Rule.{Mark, as_rule, skip, close, mark-tells}
 use Rattle.tydi_reading.proofs.SeparatedRule.{Between, separated-rule}
 use Rattle.tydi_reading.proofs.StepRules.{leaf-rule}
@@ -71,9 +72,7 @@ not_digit b x none some = other (x == b) refl
 between : Between Good (is 41) false (is 44) (Byte 44) Digit Anything Never
 between = record {
   mark = byte-mark 44;
-  filled = λ x front s. let size = ap length s.0 in omega arith;
-  starts = λ x front rest s. rw (s.0) (not_digit 41 x refl s.1);
-  starts_deep = λ front rest d. absurd d;
+  repeats = begins-repeats (λ t some. not_digit 41 t refl some) (record { item = λ x front rest s. rw (s.0) s.1; deep = λ front rest d. absurd d });
   before_end = λ rest stop. tt;
   before_separator = λ t rest comma. tt;
   apart = apart;

@@ -1,7 +1,30 @@
 -- What stands one after another.
-use Rattle.std.proofs.Common.{◌≡◌, Bool, false, List, ◌++◌, sym, ap, ◌∙◌, subst, append_assoc}
+use Rattle.std.proofs.Common.{◌≡◌, Bool, false, List, ◌++◌, refl, sym, ap, ◌∙◌, subst, append_assoc}
 use Rattle.tydi_reading.specs.Forms.{Form, ◌⋯◌}
 use Rattle.tydi_reading.specs.Reading.{tells}
+
+-- what has the one form, and then what has the other
+pub joins : {T : Type 0} {First Second : Form T} (front back : List T) → First front → Second back → (First ⋯ Second) (front ++ back)
+joins front back begins ends = record { front = front; back = back; all = refl; begins = begins; ends = ends }
+
+-- what stands before the last of three stands before the last two
+pub regroup : {T : Type 0} {First Second Third : Form T} {ts : List T} → ((First ⋯ Second) ⋯ Third) ts → (First ⋯ (Second ⋯ Third)) ts
+regroup s = let b = s.begins in record {
+  front = b.front;
+  back = b.back ++ s.back;
+  all = s.all ∙ ap (λ l. l ++ s.back) b.all ∙ append_assoc b.front b.back s.back;
+  begins = b.begins;
+  ends = joins b.back s.back b.ends s.ends;
+}
+
+pub ungroup : {T : Type 0} {First Second Third : Form T} {ts : List T} → (First ⋯ (Second ⋯ Third)) ts → ((First ⋯ Second) ⋯ Third) ts
+ungroup s = let b = s.ends in record {
+  front = s.front ++ b.front;
+  back = b.back;
+  all = s.all ∙ ap (λ l. s.front ++ l) b.all ∙ sym (append_assoc s.front b.front b.back);
+  begins = joins s.front b.front s.begins b.begins;
+  ends = b.ends;
+}
 
 -- the same front, and another form of what follows it
 pub with_ends : {T : Type 0} {First Second Other : Form T} {ts : List T} (s : (First ⋯ Second) ts) → Other s.back → (First ⋯ Other) ts

@@ -1,15 +1,15 @@
 -- Items with a joint between each two are a rule.
-use Rattle.std.proofs.Common.{◌≡◌, Bool, true, false, cond, List, [], ◌∷◌, ◌++◌, length, refl, sym, ap, ◌∙◌, subst, arith, append_assoc}
+use Rattle.std.proofs.Common.{◌≡◌, Bool, true, false, List, [], ◌∷◌, ◌++◌, length, refl, sym, ap, ◌∙◌, subst, arith, append_assoc}
 use Rattle.std.specs.Prelude.{not}
 use Rattle.std.proofs.lemmas.List.{append-nil, length-append}
 use Rattle.tydi_reading.specs.Forms.{Form, ◌⋯◌, Never, Anything}
-use Rattle.tydi_reading.specs.Lists.{Each, EachTo, EachIs, mark, Joined, repeated_turn, joined_turn, joined}
-use Rattle.tydi_reading.specs.Reading.{Outcome, Reader, took, stopped, and_then, Turn, again, done, pure, choose, tells, ◌>>◌, ◌<$>◌, loop}
+use Rattle.tydi_reading.specs.Lists.{Each, EachTo, EachIs, mark, Joined, repeated_turn, joined}
+use Rattle.tydi_reading.specs.Reading.{Reader, tells, ◌>>◌, loop}
 use Rattle.tydi_reading.specs.Rules.{IsRule}
 use Rattle.tydi_reading.proofs.MarkLemmas.{IsMark, Mark-filled, mark-rule}
 use Rattle.tydi_reading.proofs.MarkRules.{skip-rule}
-use Rattle.tydi_reading.proofs.RepeatedRule.{Adds, Repeats, repeated_from-rule}
-use Rattle.tydi_reading.proofs.StepRules.{then-rule, read-rule}
+use Rattle.tydi_reading.proofs.RepeatedRule.{Adds, Repeats, each_unit, repeated_from-rule}
+use Rattle.tydi_reading.proofs.StepRules.{then-rule}
 
 module _ {T A : Type 0} (Good : T → Type 0) (joins : T → Bool) (Joint : Form T) (item : Reader T A) (Item : A → Form T) (m : IsMark Good joins Joint)
     (rule : IsRule Good item Item (λ _. Anything) (λ _. Unit {0}) Never) where
@@ -75,45 +75,14 @@ module _ {T A : Type 0} (Good : T → Type 0) (joins : T → Bool) (Joint : Form
       let b = more-of items x ts s in
       (x, record { front = b.front; back = b.back; all = b.all; begins = b.begins; ends = record { items = items; added = refl; spelled = b.ends } })
 
-  each_unit : (items : List A) → EachIs (λ _. Unit {0}) items
-  each_unit [] = tt
-  each_unit (x ∷ items) = (tt, each_unit items)
-
   no_deep : (items : List A) (ts : List T) → (Each More items ⋯ Joint ⋯ Never) ts → ⊥
   no_deep items ts b = b.ends.ends
-
-  turn-same : (found : List A) (ts : List T) → repeated_turn (λ t. not (joins t)) true (mark joins >> item) found ts ≡ joined_turn joins item found ts
-  unfolding repeated_turn joined_turn
-  turn-same found ts = of_tests ts
-    where
-      add : A → Turn (List A)
-      add x = again (found ++ x ∷ [])
-
-      of_item : (made : Outcome T A) → and_then made (λ x. pure (add x)) ≡ and_then made (λ x. pure (add x))
-      of_item made = refl
-
-      of_mark : (made : Outcome T (Unit {0})) → and_then (and_then made (λ _. item)) (λ x. pure (add x)) ≡ and_then made (λ _. add <$> item)
-      of_mark (took _ rest) = refl
-      of_mark (stopped e rest) = refl
-
-      of_test : (b : Bool) (us : List T) → (cond {A = Reader T (Turn (List A))} (not b) (pure (done found)) (add <$> (mark joins >> item))) us
-          ≡ (cond {A = Reader T (Turn (List A))} b (mark joins >> add <$> item) (pure (done found))) us
-      of_test true us = of_mark (mark joins us)
-      of_test false us = refl
-
-      of_tests : (us : List T) → choose (λ t. not (joins t)) true (pure (done found)) (add <$> (mark joins >> item)) us
-          ≡ choose joins false (mark joins >> add <$> item) (pure (done found)) us
-      of_tests [] = refl
-      of_tests (t ∷ us) = of_test (joins t) (t ∷ us)
-
-  loop-same : (x : A) (ts : List T) → loop (repeated_turn (λ t. not (joins t)) true (mark joins >> item)) (x ∷ []) ts ≡ loop (joined_turn joins item) (x ∷ []) ts
-  loop-same x ts = ap (λ (turn : List A → Reader T (Turn (List A))). loop turn (x ∷ []) ts) (λ i. λ found us. turn-same found us i)
 
   -- items with a joint between each two, up to where no joint stands
   pub joined-rule : IsRule Good (joined joins item) (Joined Joint Item) (λ _ rest. tells (λ t. not (joins t)) true rest ≡ true) (λ _. Unit {0}) Never
   unfolding joined
   joined-rule =
-      then-rule Good item (λ x. loop (joined_turn joins item) (x ∷ [])) Item (λ _. Anything) (λ _. Unit {0}) Never
+      then-rule Good item (λ x. loop (repeated_turn (λ t. not (joins t)) true (mark joins >> item)) (x ∷ [])) Item (λ _. Anything) (λ _. Unit {0}) Never
       (λ x. Adds (Each More) (x ∷ [])) (λ _ _ rest. tells (λ t. not (joins t)) true rest ≡ true) (λ _. EachIs (λ _. Unit {0}))
       (λ _. EachTo More (Joint ⋯ Never))
       (Joined Joint Item) (λ _ rest. tells (λ t. not (joins t)) true rest ≡ true) (λ _. Unit {0}) Never
@@ -130,7 +99,4 @@ module _ {T A : Type 0} (Good : T → Type 0) (joins : T → Bool) (Joint : Form
         follow_deep = λ x back rest d. tt;
       })
       rule
-      (λ x. read-rule Good (loop (repeated_turn (λ t. not (joins t)) true (mark joins >> item)) (x ∷ [])) (loop (joined_turn joins item) (x ∷ []))
-      (Adds (Each More) (x ∷ [])) (λ _ rest. tells (λ t. not (joins t)) true rest ≡ true) (EachIs (λ _. Unit {0}))
-      (EachTo More (Joint ⋯ Never)) (loop-same x)
-      (repeated_from-rule Good (λ t. not (joins t)) true (mark joins >> item) More (λ _. Unit {0}) (Joint ⋯ Never) repeats more-rule (x ∷ []) (each_unit (x ∷ []))))
+      (λ x. repeated_from-rule Good (λ t. not (joins t)) true (mark joins >> item) More (λ _. Unit {0}) (Joint ⋯ Never) repeats more-rule (x ∷ []) (each_unit (x ∷ [])))

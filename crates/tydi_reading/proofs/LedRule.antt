@@ -5,7 +5,7 @@ use Rattle.tydi_reading.specs.Forms.{Form, ◌⋯◌, Never, Anything}
 use Rattle.tydi_reading.specs.Reading.{Reader, ◌>>=◌, and_then, meant, leaf, choose, tells, led_by, led}
 use Rattle.tydi_reading.specs.Rules.{IsRule}
 use Rattle.tydi_reading.proofs.ChoiceRules.{chosen, choose-rule}
-use Rattle.tydi_reading.proofs.StepRules.{then-rule, read-rule}
+use Rattle.tydi_reading.proofs.StepRules.{Chained, ChainedTo, chain-rule, read-rule}
 
 module _ {T K A : Type 0} (Good : T → Type 0) (meaning : T → Option K) (p : K → Reader T A) (q : Reader T A) where
   abbrev is_told : T → Bool
@@ -28,10 +28,10 @@ module _ {T K A : Type 0} (Good : T → Type 0) (meaning : T → Option K) (p : 
       (apart_to : (front rest : List T) → OtherTo front → tells is_told false (front ++ rest) ≡ false) where
     -- a leading thing, and what its meaning asks for
     abbrev pub Led : A → Form T
-    Led x ts = (k : K) × ((Lead k ⋯ After k x) ts)
+    Led = Chained Lead After
 
     abbrev pub LedTo : Form T
-    LedTo ts = (k : K) × ((Lead k ⋯ To k) ts)
+    LedTo = ChainedTo Lead After To
 
     leads : (k : K) (ts rest : List T) → Lead k ts → tells is_told false (ts ++ rest) ≡ true
     leads k ts rest s = let o = there k ts s in rw o.1 (ap is_some o.2)
@@ -58,18 +58,5 @@ module _ {T K A : Type 0} (Good : T → Type 0) (meaning : T → Option K) (p : 
           one_deep_begins = λ front rest d. leads_on d.0 (To d.0) front rest d.1;
           other_deep_begins = apart_to;
         })
-        (then-rule Good (leaf meaning) p Lead (λ _. Anything) (λ _. Unit {0}) Never After (λ _. Next) (λ _. Within) To Led Next Within LedTo
-        (record {
-          join = λ k x front back s o. (k, record { front = front; back = back; all = refl; begins = s; ends = o });
-          part = λ x ts s. s;
-          follow = λ k x back rest s next. tt;
-          follows = λ k x back rest s next. next;
-          within = λ k x back s w v. v;
-          apart = λ k x front back _ s all. (tt, all);
-          first = λ ts d. absurd d;
-          last = λ k front back s d. (k, record { front = front; back = back; all = refl; begins = s; ends = d });
-          deep = λ ts d. inr d;
-          follow_deep = λ k back rest d. tt;
-        })
-        first after)
+        (chain-rule Lead After Good (leaf meaning) p (λ _. Anything) Next Within To (λ k x back rest s next. tt) (λ k back rest d. tt) first after)
         other)

@@ -1,10 +1,10 @@
 -- A loop that takes a thing whenever it goes on is its first turn, and the loop after it.
-use Rattle.std.proofs.Common.{◌≡◌, ℕ, zero, suc, ◌<◌, ◌≤◌, Bool, true, false, cond, List, [], ◌∷◌, ◌++◌, length, refl, arith, Ok, Err, ap, subst, sym, ◌∙◌}
+use Rattle.std.proofs.Common.{◌≡◌, ℕ, zero, suc, ◌<◌, ◌≤◌, Bool, true, false, cond, List, [], ◌∷◌, ◌++◌, length, refl, arith, Ok, Err, ap, subst, sym}
 use Rattle.std.specs.Prelude.{Result, OnOk}
 use Rattle.tydi_reading.specs.declared.fault.Fault.{Fault}
 use Rattle.tydi_reading.specs.declared.fault.Fault.TheVariants as faults
-use Rattle.tydi_reading.specs.Lists.{repeated, repeated_turn, steps_turn, separator_turn, joined_turn, mark}
-use Rattle.tydi_reading.specs.Reading.{Outcome, took, stopped, Reader, Reads, Shrinks, and_then, ◌>>=◌, ◌<$>◌, pure, rest_of, sees, ◌>>◌, Turn, again, done, turned, loop_from, loop, tells}
+use Rattle.tydi_reading.specs.Lists.{repeated, repeated_turn, steps_turn, separator_turn, mark}
+use Rattle.tydi_reading.specs.Reading.{Outcome, took, stopped, Reader, Reads, Shrinks, and_then, ◌>>=◌, ◌<$>◌, pure, rest_of, Turn, again, done, turned, loop_from, loop, tells}
 
 -- each turn takes a thing where the loop goes on
 pub record Advances {T S : Type 0} (turn : S → Reader T (Turn S)) : Type 0 where
@@ -44,7 +44,7 @@ took-both x y ts rest is = (cc, cc)
 no_again : {S : Type 0} (s next : S) (Goal : Type 0) → ◌≡◌ {A = Turn S} (done s) (again next) → Goal
 no_again s next Goal is = absurd cc
 
-mapped-less : {T A B : Type 0} (f : A → B) (read : Reader T A) → Shrinks read → Shrinks (f <$> read)
+pub mapped-less : {T A B : Type 0} (f : A → B) (read : Reader T A) → Shrinks read → Shrinks (f <$> read)
 mapped-less {T} {A} {B} f read shrinks = record { less = λ ts rest y is. of_made ts rest y (read ts) refl is }
   where
     of_made : (ts rest : List T) (y : B) (made : Outcome T A) → read ts ≡ made → and_then made (λ x. pure (f x)) ≡ took y rest → length rest < length ts
@@ -111,34 +111,11 @@ rest_of-least : {T : Type 0} (ts : List T) → length (rest_of ts) ≤ length ts
 rest_of-least [] = omega arith
 rest_of-least (t ∷ ts) = omega arith
 
-pub joined_turn-advances : {T A : Type 0} (joins : T → Bool) (item : Reader T A) → Shrinks item → Advances (joined_turn joins item)
-unfolding joined_turn mark
-joined_turn-advances {T} {A} joins item shrinks = record { less = λ found ts rest next is. of_test found ts rest next (tells joins false ts) is }
-  where
-    of_mark : (found : List A) (ts rest : List T) (next : List A) (b : Bool)
-        → and_then (cond {A = Outcome T (Unit {0})} b (took tt (rest_of ts)) (stopped faults.Refused ts)) (λ _. (λ x. again (found ++ x ∷ [])) <$> item) ≡ took (again next) rest
-        → length rest < length ts
-    of_mark found ts rest next true is =
-        let less = (mapped-less (λ x. again (found ++ x ∷ [])) item shrinks).less (rest_of ts) rest (again next) is in
-        let least = rest_of-least ts in
-        omega arith
-    of_mark found ts rest next false is = absurd cc
-
-    of_test : (found : List A) (ts rest : List T) (next : List A) (b : Bool)
-        → (cond {A = Reader T (Turn (List A))} b (mark joins >> (λ x. again (found ++ x ∷ [])) <$> item) (pure (done found))) ts ≡ took (again next) rest → length rest < length ts
-    of_test found ts rest next true is = of_mark found ts rest next (sees joins ts) is
-    of_test found ts rest next false is = no_again found next (length rest < length ts) (took-both (done found) (again next) ts rest is).0
-
 -- ---- a thing that is eaten
 
 pub eaten-least : {T : Type 0} (is : T → Bool) (old : List T) (b : Bool) (new : List T) → new ≡ cond b (rest_of old) old → length new ≤ length old
 eaten-least is old true new taken = let same = ap length taken in let least = rest_of-least old in omega arith
 eaten-least is old false new taken = let same = ap length taken in omega arith
-
-pub eaten-less : {T : Type 0} (is : T → Bool) (old : List T) (b : Bool) (new : List T) → b ≡ tells is false old → new ≡ cond b (rest_of old) old → b ≡ true → length new < length old
-eaten-less is [] b new seen taken test = absurd (let no : false ≡ true = sym seen ∙ test in cc)
-eaten-less is (t ∷ old) b new seen taken test =
-    let same : length new ≡ length old = ap length taken ∙ ap (λ c. length (cond c old (t ∷ old))) test in omega arith
 
 -- ---- where a loop ends
 

@@ -1,5 +1,5 @@
 -- Items one after another are a rule.
-use Rattle.std.proofs.Common.{◌≡◌, ℕ, zero, suc, ◌<◌, ◌⊎◌, inl, inr, ⊎_elim, Bool, true, false, List, [], ◌∷◌, ◌++◌, length, refl, sym, ap, ◌∙◌, subst, append_assoc}
+use Rattle.std.proofs.Common.{◌≡◌, ℕ, zero, suc, ◌<◌, ◌⊎◌, inl, inr, ⊎_elim, Bool, true, false, List, [], ◌∷◌, ◌++◌, length, refl, sym, ap, ◌∙◌, subst, arith, append_assoc}
 use Rattle.std.proofs.lemmas.List.{append-nil}
 use Rattle.std.proofs.lemmas.List.Elements.{All-nil}
 use Rattle.tydi_reading.specs.Forms.{Form, Never, Anything, Runs, Loop, RunsTo, LoopTo}
@@ -24,6 +24,10 @@ pub EachIs-pop : {A : Type 0} (Is : A → Type 0) (found : List A) (x : A) → E
 EachIs-pop Is [] x each = (tt, each.0)
 EachIs-pop Is (v ∷ found) x each = let more = EachIs-pop Is found x each.1 in ((each.0, more.0), more.1)
 
+pub each_unit : {A : Type 0} (items : List A) → EachIs (λ _. Unit {0}) items
+each_unit [] = tt
+each_unit (x ∷ items) = (tt, each_unit items)
+
 -- so many items are added by what is spelled
 pub record Adds {T A : Type 0} (Items : List A → Form T) (found end : List A) (ts : List T) : Type 0 where
   pub items : List A
@@ -37,6 +41,28 @@ pub record Repeats {T A : Type 0} (test : T → Bool) (last : Bool) (Item : A �
   pub filled : (x : A) (front : List T) → Item x front → 0 < length front
   pub starts : (x : A) (front rest : List T) → Item x front → tells test last (front ++ rest) ≡ false
   pub starts_deep : (front rest : List T) → Deep front → tells test last (front ++ rest) ≡ false
+
+-- what is spelled, and what leads to something too deep, begins with such a thing
+pub record Begins {T A : Type 0} (lead : T → Bool) (Item : A → Form T) (Deep : Form T) : Type 0 where
+  pub item : (x : A) (front rest : List T) → Item x front → tells lead false (front ++ rest) ≡ true
+  pub deep : (front rest : List T) → Deep front → tells lead false (front ++ rest) ≡ true
+
+-- a test that no such thing passes tells no of it
+pub begins-apart : {T : Type 0} (lead test : T → Bool) (last : Bool) → ((t : T) → lead t ≡ true → test t ≡ false) → (ts : List T) → tells lead false ts ≡ true → tells test last ts ≡ false
+begins-apart lead test last apart [] is = absurd cc
+begins-apart lead test last apart (t ∷ ts) is = apart t is
+
+pub begins-filled : {T : Type 0} (lead : T → Bool) (front : List T) → tells lead false (front ++ []) ≡ true → 0 < length front
+begins-filled lead [] is = absurd cc
+begins-filled lead (t ∷ front) is = omega arith
+
+pub begins-repeats : {T A : Type 0} {lead test : T → Bool} {last : Bool} {Item : A → Form T} {Deep : Form T} → ((t : T) → lead t ≡ true → test t ≡ false)
+    → Begins lead Item Deep → Repeats test last Item Deep
+begins-repeats {lead = lead} {test = test} {last = last} apart begins = record {
+  filled = λ x front s. begins-filled lead front (begins.item x front [] s);
+  starts = λ x front rest s. begins-apart lead test last apart (front ++ rest) (begins.item x front rest s);
+  starts_deep = λ front rest d. begins-apart lead test last apart (front ++ rest) (begins.deep front rest d);
+}
 
 module _ {T A : Type 0} (Good : T → Type 0) (test : T → Bool) (last : Bool) (item : Reader T A) (Item : A → Form T) (Within : A → Type 0) (Deep : Form T)
     (repeats : Repeats test last Item Deep) (rule : IsRule Good item Item (λ _. Anything) Within Deep) where

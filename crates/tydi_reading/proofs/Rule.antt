@@ -1,6 +1,6 @@
 -- A rule as one thing: what only puts rules together is said by these, and its reader, form and bounds follow.
-use Rattle.std.proofs.Common.{◌≡◌, ◌<◌, ◌⊎◌, inl, inr, ⊎_elim, Bool, true, false, List, ◌++◌, length, Option, Some, None, refl, sym, subst}
-use Rattle.tydi_reading.specs.Forms.{Form, ◌⋯◌, Never, Anything, Optional}
+use Rattle.std.proofs.Common.{◌≡◌, ◌⊎◌, inl, inr, ⊎_elim, Bool, true, false, List, [], ◌++◌, Option, Some, None, refl, sym, subst}
+use Rattle.tydi_reading.specs.Forms.{Form, ◌⋯◌, Never, Anything, Optional, Past}
 use Rattle.tydi_reading.specs.Lists.{mark}
 use Rattle.tydi_reading.specs.Reading.{Reader, Shrinks, tells, choose, optional, ◌>>◌, ◌<<◌, ◌<$>◌, ◌<&>◌}
 use Rattle.tydi_reading.specs.Rules.{IsRule}
@@ -9,6 +9,7 @@ use Rattle.tydi_reading.proofs.FilledLemmas.{shrinks-rule}
 use Rattle.tydi_reading.proofs.FormLemmas.{follows-front, front-tells}
 use Rattle.tydi_reading.proofs.MarkLemmas.{IsMark, mark-rule, Mark-tells}
 use Rattle.tydi_reading.proofs.MarkRules.{skip-rule, close-rule}
+use Rattle.tydi_reading.proofs.RepeatedRule.{Begins, begins-filled}
 use Rattle.tydi_reading.proofs.StepRules.{Only, pure-rule, Maps, map-rule, same-rule}
 
 -- a reader with its form, what may follow, what is within its bounds, what leads to something too deep, and that it is a rule of these
@@ -56,14 +57,6 @@ flat {Good = Good} r none each = record {
       (record { there = λ x ts s. s; back = λ x ts s. s; follow = λ x rest next. next; within = λ x w. tt; apart = λ x w. each x; first = none; deep = λ ts d. absurd d })
       r.is;
 }
-
--- a flat rule where less may follow
-pub narrowed : {T A : Type 0} {Good : T → Type 0} (r : Flat Good A) (Next : A → Form T) → ((x : A) (rest : List T) → Next x rest → r.Next x rest)
-    → IsRule Good r.read r.Spelled Next (λ _. Unit {0}) Never
-narrowed {Good = Good} r Next follow =
-    same-rule Good r.read r.Spelled r.Next (λ _. Unit {0}) Never r.Spelled Next (λ _. Unit {0}) Never
-    (record { there = λ x ts s. s; back = λ x ts s. s; follow = follow; within = λ x w. w; apart = λ x w. w; first = λ ts d. d; deep = λ ts d. d })
-    r.is
 
 -- a mark is a flat rule
 abbrev pub of_mark : {T : Type 0} {Good : T → Type 0} → Mark Good → Flat Good (Unit {0})
@@ -114,10 +107,10 @@ both {T} {A} {B} {Good} a b follow follow_deep = record {
   Spelled = λ (z : A × B). a.Spelled z.0 ⋯ b.Spelled z.1;
   Next = λ (z : A × B). b.Next z.1;
   Within = λ (z : A × B). b.Within z.1;
-  Deep = λ ts. (x : A) × ((a.Spelled x ⋯ b.Deep) ts);
+  Deep = Past a.Spelled b.Deep;
   is = same-rule Good (a.read <&> b.read) (λ (z : A × B). a.Spelled z.0 ⋯ b.Spelled z.1) (λ z. b.Next z.1) (λ z. Unit {0} × b.Within z.1)
-      (λ ts. Never ts ⊎ ((x : A) × ((a.Spelled x ⋯ b.Deep) ts)))
-      (λ (z : A × B). a.Spelled z.0 ⋯ b.Spelled z.1) (λ z. b.Next z.1) (λ z. b.Within z.1) (λ ts. (x : A) × ((a.Spelled x ⋯ b.Deep) ts))
+      (λ ts. Never ts ⊎ Past a.Spelled b.Deep ts)
+      (λ (z : A × B). a.Spelled z.0 ⋯ b.Spelled z.1) (λ z. b.Next z.1) (λ z. b.Within z.1) (Past a.Spelled b.Deep)
       (record {
         there = λ x ts s. s;
         back = λ x ts s. s;
@@ -245,5 +238,21 @@ optional-rule {T} {A} {Good} test a begins next =
 
 -- ---- what takes a thing at least
 
-pub shrinks : {T A : Type 0} {Good : T → Type 0} (r : Rule Good A) → ((x : A) (front : List T) → r.Spelled x front → 0 < length front) → Shrinks r.read
-shrinks {Good = Good} r filled = shrinks-rule Good r.read r.Spelled r.Next r.Within r.Deep filled r.is
+pub shrinks : {T A : Type 0} {Good : T → Type 0} {lead : T → Bool} {Deep : Form T} (r : Rule Good A) → Begins lead r.Spelled Deep → Shrinks r.read
+shrinks {Good = Good} {lead = lead} r begins =
+    shrinks-rule Good r.read r.Spelled r.Next r.Within r.Deep (λ x front s. begins-filled lead front (begins.item x front [] s)) r.is
+
+-- a rule where less may follow, and one with another form of the same
+pub fewer : {T A : Type 0} {Good : T → Type 0} (r : Rule Good A) (Next : A → Form T) → ((x : A) (rest : List T) → Next x rest → r.Next x rest)
+    → IsRule Good r.read r.Spelled Next r.Within r.Deep
+fewer {Good = Good} r Next follow =
+    same-rule Good r.read r.Spelled r.Next r.Within r.Deep r.Spelled Next r.Within r.Deep
+    (record { there = λ x ts s. s; back = λ x ts s. s; follow = follow; within = λ x w. w; apart = λ x w. w; first = λ ts d. d; deep = λ ts d. d })
+    r.is
+
+pub respelled : {T A : Type 0} {Good : T → Type 0} (r : Rule Good A) (Whole : A → Form T) → ((x : A) (ts : List T) → r.Spelled x ts → Whole x ts)
+    → ((x : A) (ts : List T) → Whole x ts → r.Spelled x ts) → IsRule Good r.read Whole r.Next r.Within r.Deep
+respelled {Good = Good} r Whole there back =
+    same-rule Good r.read r.Spelled r.Next r.Within r.Deep Whole r.Next r.Within r.Deep
+    (record { there = there; back = back; follow = λ x rest next. next; within = λ x w. w; apart = λ x w. w; first = λ ts d. d; deep = λ ts d. d })
+    r.is

@@ -1,21 +1,19 @@
 -- Items with separators are a rule.
-use Rattle.std.proofs.Common.{◌≡◌, ℕ, zero, suc, ◌<◌, inl, inr, ⊎_elim, Bool, true, false, List, [], ◌∷◌, ◌++◌, length, refl, sym, ap, ◌∙◌, subst, arith, append_assoc}
+use Rattle.std.proofs.Common.{◌≡◌, ℕ, zero, suc, inl, inr, ⊎_elim, Bool, true, false, List, [], ◌∷◌, ◌++◌, length, refl, sym, ap, ◌∙◌, subst, arith, append_assoc}
 use Rattle.std.proofs.lemmas.List.{append-nil, length-append}
 use Rattle.tydi_reading.specs.Forms.{Form, ◌⋯◌, Runs, Loop, RunsTo, LoopTo}
 use Rattle.tydi_reading.specs.Lists.{Each, EachIs, Separated, SeparatedTo, LastSeparator, steps, separated}
 use Rattle.tydi_reading.specs.Reading.{Reader, Turn, tells, ◌<$>◌}
 use Rattle.tydi_reading.specs.Rules.{IsRule}
 use Rattle.tydi_reading.proofs.MarkLemmas.{IsMark}
-use Rattle.tydi_reading.proofs.RepeatedRule.{Adds, last-same, EachIs-push, EachIs-pop}
+use Rattle.tydi_reading.proofs.RepeatedRule.{Adds, Repeats, last-same, EachIs-push, EachIs-pop}
 use Rattle.tydi_reading.proofs.StepsRule.{Separates, TurnOf, steps-rule}
 use Rattle.tydi_reading.proofs.StepRules.{map-rule, same-rule}
 
 -- items of the rule may stand with such separators between them up to where the test holds
 pub record Between {T A : Type 0} (Good : T → Type 0) (test : T → Bool) (last : Bool) (separates : T → Bool) (Separator : Form T) (Item : A → Form T) (ItemNext : Form T) (Deep : Form T) : Type 0 where
   pub mark : IsMark Good separates Separator
-  pub filled : (x : A) (front : List T) → Item x front → 0 < length front
-  pub starts : (x : A) (front rest : List T) → Item x front → tells test last (front ++ rest) ≡ false
-  pub starts_deep : (front rest : List T) → Deep front → tells test last (front ++ rest) ≡ false
+  pub repeats : Repeats test last Item Deep
   pub before_end : (rest : List T) → tells test last rest ≡ true → ItemNext rest
   pub before_separator : (t : T) (rest : List T) → separates t ≡ true → ItemNext (t ∷ rest)
   pub apart : (rest : List T) → tells test last rest ≡ true → tells separates false rest ≡ false
@@ -53,9 +51,9 @@ module _ {T A : Type 0} (Good : T → Type 0) (test : T → Bool) (last : Bool) 
   separates-items : Separates Good test last separates Separator Push (λ _. ItemNext) PushWithin (λ _. Deep) (EachIs Within)
   separates-items = record {
     mark = between.mark;
-    filled = λ found next front p. between.filled p.0 front p.2;
-    starts = λ found next front rest p. between.starts p.0 front rest p.2;
-    starts_deep = λ found front rest d. between.starts_deep front rest d;
+    filled = λ found next front p. between.repeats.filled p.0 front p.2;
+    starts = λ found next front rest p. between.repeats.starts p.0 front rest p.2;
+    starts_deep = λ found front rest d. between.repeats.starts_deep front rest d;
     before_end = λ next rest stop. between.before_end rest stop;
     before_separator = λ next t rest is. between.before_separator t rest is;
     apart = between.apart;

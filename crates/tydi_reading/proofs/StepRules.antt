@@ -178,6 +178,35 @@ then-rule {T} {A} {B} Good p f Spelled Follow Within First Second Follows Inside
         (one.complete b.front (b.back ++ rest) x (All-front Good front b.front b.back b.all good) b.begins (joins.follow_deep x b.back rest b.ends))
         ((two x).stops b.back rest (All-back Good front b.front b.back b.all good) b.ends)))
 
+-- what asks for the rule of what follows, and what follows
+module _ {T K A : Type 0} (First : K → Form T) (Second : K → A → Form T) where
+  abbrev pub Chained : A → Form T
+  Chained x ts = (k : K) × ((First k ⋯ Second k x) ts)
+
+  abbrev pub ChainedTo : (K → Form T) → Form T
+  ChainedTo To ts = (k : K) × ((First k ⋯ To k) ts)
+
+  pub chain-rule : (Good : T → Type 0) (p : Reader T K) (f : K → Reader T A) (Follow : K → Form T) (Next : A → Form T) (Within : A → Type 0) (To : K → Form T)
+      → ((k : K) (x : A) (back rest : List T) → Second k x back → Next x rest → Follow k (back ++ rest))
+      → ((k : K) (back rest : List T) → To k back → Follow k (back ++ rest))
+      → IsRule Good p First Follow (λ _. Unit {0}) Never → ((k : K) → IsRule Good (f k) (Second k) Next Within (To k))
+      → IsRule Good (p >>= f) Chained Next Within (ChainedTo To)
+  chain-rule Good p f Follow Next Within To follow follow_deep one two =
+      then-rule Good p f First Follow (λ _. Unit {0}) Never Second (λ _. Next) (λ _. Within) To Chained Next Within (ChainedTo To)
+      (record {
+        join = λ k x front back s o. (k, record { front = front; back = back; all = refl; begins = s; ends = o });
+        part = λ x ts s. s;
+        follow = follow;
+        follows = λ k x back rest s next. next;
+        within = λ k x back s w v. v;
+        apart = λ k x front back _ s all. (tt, all);
+        first = λ ts d. absurd d;
+        last = λ k front back s d. (k, record { front = front; back = back; all = refl; begins = s; ends = d });
+        deep = λ ts d. inr d;
+        follow_deep = follow_deep;
+      })
+      one two
+
 -- ---- a function of what is read
 
 -- how the whole is of the part

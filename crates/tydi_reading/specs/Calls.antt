@@ -3,7 +3,7 @@ use Rattle.std.specs.Fn.{Shared}
 use Rattle.std.specs.Prelude.{◌≡◌, ◌<◌, ◌≤◌, Bool, List, length, Option, Result, OnOk}
 use denote.Ref.{Bor, MutBor}
 use Rattle.tydi_reading.specs.declared.fault.Fault.{Fault}
-use Rattle.tydi_reading.specs.Reading.{Reader, Reads}
+use Rattle.tydi_reading.specs.Reading.{Reader, Reads, tells}
 
 -- each call gives what a test does
 abbrev pub Decides : {F T : Type 0} → Shared F (Bor T × Unit {0}) Bool → F → (T → Bool) → Type 0
@@ -32,3 +32,15 @@ DoesAdd {F} {T} {K} {G} calls f read = (p q : MutBor (List T)) (k : K) (g : G) (
 -- no call leaves more things than there were
 abbrev pub DoesNotGrow : {F T K G : Type 0} → Shared F (MutBor (List T) × (K × (G × Unit {0}))) (Result G Fault × (MutBor (List T) × Unit {0})) → F → Type 0
 DoesNotGrow {F} {T} {K} {G} calls f = (p q : MutBor (List T)) (k : K) (g : G) (a : Result G Fault) → calls.post f (p, (k, (g, tt))) (a, (q, tt)) → OnOk a (length q.now ≤ length p.now)
+
+-- each call gives what a test tells of the next thing
+abbrev pub DoesTell : {F T : Type 0} → Shared F (Bor (List T) × Unit {0}) Bool → F → (T → Bool) → Bool → Type 0
+DoesTell {F} {T} calls f test last = (p : Bor (List T)) (b : Bool) → calls.post f (p, tt) b → b ≡ tells test last p.now
+
+-- each call does what the reader of a step from a state does
+abbrev pub DoesStep : {F T S : Type 0} → Shared F (MutBor (List T) × (S × Unit {0})) (Result S Fault × (MutBor (List T) × Unit {0})) → F → (S → Reader T S) → Type 0
+DoesStep {F} {T} {S} calls f step = (p q : MutBor (List T)) (s : S) (a : Result S Fault) → calls.post f (p, (s, tt)) (a, (q, tt)) → Reads (step s p.now) a q.now
+
+-- each step takes a thing at least, where it gives something
+abbrev pub StepsShrink : {F T S : Type 0} → Shared F (MutBor (List T) × (S × Unit {0})) (Result S Fault × (MutBor (List T) × Unit {0})) → F → Type 0
+StepsShrink {F} {T} {S} calls f = (p q : MutBor (List T)) (s : S) (a : Result S Fault) → calls.post f (p, (s, tt)) (a, (q, tt)) → OnOk a (length q.now < length p.now)

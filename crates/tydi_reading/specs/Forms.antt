@@ -15,6 +15,10 @@ pub record ◌⋯◌ {T : Type 0} (First Second : Form T) (ts : List T) : Type 0
   pub begins : First front
   pub ends : Second back
 
+-- the one form of some value, and then what leads on
+abbrev pub Past : {T A : Type 0} → (A → Form T) → Form T → Form T
+Past {T} {A} Spelled To ts = (x : A) × ((Spelled x ⋯ To) ts)
+
 -- nothing
 abbrev pub Nothing : {T : Type 0} → Form T
 Nothing ts = ts ≡ []

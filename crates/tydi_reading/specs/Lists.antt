@@ -1,5 +1,5 @@
 -- Lists of things of one form: readers, under the names of the forms. This project's own.
-use Rattle.std.specs.Prelude.{◌⊎◌, Bool, false, List, [], ◌∷◌, ◌++◌, if◌then◌else◌}
+use Rattle.std.specs.Prelude.{◌⊎◌, Bool, true, false, not, List, [], ◌∷◌, ◌++◌, if◌then◌else◌}
 use Rattle.tydi_reading.specs.declared.fault.Fault.TheVariants as faults
 use Rattle.tydi_reading.specs.Forms.{Form, ◌⋯◌, Nothing}
 use Rattle.tydi_reading.specs.Reading.{Reader, took, stopped, sees, rest_of, ◌>>=◌, ◌>>◌, ◌<$>◌, pure, choose, Turn, again, done, loop}
@@ -70,10 +70,6 @@ Joined Joint Item [] = λ _. ⊥
 Joined Joint Item (item ∷ []) = Item item
 Joined Joint Item (item ∷ next ∷ items) = Item item ⋯ Joint ⋯ Joined Joint Item (next ∷ items)
 
--- a joint and one item more, or the end of the items
-unfoldable pub joined_turn : {T A : Type 0} → (T → Bool) → Reader T A → List A → Reader T (Turn (List A))
-joined_turn joins item found = choose joins false (mark joins >> (λ x. again (found ++ x ∷ [])) <$> item) (pure (done found))
-
--- items with a joint between each two, one at least
+-- items with a joint between each two, one at least: one, and then joints with an item each, up to where no joint stands
 unfoldable pub joined : {T A : Type 0} → (T → Bool) → Reader T A → Reader T (List A)
-joined joins item = item >>= (λ x. loop (joined_turn joins item) (x ∷ []))
+joined joins item = item >>= (λ x. loop (repeated_turn (λ t. not (joins t)) true (mark joins >> item)) (x ∷ []))

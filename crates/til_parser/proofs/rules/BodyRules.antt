@@ -1,14 +1,13 @@
 -- The rules of ends, statements and bodies.
-use Rattle.std.proofs.Common.{◌≡◌, ◌<◌, ◌⊎◌, inl, inr, ⊎_elim, false, List, [], ◌∷◌, ◌++◌, length, Option, Some, None, refl, sym, ap, ◌∙◌, subst, append_assoc}
+use Rattle.std.proofs.Common.{◌≡◌, ◌⊎◌, inl, inr, ⊎_elim, false, List, ◌++◌, Option, Some, None, refl, sym, subst}
 use Rattle.tydi_reading.specs.Forms.{Never, Anything, ◌⋯◌}
-use Rattle.tydi_reading.specs.Lists.{Each, EachIs}
-use Rattle.tydi_reading.specs.Reading.{tells, choose}
+use Rattle.tydi_reading.specs.Lists.{Each}
+use Rattle.tydi_reading.specs.Reading.{Shrinks, tells, choose}
 use Rattle.tydi_reading.specs.Rules.{IsRule}
-use Rattle.tydi_reading.proofs.FilledLemmas.{filled-first}
-use Rattle.tydi_reading.proofs.RepeatedRule.{Repeats}
-use Rattle.tydi_reading.proofs.FormLemmas.{front-tells, with_ends}
-use Rattle.tydi_reading.proofs.Rule.{as_rule, as_flat, of_flat, flat, flat_skip, flat_close, both, flat_parted, viewed, Made, either-rule, optional-rule, front-marked}
-use Rattle.tydi_reading.proofs.StepRules.{then-rule}
+use Rattle.tydi_reading.proofs.RepeatedRule.{Begins, begins-repeats, each_unit}
+use Rattle.tydi_reading.proofs.FormLemmas.{front-tells, with_ends, regroup, ungroup}
+use Rattle.tydi_reading.proofs.Rule.{as_rule, as_flat, of_flat, flat, flat_skip, flat_close, both, flat_parted, viewed, Made, either-rule, optional-rule, front-marked, respelled, shrinks}
+use Rattle.tydi_reading.proofs.StepRules.{Chained, chain-rule}
 use Rattle.til_lexer.specs.declared.token.TokenKind.TheVariants as kinds
 use Rattle.til_parser.specs.declared.tree.AstBody.{AstBody}
 use Rattle.til_parser.specs.declared.tree.AstBody.TheVariants as bodies
@@ -22,9 +21,9 @@ use Rattle.til_parser.specs.Lexemes.{Lexeme, IsFormed}
 use Rattle.til_parser.specs.Reading.{same_kind, is_kind}
 use Rattle.til_parser.specs.ReadTypes.{name}
 use Rattle.til_parser.specs.ReadDecls.{second, end, link_from, instance_of, stmt, body}
-use Rattle.til_parser.proofs.rules.LeafRules.{Name-filled, Name-starts, name-rule, path-rule, quoted-rule}
+use Rattle.til_parser.proofs.rules.LeafRules.{name-begins, name-rule, path-rule, quoted-rule}
 use Rattle.til_parser.proofs.rules.ListRules.{braced-rule, Of-path}
-use Rattle.til_parser.proofs.rules.TokenRules.{Of-not, same_kind-is, double_dash, equals, point, semicolon}
+use Rattle.til_parser.proofs.rules.TokenRules.{Of-not, same_kind-is, kind-apart, double_dash, equals, point, semicolon}
 
 -- ---- ends
 
@@ -54,7 +53,7 @@ InstanceForm p = Of kinds.Equals ⋯ (Path p.names ⋯ Of kinds.Semicolon)
 abbrev link_of : AstName → Option AstName × AstEnd → AstStmt
 link_of called l = stmts.Link (record { first = called; second = l.0 }) l.1
 
-StmtRest : AstName → AstStmt → Form
+abbrev StmtRest : AstName → AstStmt → Form
 StmtRest called x ts = Made (stmts.Instance called) InstanceForm x ts ⊎ Made (link_of called) LinkForm x ts
 
 link_begins : (l : Option AstName × AstEnd) (front rest : List Lexeme) → LinkForm l front → tells (is_kind kinds.Equals) false (front ++ rest) ≡ false
@@ -67,7 +66,7 @@ link_begins l front rest = by_second l.0
         (λ f r p. front-tells (is_kind kinds.Equals) false (Of kinds.Point) (Name n) f r (Of-not kinds.Point kinds.Equals refl) p) b
 
 rest-rule : (called : AstName) → IsRule IsFormed (choose (is_kind kinds.Equals) false (instance_of called) (link_from called)) (StmtRest called) (λ _. Anything) (λ _. Unit {0}) Never
-unfolding StmtRest link_from instance_of same_kind
+unfolding link_from instance_of same_kind
 rest-rule called =
     either-rule (is_kind kinds.Equals) (stmts.Instance called) (of_flat (flat_skip equals (flat_close (as_flat path-rule) semicolon (λ p. Of-path kinds.Semicolon refl))))
     (link_of called)
@@ -87,63 +86,27 @@ rest-rule called =
       other_within = λ l. tt;
     })
 
-stmt_join : (called : AstName) (x : AstStmt) (front back : List Lexeme) → Name called front → StmtRest called x back → SpellsStmt x (front ++ back)
-unfolding StmtRest
-stmt_join called x front back s = ⊎_elim
-    (λ i. subst (λ y. SpellsStmt y (front ++ back)) (sym i.1) (record { front = front; back = back; all = refl; begins = s; ends = i.2 }))
-    (λ l. let b = l.2 in
-    subst (λ y. SpellsStmt y (front ++ back)) (sym l.1) (record {
-      front = front ++ b.front;
-      back = b.back;
-      all = ap (λ r. front ++ r) b.all ∙ sym (append_assoc front b.front b.back);
-      begins = record { front = front; back = b.front; all = refl; begins = s; ends = b.begins };
-      ends = b.ends;
-    }))
+stmt_there : (x : AstStmt) (ts : List Lexeme) → Chained Name StmtRest x ts → SpellsStmt x ts
+stmt_there x ts c = ⊎_elim
+    (λ i. subst (λ y. SpellsStmt y ts) (sym i.1) (with_ends c.1 i.2))
+    (λ l. subst (λ y. SpellsStmt y ts) (sym l.1) (ungroup (with_ends c.1 l.2))) c.1.ends
 
-stmt_part : (x : AstStmt) (ts : List Lexeme) → SpellsStmt x ts → (called : AstName) × ((Name called ⋯ StmtRest called x) ts)
-unfolding StmtRest
-stmt_part (stmts.Instance called p) ts s = (called, with_ends s (inl (p, refl, s.ends)))
-stmt_part (stmts.Link first other) ts s =
-    let e = s.begins in (
-      first.first,
-      record {
-        front = e.front;
-        back = e.back ++ s.back;
-        all = s.all ∙ ap (λ l. l ++ s.back) e.all ∙ append_assoc e.front e.back s.back;
-        begins = e.begins;
-        ends = inr ((first.second, other), refl, record { front = e.back; back = s.back; all = refl; begins = e.ends; ends = s.ends });
-      },
-    )
+stmt_back : (x : AstStmt) (ts : List Lexeme) → SpellsStmt x ts → Chained Name StmtRest x ts
+stmt_back (stmts.Instance called p) ts s = (called, with_ends s (inl (p, refl, s.ends)))
+stmt_back (stmts.Link first other) ts s = let t = regroup s in (first.first, with_ends t (inr ((first.second, other), refl, t.ends)))
 
 pub stmt-rule : IsRule IsFormed stmt SpellsStmt (λ _. Anything) (λ _. Unit {0}) Never
 unfolding stmt
-stmt-rule =
-    then-rule IsFormed name (λ called. choose (is_kind kinds.Equals) false (instance_of called) (link_from called)) Name (λ _. Anything) (λ _. Unit {0}) Never
-    StmtRest (λ _ _. Anything) (λ _ _. Unit {0}) (λ _. Never) SpellsStmt (λ _. Anything) (λ _. Unit {0}) Never
-    (record {
-      join = stmt_join;
-      part = stmt_part;
-      follow = λ called x back rest s next. tt;
-      follows = λ called x back rest s next. tt;
-      within = λ called x back s w v. tt;
-      apart = λ called x front back s r w. (tt, tt);
-      first = λ ts d. d;
-      last = λ called front back s d. absurd d;
-      deep = λ ts d. inl d;
-      follow_deep = λ called back rest d. tt;
-    })
-    name-rule rest-rule
+stmt-rule = (flat (as_rule (respelled (as_rule
+    (chain-rule Name StmtRest IsFormed name (λ called. choose (is_kind kinds.Equals) false (instance_of called) (link_from called)) (λ _. Anything) (λ _. Anything)
+    (λ _. Unit {0}) (λ _. Never) (λ called x back rest s next. tt) (λ called back rest d. tt) name-rule rest-rule))
+    SpellsStmt stmt_there stmt_back)) (λ ts d. d.1.ends) (λ x. tt)).is
 
-pub stmt-filled : (x : AstStmt) (ts : List Lexeme) → SpellsStmt x ts → 0 < length ts
-stmt-filled x ts s = let b = (stmt_part x ts s).1 in filled-first (Name (stmt_part x ts s).0) _ ts (Name-filled (stmt_part x ts s).0) b
+stmt-begins : Begins (is_kind kinds.Word) SpellsStmt Never
+stmt-begins = record { item = λ x front rest s. let c = stmt_back x front s in name-begins c.0 _ front rest c.1; deep = λ front rest d. absurd d }
 
-stmt-braces : Repeats (is_kind kinds.CloseBrace) false SpellsStmt Never
-unfolding same_kind
-stmt-braces = record {
-  filled = stmt-filled;
-  starts = λ x front rest s. let p = stmt_part x front s in Name-starts p.0 kinds.CloseBrace refl _ front rest p.1;
-  starts_deep = λ front rest d. absurd d;
-}
+pub Shrinks-stmt : Shrinks stmt
+Shrinks-stmt = shrinks (as_rule stmt-rule) stmt-begins
 
 -- ---- bodies
 
@@ -154,14 +117,11 @@ which_body : (x : AstBody) (ts : List Lexeme) → SpellsBody x ts → Made bodie
 which_body (bodies.Linked text) ts s = inl (text, refl, s)
 which_body (bodies.Structural all) ts s = inr (all, refl, s)
 
-each_unit : {A : Type 0} (items : List A) → EachIs (λ _. Unit {0}) items
-each_unit [] = tt
-each_unit (x ∷ items) = (tt, each_unit items)
-
 pub body-rule : IsRule IsFormed body SpellsBody (λ _. Anything) (λ _. Unit {0}) Never
 unfolding body same_kind
 body-rule =
-    either-rule (is_kind kinds.Quoted) bodies.Linked (of_flat (as_flat quoted-rule)) bodies.Structural (flat (as_rule (braced-rule stmt-braces stmt-rule)) (λ ts d. d.ends.1.ends) each_unit)
+    either-rule (is_kind kinds.Quoted) bodies.Linked (of_flat (as_flat quoted-rule)) bodies.Structural
+    (flat (as_rule (braced-rule (begins-repeats (kind-apart kinds.Word kinds.CloseBrace refl) stmt-begins) stmt-rule)) (λ ts d. d.ends.1.ends) each_unit)
     SpellsBody (λ _. Anything) (λ _. Unit {0})
     (record {
       one = λ text ts s. s;

@@ -1,6 +1,6 @@
 -- The rules of names, numbers, marked texts, documentation and paths.
-use Rattle.std.proofs.Common.{◌≡◌, ℕ, suc, ◌+◌, ◌^◌, ◌<◌, ◌≤◌, nat_lt, Bool, true, false, cond, ◌&&◌, ◌⊎◌, List, [], ◌∷◌, ◌++◌, length}
-use Rattle.std.proofs.Common.{drop, Option, Some, None, option_and_then, inl, inr, refl, sym, ap, ◌∙◌, subst, bytes_eq, arith, codes, length-append}
+use Rattle.std.proofs.Common.{◌≡◌, ℕ, suc, ◌+◌, ◌^◌, ◌<◌, ◌≤◌, nat_lt, Bool, true, false, cond, ◌&&◌, ◌||◌, ◌⊎◌, List, [], ◌∷◌, ◌++◌, length}
+use Rattle.std.proofs.Common.{drop, Option, Some, None, inl, inr, refl, sym, ap, ◌∙◌, subst, bytes_eq, arith, codes, length-append}
 use Rattle.std.specs.Prelude.{not}
 use Rattle.std.specs.Char.{is_ascii_digit}
 use Rattle.std.specs.List.{list_all}
@@ -16,13 +16,11 @@ use Rattle.tydi_base.specs.Name.{is_name, name_of, has_name_form}
 use Rattle.tydi_base.specs.declared.place.Place.{Place}
 use Rattle.tydi_base.proofs.DecimalLaws.{own}
 use Rattle.tydi_reading.specs.Forms.{Never, Anything, ◌⋯◌}
-use Rattle.tydi_reading.specs.Reading.{Reader, tells, optional, pure, ◌<$>◌, and_then, meant}
+use Rattle.tydi_reading.specs.Reading.{Shrinks, tells, ◌>>◌}
 use Rattle.tydi_reading.specs.Rules.{IsRule}
-use Rattle.tydi_reading.proofs.ChoiceRules.{chosen}
 use Rattle.tydi_reading.proofs.JoinedRule.{joined-rule}
-use Rattle.tydi_reading.proofs.FormLemmas.{front-tells}
-use Rattle.tydi_reading.proofs.Rule.{as_rule, as_flat, of_flat, of_mark, viewed, Made, either-rule, optional-rule, mark-tells}
-use Rattle.tydi_reading.proofs.StepRules.{read-rule}
+use Rattle.tydi_reading.proofs.FormLemmas.{front-tells, follows-front}
+use Rattle.tydi_reading.proofs.Rule.{as_rule, as_flat, of_flat, of_mark, skip, viewed, Made, either-rule, optional-rule, mark-tells, front-marked, shrinks}
 use Rattle.til_lexer.specs.Spelling.{HasForm, IsWholeNumber, IsPointNumber, IsBetween}
 use Rattle.til_lexer.specs.Spans.{digits_at}
 use Rattle.til_lexer.specs.Places.{start}
@@ -35,11 +33,11 @@ use Rattle.til_parser.specs.declared.tree.AstPath.{AstPath}
 use Rattle.til_parser.specs.Grammar.{Form, One, Of, Word, IsNamed, Name, IsWhole, Whole, IsNumber, Number, IsMarked, Quoted, Doc, Level, Path, sync_word}
 use Rattle.til_parser.specs.Lexemes.{Lexeme, IsFormed, between_marks}
 use Rattle.til_parser.specs.Numbers.{whole_of, numerator_of, denominator_of, lowest}
-use Rattle.til_parser.specs.ReadTypes.{name_at, name, whole, number, level_of, level, quoted, doc_of, doc, path, either_word, sync}
-use Rattle.til_parser.specs.Reading.{same_kind, is_kind, is_word, token}
+use Rattle.til_parser.specs.ReadTypes.{name_at, name, whole, number, level_of, level, marked, quoted, doc, path, either_word, sync}
+use Rattle.til_parser.specs.Reading.{is_kind, is_word, expect}
 use Rattle.til_parser.specs.Words.{all_syncs, sync_of}
 use Rattle.til_parser.proofs.numbers.FractionLemmas.{IsReduced-lowest, lowest_from_IsReduced}
-use Rattle.til_parser.proofs.rules.TokenRules.{both, one, made, same_kind-is, kind-mark, word_mark, IsToken, token-rule, table-rule, Word-not_word}
+use Rattle.til_parser.proofs.rules.TokenRules.{both, one, made, same_kind-is, begins_item, double_colon, word_mark, IsToken, token-rule, table-rule, Word-not_word}
 
 -- ---- names
 
@@ -65,15 +63,10 @@ pub name-rule : IsRule IsFormed name Name (λ _. Anything) (λ _. Unit {0}) Neve
 name-rule = token-rule kinds.Word (λ place spelling. name_at place (name_of spelling)) Name name_token (made kinds.Word (codes "a"))
     (record { name = codes "a"; place = start }) refl refl refl
 
-pub Name-filled : (x : AstName) (ts : List Lexeme) → Name x ts → 0 < length ts
-Name-filled x ts s = let size = ap length s.all in omega arith
-
-pub Name-not : (x : AstName) (kind : TokenKind) → same_kind kinds.Word kind ≡ false → (front rest : List Lexeme) → Name x front → tells (is_kind kind) false (front ++ rest) ≡ false
-Name-not x kind apart front rest s = rw (s.all, s.is.kind) apart
-
-pub Name-starts : (x : AstName) (kind : TokenKind) → same_kind kinds.Word kind ≡ false → (Second : Form) (front rest : List Lexeme) → (Name x ⋯ Second) front
-    → tells (is_kind kind) false (front ++ rest) ≡ false
-Name-starts x kind apart Second front rest = front-tells (is_kind kind) false (Name x) Second front rest (Name-not x kind apart)
+-- a name is a word
+pub name-begins : (x : AstName) (Second : Form) (front rest : List Lexeme) → (Name x ⋯ Second) front → tells (is_kind kinds.Word) false (front ++ rest) ≡ true
+name-begins x Second front rest =
+    front-tells (is_kind kinds.Word) true (Name x) Second front rest (λ f r s. rw (s.all) (same_kind-is s.lexeme.kind kinds.Word s.is.kind))
 
 -- ---- whole numbers
 
@@ -210,7 +203,7 @@ empty_between : (mark : ℕ) → IsBetween mark (mark ∷ mark ∷ [])
 empty_between mark = record { inside = []; marked = refl; lacks = λ k d less is. absurd (omega arith); utf8 = IsUtf8-nil }
 
 marked-rule : (kind : TokenKind) (mark : ℕ) → HasForm kind (mark ∷ mark ∷ [])
-    → IsRule IsFormed (token kind (λ place spelling. Some (between_marks spelling))) (λ text. One (IsMarked kind text)) (λ _. Anything) (λ _. Unit {0}) Never
+    → IsRule IsFormed (marked kind) (λ text. One (IsMarked kind text)) (λ _. Anything) (λ _. Unit {0}) Never
 marked-rule kind mark form = token-rule kind (λ place spelling. Some (between_marks spelling)) (λ text. One (IsMarked kind text)) (marked_token kind)
     (made kind (mark ∷ mark ∷ [])) (between_marks (mark ∷ mark ∷ [])) form refl refl
 
@@ -219,36 +212,29 @@ quoted-rule = marked-rule kinds.Quoted 34 (empty_between 34)
 
 -- ---- documentation
 
+or_true : (b : Bool) → (b || true) ≡ true
+or_true true = refl
+or_true false = refl
+
 -- no documentation may follow
 abbrev pub NoDoc : Form
 NoDoc rest = tells (is_kind kinds.Doc) false rest ≡ false
 
-abbrev doc_shape : Reader Lexeme (Option (List ℕ))
-doc_shape = optional (is_kind kinds.Doc) (token kinds.Doc (λ place spelling. Some (between_marks spelling)))
-
-doc_same : (ts : List Lexeme) → doc_shape ts ≡ doc ts
-unfolding doc token
-doc_same [] = refl
-doc_same (lexeme ∷ ts) = by_test (same_kind lexeme.kind kinds.Doc) refl
-  where
-    by_test : (b : Bool) → same_kind lexeme.kind kinds.Doc ≡ b → doc_shape (lexeme ∷ ts) ≡ doc (lexeme ∷ ts)
-    by_test true is = chosen (is_kind kinds.Doc) false (Some <$> token kinds.Doc (λ place spelling. Some (between_marks spelling))) (pure None) (lexeme ∷ ts) true is
-        ∙ ap (λ b. and_then (meant (option_and_then (λ (next : Place × List ℕ). Some (between_marks next.1)) (cond b (Some (lexeme.place, lexeme.spelling)) None)) ts (lexeme ∷ ts)) (λ x. pure (Some x))) is
-        ∙ ap (λ b. doc_of (cond b (Some (lexeme.place, lexeme.spelling)) None) (lexeme ∷ ts)) (sym is)
-    by_test false is = chosen (is_kind kinds.Doc) false (Some <$> token kinds.Doc (λ place spelling. Some (between_marks spelling))) (pure None) (lexeme ∷ ts) false is
-        ∙ ap (λ b. doc_of (cond b (Some (lexeme.place, lexeme.spelling)) None) (lexeme ∷ ts)) (sym is)
-
 pub doc-rule : IsRule IsFormed doc Doc (λ _. NoDoc) (λ _. Unit {0}) Never
+unfolding doc
 doc-rule =
-    read-rule IsFormed doc_shape doc Doc (λ _. NoDoc) (λ _. Unit {0}) Never doc_same
-    (optional-rule (is_kind kinds.Doc) (as_flat (marked-rule kinds.Doc 35 (empty_between 35))) (λ text front rest s. rw (s.all) (same_kind-is s.lexeme.kind kinds.Doc s.is.kind_is)) (λ text rest. tt))
+    optional-rule (is_kind kinds.Doc) (as_flat (marked-rule kinds.Doc 35 (empty_between 35))) (λ text front rest s. rw (s.all) (same_kind-is s.lexeme.kind kinds.Doc s.is.kind_is)) (λ text rest. tt)
 
--- after documentation, if there is any, what follows it tells of another kind
-pub doc_tells : (d : Option (List ℕ)) (kind : TokenKind) (Second : Form) (front rest : List Lexeme) → same_kind kinds.Doc kind ≡ false
-    → ((front rest : List Lexeme) → Second front → tells (is_kind kind) false (front ++ rest) ≡ false) → (Doc d ⋯ Second) front → tells (is_kind kind) false (front ++ rest) ≡ false
-doc_tells None kind Second front rest apart second s = rw (s.all, s.begins) (second s.back rest s.ends)
-doc_tells (Some text) kind Second front rest apart second s =
-    front-tells (is_kind kind) false (Doc (Some text)) Second front rest (λ f r o. rw (o.all, o.is.kind_is) apart) s
+-- what has documentation begins with it, or with a word as what follows
+pub doc-begins : (d : Option (List ℕ)) (Second : Form) (front rest : List Lexeme)
+    → ((back rest : List Lexeme) → Second back → tells (is_kind kinds.Word) false (back ++ rest) ≡ true) → (Doc d ⋯ Second) front → tells begins_item false (front ++ rest) ≡ true
+doc-begins None Second front rest second s = rw (s.all, s.begins) (word_begins (s.back ++ rest) (second s.back rest s.ends))
+  where
+    word_begins : (ts : List Lexeme) → tells (is_kind kinds.Word) false ts ≡ true → tells begins_item false ts ≡ true
+    word_begins [] is = is
+    word_begins (t ∷ ts) is = rw is (or_true (is_kind kinds.Doc t))
+doc-begins (Some text) Second front rest second s =
+    front-tells begins_item true (Doc (Some text)) Second front rest (λ f r o. rw (o.all, same_kind-is o.lexeme.kind kinds.Doc o.is.kind_is) refl) s
 
 -- ---- one of two words, and of some
 
@@ -293,4 +279,15 @@ pub path-rule : IsRule IsFormed path (λ x. Path x.names) (λ _. PathNext) (λ _
 unfolding path
 path-rule =
     viewed (λ (names : List AstName). record { names = names }) (λ (x : AstPath). x.names)
-    (as_rule (joined-rule IsFormed (is_kind kinds.DoubleColon) (Of kinds.DoubleColon) name Name (kind-mark kinds.DoubleColon (codes "::") refl) name-rule)) (λ x. refl) (λ y. refl)
+    (as_rule (joined-rule IsFormed (is_kind kinds.DoubleColon) (Of kinds.DoubleColon) name Name double_colon.is name-rule)) (λ x. refl) (λ y. refl)
+
+-- `::` and a name take a token at least
+pub Shrinks-next_name : Shrinks (expect kinds.DoubleColon >> name)
+Shrinks-next_name = shrinks {Deep = Never} (skip double_colon (as_rule name-rule)) (record { item = λ x. front-marked double_colon (Name x); deep = λ front rest d. absurd d })
+
+-- a path begins with a name
+pub path-front : (P : List Lexeme → Type 0) → ((x : AstName) (t : Lexeme) (more : List Lexeme) → IsNamed x t → P (t ∷ more)) → (names : List AstName) (front rest : List Lexeme)
+    → Path names front → P (front ++ rest)
+path-front P named [] front rest s = absurd s
+path-front P named (x ∷ []) front rest s = rw s.all (named x s.lexeme rest s.is)
+path-front P named (x ∷ next ∷ names) front rest s = follows-front P (Name x) _ front rest (λ f r o. rw o.all (named x o.lexeme r o.is)) s

@@ -1,7 +1,7 @@
 -- The rules of lists in brackets and in braces.
 use Rattle.std.proofs.Common.{◌≡◌, true, false, List, [], ◌∷◌, ◌++◌, ℕ, refl, codes}
 use Rattle.tydi_reading.specs.Forms.{Anything}
-use Rattle.tydi_reading.specs.Lists.{Each, EachIs}
+use Rattle.tydi_reading.specs.Lists.{Each, EachIs, separated}
 use Rattle.tydi_reading.specs.Reading.{Reader, tells}
 use Rattle.tydi_reading.specs.Rules.{IsRule}
 use Rattle.tydi_reading.proofs.RepeatedRule.{Repeats, repeated-rule}
@@ -12,17 +12,13 @@ use Rattle.til_lexer.specs.declared.token.TokenKind.TheVariants as kinds
 use Rattle.til_parser.specs.Grammar.{Form, Of, Word, Commas, Bracketed, Braced}
 use Rattle.til_parser.specs.Lexemes.{Lexeme, IsFormed}
 use Rattle.til_parser.specs.Nesting.{BracketedTo, BracedTo}
-use Rattle.til_parser.specs.ReadTypes.{bracketed}
+use Rattle.til_parser.specs.ReadTypes.{bracketed, bracketed_steps}
 use Rattle.til_parser.specs.ReadDecls.{braced}
 use Rattle.til_parser.specs.Reading.{same_kind, is_kind}
 use Rattle.til_parser.proofs.rules.LeafRules.{PathNext}
-use Rattle.til_parser.proofs.rules.TokenRules.{kind_is, kind-mark, open_paren, close_paren, open_brace, close_brace}
+use Rattle.til_parser.proofs.rules.TokenRules.{kind_is, kind-not, kind-mark, open_paren, close_paren, open_brace, close_brace}
 
--- ---- what a kind that stands next is not
-
-pub kind-not : (kind other : TokenKind) → same_kind kind other ≡ false → (rest : List Lexeme) → tells (is_kind kind) false rest ≡ true → tells (is_kind other) false rest ≡ false
-kind-not kind other apart [] is = absurd cc
-kind-not kind other apart (t ∷ rest) is = rw (kind_is t.kind kind is) apart
+-- ---- what may follow a path
 
 pub kind-path : (kind : TokenKind) → same_kind kind kinds.DoubleColon ≡ false → (rest : List Lexeme) → tells (is_kind kind) false rest ≡ true → PathNext rest
 kind-path kind apart [] is = refl
@@ -44,16 +40,14 @@ module _ {A : Type 0} {item : Reader Lexeme A} {Item : A → Form} {Within : A �
     unfolding same_kind
     between = record {
       mark = kind-mark kinds.Comma (codes ",") refl;
-      filled = repeats.filled;
-      starts = repeats.starts;
-      starts_deep = repeats.starts_deep;
+      repeats = repeats;
       before_end = λ rest is. kind-path kinds.CloseParen refl rest is;
       before_separator = λ t rest is. kind-path kinds.Comma refl (t ∷ rest) is;
       apart = λ rest is. kind-not kinds.CloseParen kinds.Comma refl rest is;
     }
 
     pub bracketed-rule : IsRule IsFormed (bracketed item) (λ items. Bracketed (Commas Item items)) (λ _. Anything) (EachIs Within) (BracketedTo Item Deep)
-    unfolding bracketed
+    unfolding bracketed_steps separated
     bracketed-rule =
         (skip open_paren (close
         (as_rule (separated-rule IsFormed (is_kind kinds.CloseParen) false (is_kind kinds.Comma) (Of kinds.Comma) item Item PathNext Within Deep between one))

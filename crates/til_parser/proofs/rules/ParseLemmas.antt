@@ -35,10 +35,10 @@ project-ends n ts rest ast is =
     made_ends (repeated (λ _. false) true (namespace n) ts) ast rest (λ all middle made. repeated-all (namespace n) all ts middle made) is
 
 pub project_sound : (n : ℕ) (ts rest : List Lexeme) (ast : Ast) → project n ts ≡ took ast rest → Spells ast ts × IsWithin n ast
-project_sound n = all.all-sound IsFormed (project n) Spells (λ _. AtEnd n) (IsWithin n) (ProjectTo n) (project-rule n) (λ x. refl) (project-ends n)
+project_sound n = all.all-sound IsFormed (project n) Spells (λ _. AtEnd) (IsWithin n) (ProjectTo n) (project-rule n) (λ x. refl) (project-ends n)
 
 pub project_complete : (n : ℕ) (ts : List Lexeme) (ast : Ast) → All IsFormed ts → IsWithin n ast → Spells ast ts → project n ts ≡ took ast []
-project_complete n = all.all-complete IsFormed (project n) Spells (λ _. AtEnd n) (IsWithin n) (ProjectTo n) (project-rule n) (λ x. refl) (project-ends n)
+project_complete n = all.all-complete IsFormed (project n) Spells (λ _. AtEnd) (IsWithin n) (ProjectTo n) (project-rule n) (λ x. refl) (project-ends n)
 
 -- ---- why it stops
 
@@ -70,17 +70,17 @@ same_at reading.Memory count left other = absurd (other refl)
 exact : (ts rest : List Lexeme) (e : Fault) → All IsFormed ts → project 64 ts ≡ stopped e rest → IsFaultOf ts (fault_at e (length ts) (length rest))
 exact ts rest e formed is =
     subst (IsFaultOf ts)
-    (same_at e (length ts) (length rest) (λ memory. all.never-memory IsFormed (project 64) Spells (λ _. AtEnd 64) (IsWithin 64) (ProjectTo 64) (project-rule 64) (λ x. refl) (project-ends 64) ts rest
+    (same_at e (length ts) (length rest) (λ memory. all.never-memory IsFormed (project 64) Spells (λ _. AtEnd) (IsWithin 64) (ProjectTo 64) (project-rule 64) (λ x. refl) (project-ends 64) ts rest
     (is ∙ ap (λ f. stopped f rest) memory)))
     (fault-is ts (stop_at e (length ts) (length rest))
-    (all.exact IsFormed (project 64) Spells (λ _. AtEnd 64) (IsWithin 64) (ProjectTo 64) (project-rule 64) (λ x. refl) (project-ends 64) ts rest e formed is))
+    (all.exact IsFormed (project 64) Spells (λ _. AtEnd) (IsWithin 64) (ProjectTo 64) (project-rule 64) (λ x. refl) (project-ends 64) ts rest e formed is))
 
 pub tree_or_fault : (ts : List Lexeme) → All IsFormed ts → TreeOrFault ts
 tree_or_fault ts formed = record {
   either = ⊎_elim (λ tree. inl tree) (λ s. inr (fault_of s.0, fault-is ts s.0 s.1))
-      (all.spelled-or IsFormed (project 64) Spells (λ _. AtEnd 64) (IsWithin 64) (ProjectTo 64) (project-rule 64) (λ x. refl) (project-ends 64) ts formed);
+      (all.spelled-or IsFormed (project 64) Spells (λ _. AtEnd) (IsWithin 64) (ProjectTo 64) (project-rule 64) (λ x. refl) (project-ends 64) ts formed);
   apart = λ fault f. let s = stop-is ts fault f in
-      all.stop-none IsFormed (project 64) Spells (λ _. AtEnd 64) (IsWithin 64) (ProjectTo 64) (project-rule 64) (λ x. refl) (project-ends 64) ts formed s.0 s.2;
+      all.stop-none IsFormed (project 64) Spells (λ _. AtEnd) (IsWithin 64) (ProjectTo 64) (project-rule 64) (λ x. refl) (project-ends 64) ts formed s.0 s.2;
   one = λ fault other f g. let s = stop-is ts fault f in let o = stop-is ts other g in
       s.1 ∙ ap fault_of (all.stop-one IsFormed Spells (ProjectTo 64) ts formed s.0 o.0 s.2 o.2) ∙ sym o.1;
 }

@@ -10,6 +10,7 @@ use Rattle.tydi_reading.proofs.NamedSteps.{Fields}
 use Rattle.til_parser.specs.declared.arguments.Arguments.{Arguments}
 use Rattle.til_parser.specs.declared.keyword.Argument.{Argument}
 use Rattle.til_parser.specs.declared.keyword.Argument.TheVariants as arguments
+use Rattle.til_parser.specs.declared.ltype.AstType.{AstType}
 use Rattle.til_parser.specs.declared.ltype.AstType.TheVariants as types
 use Rattle.til_parser.specs.declared.ltype.AstStream.{AstStream, roll-AstStream}
 use Rattle.til_parser.specs.declared.ltype.AstSync.TheVariants as syncs
@@ -74,7 +75,7 @@ is_given-is _ given = refl
 
 -- ---- the Stream of what is given
 
-lowest-whole : lowest 1 1 ≡ record { num = 1; den = 1 }
+pub lowest-whole : lowest 1 1 ≡ record { num = 1; den = 1 }
 unfolding lowest divisor_from
 lowest-whole = refl
 
@@ -160,6 +161,9 @@ fields = record {
   full = λ given all none. all arguments.Data (made_none (λ element. filled element given) given.element none);
 }
 
--- the arguments of a Stream as the grammar has them
+-- a type, and the arguments of a Stream, as the grammar has them
+abbrev pub S : AstType → Form
+S x = SpellsType (plain x)
+
 abbrev pub ArgumentsOf : AstStream → Form
 ArgumentsOf one = grammar.Arguments (SpellsType (plain one.element)) (SpellsType (plain one.user)) (plain one.user) (settings_of one)

@@ -8,7 +8,7 @@ use Rattle.tydi_reading.specs.Rules.{IsRule}
 use Rattle.tydi_reading.proofs.NamedRule.{Defaults, named-rule}
 use Rattle.tydi_reading.proofs.NamedSteps.{Between, step-shrinks}
 use Rattle.tydi_reading.proofs.NamedSteps as steps
-use Rattle.tydi_reading.proofs.Rule.{as_rule, as_flat, narrowed, skip, flat_skip, close, mark-tells}
+use Rattle.tydi_reading.proofs.Rule.{as_rule, as_flat, of_flat, fewer, skip, flat_skip, close, mark-tells}
 use Rattle.til_lexer.specs.declared.token.TokenKind.TheVariants as kinds
 use Rattle.til_parser.specs.declared.arguments.Arguments.{Arguments}
 use Rattle.til_parser.specs.declared.keyword.Argument.{Argument}
@@ -25,10 +25,9 @@ use Rattle.til_parser.specs.ReadTypes as read
 use Rattle.til_parser.specs.Words.{all_arguments, argument_of, argument_at}
 use Rattle.til_parser.proofs.PlainLemmas.{plain-Null, plain-injective}
 use Rattle.til_parser.proofs.rules.LeafRules.{PathNext, number-rule, whole-rule, level-rule, sync-rule, either_word-rule}
-use Rattle.til_parser.proofs.rules.ListRules.{kind-not, kind-path}
-use Rattle.til_parser.proofs.rules.PartRules.{S}
-use Rattle.til_parser.proofs.rules.StreamFields.{fields, value, ArgumentsOf}
-use Rattle.til_parser.proofs.rules.TokenRules.{made, colon, open_paren, close_paren, kind-mark, word_at-word, word_at-is, word_at-there, word_at-back}
+use Rattle.til_parser.proofs.rules.ListRules.{kind-path}
+use Rattle.til_parser.proofs.rules.StreamFields.{fields, value, S, ArgumentsOf}
+use Rattle.til_parser.proofs.rules.TokenRules.{made, kind-not, colon, open_paren, close_paren, kind-mark, word_at-word, word_at-made, word_at-there, word_at-back}
 
 each_argument : (name : Argument) → argument_of (argument_word name) ≡ Some name
 each_argument arguments.Data = refl
@@ -79,7 +78,7 @@ module _ (inner : Reader Lexeme AstType) (W : AstType → Type 0) (D : Form) (ru
   -- a value that holds no type
   no_type : {A : Type 0} {p : Reader Lexeme A} {P : A → Form} → IsRule IsFormed p P (λ _. Anything) (λ _. Unit {0}) Never
       → IsRule IsFormed (expect kinds.Colon >> p) (λ x. Of kinds.Colon ⋯ P x) (λ _. PathNext) (λ _. Unit {0}) Never
-  no_type one = narrowed (flat_skip colon (as_flat one)) (λ _. PathNext) (λ x rest next. tt)
+  no_type one = fewer (of_flat (flat_skip colon (as_flat one))) (λ _. PathNext) (λ x rest next. tt)
 
   value-rule : (name : Argument)
       → IsRule IsFormed (expect kinds.Colon >> value_of inner name) (λ x. Of kinds.Colon ⋯ Spelled name x) (λ _. PathNext) (ValueWithin name) (ValueTo D name)
@@ -104,7 +103,7 @@ module _ (inner : Reader Lexeme AstType) (W : AstType → Type 0) (D : Form) (ru
     back = word_at-back argument_word all_arguments each_argument;
     thing = λ name. made kinds.Word (argument_word name);
     good = formed;
-    named = λ name. word_at-is argument_word all_arguments each_argument (made kinds.Word (argument_word name)) name (record { kind = refl; text = refl });
+    named = word_at-made argument_word all_arguments each_argument;
     read = λ name. expect kinds.Colon >> value_of inner name;
     Spelled = λ name x. Of kinds.Colon ⋯ Spelled name x;
     Next = PathNext;

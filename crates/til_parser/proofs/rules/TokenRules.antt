@@ -1,5 +1,5 @@
 -- The rules of one token: of a kind, a word, or a token of a kind with a meaning.
-use Rattle.std.proofs.Common.{◌≡◌, ℕ, Bool, true, false, cond, ◌&&◌, List, [], ◌∷◌, ◌++◌, All, Option, Some, None, option_and_then, refl, sym, ap, ◌∙◌, subst, bytes_eq, codes, T}
+use Rattle.std.proofs.Common.{◌≡◌, ℕ, Bool, true, false, cond, ◌&&◌, ◌||◌, List, [], ◌∷◌, ◌++◌, All, Option, Some, None, option_and_then, refl, sym, ap, ◌∙◌, subst, bytes_eq, codes, T}
 use Rattle.std.proofs.lemmas.Option.{none-some}
 use Rattle.std.proofs.lemmas.Slice.Eq.{bytes_eq-Decides}
 use Rattle.std.proofs.lemmas.List.Elements.{All-head}
@@ -12,6 +12,7 @@ use Rattle.tydi_reading.specs.Tables.{entry_of}
 use Rattle.tydi_reading.proofs.TableLemmas.{entry-word}
 use Rattle.til_parser.specs.Words.{word_at}
 use Rattle.tydi_reading.proofs.MarkLemmas.{IsMark}
+use Rattle.tydi_reading.proofs.RepeatedRule.{begins-apart}
 use Rattle.tydi_reading.proofs.Rule.{Mark}
 use Rattle.tydi_reading.proofs.StepRules.{leaf-rule, read-rule}
 use Rattle.til_lexer.specs.contracts.token.TokenKind.{the_type}
@@ -84,6 +85,9 @@ word_mark word form = record { test = is_word word; Spelled = Word word; is = wo
 abbrev pub colon : Mark IsFormed
 colon = kind_mark kinds.Colon (codes ":") refl
 
+abbrev pub double_colon : Mark IsFormed
+double_colon = kind_mark kinds.DoubleColon (codes "::") refl
+
 abbrev pub double_dash : Mark IsFormed
 double_dash = kind_mark kinds.DoubleDash (codes "--") refl
 
@@ -114,18 +118,30 @@ close_paren = kind_mark kinds.CloseParen (codes ")") refl
 pub Of-not : (kind other : TokenKind) → same_kind kind other ≡ false → (front rest : List Lexeme) → Of kind front → tells (is_kind other) false (front ++ rest) ≡ false
 Of-not kind other apart front rest s = rw (s.all, s.is) apart
 
-pub Of-not_word : (kind : TokenKind) (word : List ℕ) → same_kind kind kinds.Word ≡ false → (front rest : List Lexeme) → Of kind front → tells (is_word word) false (front ++ rest) ≡ false
-Of-not_word kind word apart front rest s = rw (s.all, s.is, apart) refl
-
-pub Word-not : (word : List ℕ) (other : TokenKind) → same_kind kinds.Word other ≡ false → (front rest : List Lexeme) → Word word front → tells (is_kind other) false (front ++ rest) ≡ false
-Word-not word other apart front rest s = rw (s.all, s.is.kind) apart
-
 and_false : (b : Bool) → (b && false) ≡ false
 and_false true = refl
 and_false false = refl
 
 pub Word-not_word : (word other : List ℕ) → bytes_eq word other ≡ false → (front rest : List Lexeme) → Word word front → tells (is_word other) false (front ++ rest) ≡ false
 Word-not_word word other apart front rest s = rw (s.all, s.is.kind, s.is.text, apart) (and_false (same_kind kinds.Word kinds.Word))
+
+-- a token of one kind is of no other
+pub kind-apart : (kind other : TokenKind) → same_kind kind other ≡ false → (t : Lexeme) → is_kind kind t ≡ true → is_kind other t ≡ false
+kind-apart kind other apart t is = rw (kind_is t.kind kind is) apart
+
+pub kind-not : (kind other : TokenKind) → same_kind kind other ≡ false → (rest : List Lexeme) → tells (is_kind kind) false rest ≡ true → tells (is_kind other) false rest ≡ false
+kind-not kind other apart = begins-apart (is_kind kind) (is_kind other) false (kind-apart kind other apart)
+
+-- what begins with documentation, or with a word
+abbrev pub begins_item : Lexeme → Bool
+begins_item t = is_kind kinds.Doc t || is_kind kinds.Word t
+
+pub item-apart : (kind : TokenKind) → same_kind kinds.Doc kind ≡ false → same_kind kinds.Word kind ≡ false → (t : Lexeme) → begins_item t ≡ true → is_kind kind t ≡ false
+item-apart kind doc word t is = of_doc (is_kind kinds.Doc t) refl
+  where
+    of_doc : (b : Bool) → is_kind kinds.Doc t ≡ b → is_kind kind t ≡ false
+    of_doc true test = kind-apart kinds.Doc kind doc t test
+    of_doc false test = kind-apart kinds.Word kind word t (sym (ap (λ c. c || is_kind kinds.Word t) test) ∙ is)
 
 -- ---- a token with a meaning
 
@@ -135,7 +151,12 @@ pub record IsToken {A : Type 0} (kind : TokenKind) (meaning : Place → List ℕ
   pub back : (x : A) (ts : List Lexeme) → Spelled x ts
       → (lexeme : Lexeme) × (ts ≡ lexeme ∷ []) × (lexeme.kind ≡ kind) × (IsFormed lexeme → meaning lexeme.place lexeme.spelling ≡ Some x)
 
-module _ {A : Type 0} (kind : TokenKind) (meaning : Place → List ℕ → Option A) (Spelled : A → Form) (is_token : IsToken kind meaning Spelled) where
+meant_is : {A : Type 0} (b : Bool) (o : Option A) (x : A) → cond b o None ≡ Some x → (b ≡ true) × (o ≡ Some x)
+meant_is true o x is = (refl, is)
+meant_is false o x is = absurd (none-some x is)
+
+-- a token is read by the meaning of its text where it is of this kind
+module _ {A : Type 0} (kind : TokenKind) (meaning : Place → List ℕ → Option A) (Spelled : A → Form) where
   abbrev meaning_of : Lexeme → Option A
   meaning_of lexeme = cond (same_kind lexeme.kind kind) (meaning lexeme.place lexeme.spelling) None
 
@@ -149,15 +170,13 @@ module _ {A : Type 0} (kind : TokenKind) (meaning : Place → List ℕ → Optio
       of_test true = refl
       of_test false = refl
 
-  meant_is : (b : Bool) (o : Option A) (x : A) → cond b o None ≡ Some x → (b ≡ true) × (o ≡ Some x)
-  meant_is true o x is = (refl, is)
-  meant_is false o x is = absurd (none-some x is)
+  as_token : IsRule IsFormed (leaf meaning_of) Spelled (λ _. Anything) (λ _. Unit {0}) Never → IsRule IsFormed (token kind meaning) Spelled (λ _. Anything) (λ _. Unit {0}) Never
+  as_token = read-rule IsFormed (leaf meaning_of) (token kind meaning) Spelled (λ _. Anything) (λ _. Unit {0}) Never same_read
 
-  pub token-rule : (lexeme : Lexeme) (x : A) → IsFormed lexeme → lexeme.kind ≡ kind → meaning lexeme.place lexeme.spelling ≡ Some x
+  pub token-rule : IsToken kind meaning Spelled → (lexeme : Lexeme) (x : A) → IsFormed lexeme → lexeme.kind ≡ kind → meaning lexeme.place lexeme.spelling ≡ Some x
       → IsRule IsFormed (token kind meaning) Spelled (λ _. Anything) (λ _. Unit {0}) Never
-  token-rule lexeme x formed is means =
-      read-rule IsFormed (leaf meaning_of) (token kind meaning) Spelled (λ _. Anything) (λ _. Unit {0}) Never same_read
-      (leaf-rule IsFormed meaning_of Spelled lexeme x formed (rw (same_kind-is lexeme.kind kind is) means)
+  token-rule is_token lexeme x formed is means =
+      as_token (leaf-rule IsFormed meaning_of Spelled lexeme x formed (rw (same_kind-is lexeme.kind kind is) means)
       (record {
         there = λ y t made. let parts = meant_is (same_kind t.kind kind) (meaning t.place t.spelling) y made in
             is_token.there y t (kind_is t.kind kind parts.0) parts.1;
@@ -170,23 +189,9 @@ module _ {A : Type 0} (kind : TokenKind) (meaning : Place → List ℕ → Optio
 -- ---- tables of words
 
 module _ {K : Type 0} (own : K → List ℕ) (all : List K) (each : (x : K) → entry_of own all (own x) ≡ Some x) where
-  -- a token that is a word of a table
-  pub table-rule : (x : K) → has_name_form (own x) ≡ true
-      → IsRule IsFormed (token kinds.Word (λ place spelling. entry_of own all spelling)) (λ x. Word (own x)) (λ _. Anything) (λ _. Unit {0}) Never
-  table-rule x form = token-rule kinds.Word (λ place spelling. entry_of own all spelling) (λ x. Word (own x))
-      (record {
-        there = λ x lexeme is means. one (IsWord (own x)) lexeme (record { kind = is; text = entry-word own all lexeme.spelling x means });
-        back = λ x ts s. (s.lexeme, s.all, s.is.kind, λ formed. ap (entry_of own all) s.is.text ∙ each x);
-      })
-      (made kinds.Word (own x)) x form refl (each x)
-
-  told_word : (b : Bool) (o : Option K) (k : K) → cond b o None ≡ Some k → (b ≡ true) × (o ≡ Some k)
-  told_word true o k is = (refl, is)
-  told_word false o k is = absurd (none-some k is)
-
   pub word_at-word : (t : Lexeme) (k : K) → word_at (entry_of own all) t ≡ Some k → IsWord (own k) t
   word_at-word t k is =
-      let parts = told_word (same_kind t.kind kinds.Word) (entry_of own all t.spelling) k is in
+      let parts = meant_is (same_kind t.kind kinds.Word) (entry_of own all t.spelling) k is in
       record { kind = kind_is t.kind kinds.Word parts.0; text = entry-word own all t.spelling k parts.1 }
 
   pub word_at-is : (t : Lexeme) (k : K) → IsWord (own k) t → word_at (entry_of own all) t ≡ Some k
@@ -197,3 +202,15 @@ module _ {K : Type 0} (own : K → List ℕ) (all : List K) (each : (x : K) → 
 
   pub word_at-back : (k : K) (ts : List Lexeme) → Word (own k) ts → (t : Lexeme) × (ts ≡ t ∷ []) × (word_at (entry_of own all) t ≡ Some k)
   word_at-back k ts s = (s.lexeme, s.all, word_at-is s.lexeme k s.is)
+
+  pub word_at-made : (k : K) → word_at (entry_of own all) (made kinds.Word (own k)) ≡ Some k
+  word_at-made k = word_at-is (made kinds.Word (own k)) k (record { kind = refl; text = refl })
+
+  -- a token that is a word of a table
+  pub word_at-rule : (x : K) → has_name_form (own x) ≡ true → IsRule IsFormed (leaf (word_at (entry_of own all))) (λ x. Word (own x)) (λ _. Anything) (λ _. Unit {0}) Never
+  word_at-rule x form = leaf-rule IsFormed (word_at (entry_of own all)) (λ x. Word (own x)) (made kinds.Word (own x)) x form (word_at-made x)
+      (record { there = word_at-there; back = λ k ts each s. word_at-back k ts s })
+
+  pub table-rule : (x : K) → has_name_form (own x) ≡ true
+      → IsRule IsFormed (token kinds.Word (λ place spelling. entry_of own all spelling)) (λ x. Word (own x)) (λ _. Anything) (λ _. Unit {0}) Never
+  table-rule x form = as_token kinds.Word (λ place spelling. entry_of own all spelling) (λ x. Word (own x)) (word_at-rule x form)

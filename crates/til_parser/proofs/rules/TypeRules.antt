@@ -1,41 +1,171 @@
--- The rule of a type, by that of the types inside it.
-use Rattle.std.proofs.Common.{◌≡◌, ℕ, suc, ◌≤◌, ◌⊎◌, inl, inr, ⊎_elim, List, [], ◌∷◌, ◌++◌, refl, sym, ap, ◌∙◌, subst, arith, codes}
+-- The rules of types: the word with which one begins, its parts, a type by the types inside it, and types of so many levels.
+use Rattle.std.proofs.Common.{◌≡◌, ◌↔◌, ℕ, zero, suc, ◌≤◌, ◌⊎◌, inl, inr, ⊎_elim, true, false, List, [], ◌∷◌, ◌++◌, All, Option, Some, None, refl, sym, ap, ◌∙◌, subst, arith, codes, true≢false}
+use Rattle.std.specs.List.{Contains}
+use Rattle.std.specs.Option.{is_some}
 use Rattle.std.proofs.lemmas.List.{append-nil}
-use Rattle.tydi_reading.specs.Forms.{Never, Anything, ◌⋯◌}
+use Rattle.std.proofs.lemmas.List.Elements.{All-nil, All-cons, All-head, All-append}
+use Rattle.tydi_base.specs.Name.{is_name, has_name_form}
+use Rattle.tydi_reading.specs.Forms.{Never, Anything, Nothing, ◌⋯◌, GoesOn}
 use Rattle.tydi_reading.specs.Lists.{EachIs}
-use Rattle.tydi_reading.specs.Reading.{Reader, pure, led, ◌<$>◌}
+use Rattle.tydi_reading.specs.Named.{argument}
+use Rattle.tydi_reading.specs.Reading.{Reader, Shrinks, tells, led, too_deep, ◌<$>◌}
 use Rattle.tydi_reading.specs.Rules.{IsRule}
-use Rattle.tydi_reading.proofs.FormLemmas.{with_ends}
+use Rattle.tydi_reading.proofs.ChoiceRules.{too_deep-rule}
+use Rattle.tydi_reading.proofs.ContainsLemmas.{Contains-none, Contains-first}
+use Rattle.tydi_reading.proofs.FormLemmas.{with_ends, joins, front-tells}
 use Rattle.tydi_reading.proofs.LedRule.{led-rule}
-use Rattle.tydi_reading.proofs.Rule.{as_rule, as_flat, flat_skip, flat_close, Made, made-rule}
-use Rattle.tydi_reading.proofs.StepRules.{Only, pure-rule, same-rule}
+use Rattle.tydi_reading.proofs.LoopLemmas.{mapped-less}
+use Rattle.tydi_reading.proofs.RepeatedRule.{Begins, begins-repeats}
+use Rattle.tydi_reading.proofs.Rule.{as_rule, as_flat, flat_skip, flat_close, parted, viewed, Made, made-rule, shrinks}
+use Rattle.tydi_reading.proofs.StepRules.{Only, All-one, pure-rule, same-rule}
+use Rattle.tydi_reading.proofs.TableLemmas.{entry-none, entry-word}
+use Rattle.til_lexer.specs.Spelling.{HasForm}
+use Rattle.til_lexer.specs.declared.token.TokenKind.{TokenKind}
 use Rattle.til_lexer.specs.declared.token.TokenKind.TheVariants as kinds
+use Rattle.til_parser.specs.declared.arguments.Arguments.{Arguments}
+use Rattle.til_parser.specs.declared.keyword.Argument.{Argument}
 use Rattle.til_parser.specs.declared.keyword.Argument.TheVariants as arguments
 use Rattle.til_parser.specs.declared.keyword.TypeWord.{TypeWord}
 use Rattle.til_parser.specs.declared.keyword.TypeWord.TheVariants as words
-use Rattle.til_parser.specs.declared.ltype.AstPart.{AstPart}
-use Rattle.til_parser.specs.declared.ltype.AstStream.{AstStream, roll-AstStream}
+use Rattle.til_parser.specs.declared.ltype.AstPart.{AstPart, roll-AstPart}
+use Rattle.til_parser.specs.declared.ltype.AstStream.{AstStream}
 use Rattle.til_parser.specs.declared.ltype.AstType.{AstType}
 use Rattle.til_parser.specs.declared.ltype.AstType.TheVariants as types
-use Rattle.til_parser.specs.Grammar.{Form, Of, Word, Whole, Path, Commas, Bracketed, SpellsType, SpellsParts}
-use Rattle.til_parser.specs.Grammar as grammar
+use Rattle.til_parser.specs.declared.tree.AstName.{AstName}
+use Rattle.til_parser.specs.declared.tree.AstPath.{AstPath}
+use Rattle.til_parser.specs.Grammar.{Form, Of, IsWord, Word, IsNamed, Whole, Path, Commas, Bracketed, IsDefault, SpellsType, SpellsParts}
 use Rattle.til_parser.specs.Lexemes.{Lexeme, IsFormed}
-use Rattle.til_parser.specs.Nesting.{SpellsPart, BracketedTo, PartTo, ArgumentsTo, InsideTo}
-use Rattle.til_parser.specs.Words.{type_word, type_word_at}
-use Rattle.til_parser.specs.ReadTypes.{path, bits, type_after, type_with}
-use Rattle.til_parser.specs.Tree.{Ltype, null, Settings, plain, depth, depth_of_parts, settings_of}
+use Rattle.til_parser.specs.Nesting.{SpellsPart, BracketedTo, PartTo, AfterTo, InsideTo, TypeTo}
+use Rattle.til_parser.specs.Reading.{same_kind, is_kind, begins_type}
+use Rattle.til_parser.specs.Words.{type_word, all_type_words, type_word_of, type_word_at, argument_at}
+use Rattle.til_parser.specs.ReadTypes.{path, bits, part, one_more, bracketed, is_given, value, filled, none_given, type_after, type_with, ltype}
+use Rattle.til_parser.specs.Tree.{Ltype, null, plain, depth, depth_of_parts, settings_of}
 use Rattle.til_parser.specs.Tree as tree
-use Rattle.til_parser.proofs.rules.LeafRules.{PathNext, whole-rule, path-rule}
-use Rattle.til_parser.proofs.PlainLemmas.{plain_parts, plain-Null, plain-Bits, plain-Group, plain-Union, plain-Stream, plain-Path, of_plain, of_parts, of_plain-plain, plain-of_plain, plain_parts-of_parts}
-use Rattle.til_parser.proofs.rules.StreamFields.{ArgumentsOf}
-use Rattle.til_parser.proofs.rules.StreamRules.{stream-rule, values_within}
-use Rattle.til_parser.proofs.rules.TokenRules.{open_paren, close_paren}
-use Rattle.til_parser.proofs.rules.PartRules.{S, parts-rule}
-use Rattle.til_parser.proofs.rules.TypeWords.{Lead, lead-there, lead-rule, path-apart}
+use Rattle.til_parser.proofs.PlainLemmas.{plain_parts, plain-Null, plain-Bits, plain-Group, plain-Union, plain-Stream, plain-Path, of_plain, of_parts, of_plain-plain}
+use Rattle.til_parser.proofs.rules.LeafRules.{PathNext, name-rule, name-begins, whole-rule, path-rule, path-front}
+use Rattle.til_parser.proofs.rules.ListRules.{bracketed-rule}
+use Rattle.til_parser.proofs.rules.StreamFields.{S, ArgumentsOf, lowest-whole}
+use Rattle.til_parser.proofs.rules.StreamRules.{stream-rule, values_within, argument-shrinks}
+use Rattle.til_parser.proofs.rules.TokenRules.{both, made, one, kind_is, same_kind-is, kind-apart, colon, open_paren, close_paren, word_at-word, word_at-back, word_at-rule}
+
+-- ---- the word with which a type begins
+
+each_type_word : (x : TypeWord) → type_word_of (type_word x) ≡ Some x
+each_type_word words.Null = refl
+each_type_word _ = refl
+
+abbrev Lead : TypeWord → Form
+Lead k = Word (type_word k)
+
+-- a name is none of the words
+no_name : (k : TypeWord) → is_name (type_word k) ≡ false
+no_name words.Null = refl
+no_name _ = refl
+
+not_told : (x : AstName) (t : Lexeme) → IsNamed x t → (o : Option TypeWord) → type_word_at t ≡ o → is_some o ≡ false
+not_told x t is None told = refl
+not_told x t is (Some k) told =
+    absurd (true≢false (sym is.named ∙ ap is_name (sym is.text ∙ (word_at-word type_word all_type_words each_type_word t k told).text) ∙ no_name k))
+
+path-apart : (names : List AstName) (front rest : List Lexeme) → Path names front → tells (λ t. is_some (type_word_at t)) false (front ++ rest) ≡ false
+path-apart = path-front (λ ts. tells (λ t. is_some (type_word_at t)) false ts ≡ false) (λ x t more is. not_told x t is (type_word_at t) refl)
+
+-- ---- parts
+
+module _ (inner : Reader Lexeme AstType) (W : AstType → Type 0) (D : Form) (one : IsRule IsFormed inner S (λ _. PathNext) W D) where
+  part-rule : IsRule IsFormed (part inner) SpellsPart (λ _. PathNext) (λ p. W p.ltype) (PartTo D)
+  unfolding part
+  part-rule =
+      viewed (λ (p : AstName × AstType). roll-AstPart (record { name = p.0; ltype = p.1 })) (λ p. (p.name, p.ltype))
+      (parted (as_flat name-rule) colon (as_rule one) (λ x front rest s. tt)) (λ x. refl) (λ y. refl)
+
+  part-begins : Begins (is_kind kinds.Word) SpellsPart (PartTo D)
+  part-begins = record { item = λ p. name-begins p.name _; deep = λ front rest d. name-begins d.0 _ front rest d.1 }
+
+  part-shrinks : Shrinks (part inner)
+  part-shrinks = shrinks (as_rule part-rule) part-begins
+
+  parts-rule : IsRule IsFormed (bracketed (part inner)) (λ items. Bracketed (Commas SpellsPart items)) (λ _. Anything) (EachIs (λ p. W p.ltype)) (BracketedTo SpellsPart (PartTo D))
+  unfolding same_kind
+  parts-rule = bracketed-rule (begins-repeats (kind-apart kinds.Word kinds.CloseParen refl) part-begins) part-rule
+
+parts-same : (parts : List AstPart) → SpellsParts (plain_parts parts) ≡ Commas SpellsPart parts
+parts-same [] = refl
+parts-same (p ∷ []) = refl
+parts-same (p ∷ next ∷ parts) = ap (λ (More : Form). SpellsPart p ⋯ Of kinds.Comma ⋯ More) (parts-same (next ∷ parts))
+
+-- ---- a type is made of its word and what follows that, or is a path
+
+-- what a type of this word holds, the type of it, and how what follows the word spells it
+abbrev Held : TypeWord → Type 0
+Held words.Null = Unit {0}
+Held words.Bits = ℕ
+Held words.Group = List AstPart
+Held words.Union = List AstPart
+Held words.Stream = AstStream
+
+abbrev made_of : (k : TypeWord) → Held k → AstType
+made_of words.Null x = types.Null
+made_of words.Bits x = types.Bits x
+made_of words.Group x = types.Group x
+made_of words.Union x = types.Union x
+made_of words.Stream x = types.Stream x
+
+abbrev Inside : (k : TypeWord) → Held k → Form
+Inside words.Null x = Only tt x
+Inside words.Bits x = Bracketed (Whole x)
+Inside words.Group x = Bracketed (Commas SpellsPart x)
+Inside words.Union x = Bracketed (Commas SpellsPart x)
+Inside words.Stream x = Bracketed (ArgumentsOf x)
+
+same_form : {One Other : Form} → One ≡ Other → (ts : List Lexeme) → One ts ↔ Other ts
+same_form is ts = (subst (λ (F : Form). F ts) is, subst (λ (F : Form). F ts) (sym is))
+
+spelled : (k : TypeWord) (x : Held k) (ts : List Lexeme) → S (made_of k x) ts ↔ (Lead k ⋯ Inside k x) ts
+spelled words.Null x ts =
+    let null = same_form (ap SpellsType plain-Null) ts in (
+      λ s. record { front = ts; back = []; all = sym (append-nil ts); begins = null.0 s; ends = (refl, refl) },
+      λ b. null.1 (subst (Word (codes "Null")) (sym (b.all ∙ ap (λ l. b.front ++ l) b.ends.1 ∙ append-nil b.front)) b.begins),
+    )
+spelled words.Bits x ts = same_form (ap SpellsType (plain-Bits x)) ts
+spelled words.Group x ts = same_form (ap SpellsType (plain-Group x) ∙ ap (λ (F : Form). Word (codes "Group") ⋯ Bracketed F) (parts-same x)) ts
+spelled words.Union x ts = same_form (ap SpellsType (plain-Union x) ∙ ap (λ (F : Form). Word (codes "Union") ⋯ Bracketed F) (parts-same x)) ts
+spelled words.Stream x ts = same_form (ap SpellsType (plain-Stream x)) ts
+
+path_spelled : (p : AstPath) (ts : List Lexeme) → S (types.Path p) ts ↔ Path p.names ts
+path_spelled p = same_form (ap SpellsType (plain-Path p))
+
+abbrev IsMade : AstType → Type 0
+IsMade y = ((k : TypeWord) × (x : Held k) × (y ≡ made_of k x)) ⊎ ((p : AstPath) × (y ≡ types.Path p))
+
+is_made : (t : Ltype) → IsMade (of_plain t)
+is_made null = inl (words.Null, tt, refl)
+is_made (tree.bits width) = inl (words.Bits, width, refl)
+is_made (tree.group parts) = inl (words.Group, of_parts parts, refl)
+is_made (tree.union parts) = inl (words.Union, of_parts parts, refl)
+is_made (tree.stream element user settings) = inl (words.Stream, _, refl)
+is_made (tree.path names) = inr (record { names = names }, refl)
+
+abbrev After : TypeWord → AstType → Form
+After k = Made (made_of k) (Inside k)
+
+abbrev Spelling : AstType → Form
+Spelling y ts = ((k : TypeWord) × ((Lead k ⋯ After k y) ts)) ⊎ Made types.Path (λ x. Path x.names) y ts
+
+there : (y : AstType) (ts : List Lexeme) → Spelling y ts → S y ts
+there y ts = ⊎_elim
+    (λ b. let m = b.1.ends in subst (λ z. S z ts) (sym m.1) ((spelled b.0 m.0 ts).1 (with_ends b.1 m.2)))
+    (λ p. subst (λ z. S z ts) (sym p.1) ((path_spelled p.0 ts).1 p.2))
+
+back : (y : AstType) (ts : List Lexeme) → S y ts → Spelling y ts
+back y ts s = ⊎_elim
+    (λ m. let b = (spelled m.0 m.1 ts).0 (subst (λ z. S z ts) m.2 s) in inl (m.0, with_ends b (m.1, m.2, b.ends)))
+    (λ p. inr (p.0, p.1, (path_spelled p.0 ts).0 (subst (λ z. S z ts) p.1 s)))
+    (subst IsMade (of_plain-plain y) (is_made (plain y)))
 
 -- ---- how deep
 
-pub depth-some : (t : Ltype) → 1 ≤ depth t
+depth-some : (t : Ltype) → 1 ≤ depth t
 depth-some null = omega arith
 depth-some (tree.bits width) = omega arith
 depth-some (tree.group parts) = omega arith
@@ -55,175 +185,163 @@ depth-parts : (n : ℕ) (parts : List AstPart) → depth_of_parts (plain_parts p
 depth-parts n [] most = tt
 depth-parts n (p ∷ parts) most = (omega (arith, most), depth-parts n parts (omega (arith, most)))
 
--- ---- parts as the grammar has them
-
-parts-there : (parts : List AstPart) (ts : List Lexeme) → Commas SpellsPart parts ts → SpellsParts (plain_parts parts) ts
-parts-there [] ts s = s
-parts-there (p ∷ []) ts s = s
-parts-there (p ∷ next ∷ parts) ts s = with_ends s (with_ends s.ends (parts-there (next ∷ parts) s.ends.back s.ends.ends))
-
-parts-back : (parts : List AstPart) (ts : List Lexeme) → SpellsParts (plain_parts parts) ts → Commas SpellsPart parts ts
-parts-back [] ts s = s
-parts-back (p ∷ []) ts s = s
-parts-back (p ∷ next ∷ parts) ts s = with_ends s (with_ends s.ends (parts-back (next ∷ parts) s.ends.back s.ends.ends))
-
-inside : {Inside Other : Form} {ts : List Lexeme} (First : Form) → ((back : List Lexeme) → Inside back → Other back) → (First ⋯ Bracketed Inside) ts → (First ⋯ Bracketed Other) ts
-inside First to s =
-    let b = s.ends in
-    let i = b.ends in
-    with_ends s (with_ends b (record { front = i.front; back = i.back; all = i.all; begins = to i.front i.begins; ends = i.ends }))
+null_within : (n : ℕ) (x : AstType) → Fits n x → Fits n types.Null
+null_within n x fits = let some = depth-some (plain x) in let is = ap depth plain-Null in omega (arith, is, fits, some)
 
 -- ---- a type, by the types inside it
-
--- what follows the word of a type
-unfoldable pub After : TypeWord → AstType → Form
-After words.Null = Only types.Null
-After words.Bits = Made types.Bits (λ width. Bracketed (Whole width))
-After words.Group = Made types.Group (λ parts. Bracketed (Commas SpellsPart parts))
-After words.Union = Made types.Union (λ parts. Bracketed (Commas SpellsPart parts))
-After words.Stream = Made types.Stream (λ s. Bracketed (ArgumentsOf s))
-
-abbrev ByWord : AstType → Form
-ByWord y ts = (k : TypeWord) × ((Lead k ⋯ After k y) ts)
-
-abbrev ByPath : AstType → Form
-ByPath = Made types.Path (λ x. Path x.names)
-
-of_tree : (x : AstType) (t : Ltype) (ts : List Lexeme) → plain x ≡ t → SpellsType t ts → S x ts
-of_tree x t ts is s = subst (λ t. SpellsType t ts) (sym is) s
-
-pub of_word : (k : TypeWord) (y : AstType) (ts : List Lexeme) → (Lead k ⋯ After k y) ts → S y ts
-unfolding Lead After
-of_word words.Null y ts b =
-    of_tree y null ts (ap plain b.ends.0 ∙ plain-Null) (subst (Word (codes "Null")) (sym (b.all ∙ ap (λ l. b.front ++ l) b.ends.1 ∙ append-nil b.front)) b.begins)
-of_word words.Bits y ts b =
-    let m = b.ends in
-    of_tree y (tree.bits m.0) ts (ap plain m.1 ∙ plain-Bits m.0) (with_ends b m.2)
-of_word words.Group y ts b =
-    let m = b.ends in
-    of_tree y (tree.group (plain_parts m.0)) ts (ap plain m.1 ∙ plain-Group m.0)
-    (inside (Word (codes "Group")) (parts-there m.0) (with_ends b m.2))
-of_word words.Union y ts b =
-    let m = b.ends in
-    of_tree y (tree.union (plain_parts m.0)) ts (ap plain m.1 ∙ plain-Union m.0)
-    (inside (Word (codes "Union")) (parts-there m.0) (with_ends b m.2))
-of_word words.Stream y ts b =
-    let m = b.ends in
-    of_tree y (tree.stream (plain m.0.element) (plain m.0.user) (settings_of m.0)) ts (ap plain m.1 ∙ plain-Stream m.0)
-    (with_ends b m.2)
-
-pub there : (y : AstType) (ts : List Lexeme) → ByWord y ts ⊎ ByPath y ts → S y ts
-there y ts = ⊎_elim (λ s. of_word s.0 y ts s.1) (λ s. of_tree y (tree.path s.0.names) ts (ap plain s.1 ∙ plain-Path s.0) s.2)
-
-abbrev of_stream : Ltype → Ltype → Settings → AstStream
-of_stream element user settings = roll-AstStream (record {
-  element = of_plain element;
-  throughput = settings.throughput;
-  dims = settings.dims;
-  sync = settings.sync;
-  level = settings.level;
-  reverse = settings.reverse;
-  user = of_plain user;
-  keep = settings.keep;
-})
-
-pub by_word : (k : TypeWord) (y : AstType) (ts : List Lexeme) (Second : Form) → (Word (type_word k) ⋯ Second) ts → ((back : List Lexeme) → Second back → After k y back)
-    → ByWord y ts ⊎ ByPath y ts
-unfolding Lead
-by_word k y ts Second s to = inl (k, with_ends s (to s.back s.ends))
-
-back_tree : (y : AstType) (t : Ltype) (ts : List Lexeme) → y ≡ of_plain t → SpellsType t ts → ByWord y ts ⊎ ByPath y ts
-unfolding Lead After
-back_tree y null ts is s = inl (words.Null, record { front = ts; back = []; all = sym (append-nil ts); begins = s; ends = (is, refl) })
-back_tree y (tree.bits width) ts is s = by_word words.Bits y ts _ s (λ back b. (width, is, b))
-back_tree y (tree.group parts) ts is s = by_word words.Group y ts _
-    (inside (Word (codes "Group")) (λ back p. parts-back (of_parts parts) back (subst (λ q. SpellsParts q back) (sym (plain_parts-of_parts parts)) p)) s)
-    (λ back b. (of_parts parts, is, b))
-back_tree y (tree.union parts) ts is s = by_word words.Union y ts _
-    (inside (Word (codes "Union")) (λ back p. parts-back (of_parts parts) back (subst (λ q. SpellsParts q back) (sym (plain_parts-of_parts parts)) p)) s)
-    (λ back b. (of_parts parts, is, b))
-back_tree y (tree.stream element user settings) ts is s = by_word words.Stream y ts _
-    (inside {Other = ArgumentsOf (of_stream element user settings)} (Word (codes "Stream")) (λ back a.
-    subst (λ t. grammar.Arguments (SpellsType t) (SpellsType (plain (of_plain user))) (plain (of_plain user)) settings back) (sym (plain-of_plain element))
-    (subst (λ t. grammar.Arguments (SpellsType element) (SpellsType t) t settings back) (sym (plain-of_plain user)) a)) s)
-    (λ back b. (of_stream element user settings, is, b))
-back_tree y (tree.path names) ts is s = inr (record { names = names }, is, s)
-
-pub back : (y : AstType) (ts : List Lexeme) → S y ts → ByWord y ts ⊎ ByPath y ts
-back y ts s = back_tree y (plain y) ts (sym (of_plain-plain y)) s
-
-fits_null : (n : ℕ) → Fits (suc n) types.Null
-fits_null n = rw plain-Null (omega arith)
-
-pub null_within : (n : ℕ) (x : AstType) → Fits n x → Fits n types.Null
-null_within n x fits = let some = depth-some (plain x) in let is = ap depth plain-Null in omega (arith, is, fits, some)
 
 bits-rule : IsRule IsFormed bits (λ width. Bracketed (Whole width)) (λ _. Anything) (λ _. Unit {0}) Never
 unfolding bits
 bits-rule = (flat_skip open_paren (flat_close (as_flat whole-rule) close_paren (λ x front rest s. tt))).is
 
 module _ (n : ℕ) (inner : Reader Lexeme AstType) (D : Form) (one : IsRule IsFormed inner S (λ _. PathNext) (Fits n) D) where
-  abbrev V : AstType → Type 0
-  V = Fits (suc n)
+  list-rule : (of : List AstPart → AstType) → ((x : List AstPart) → depth (plain (of x)) ≡ suc (depth_of_parts (plain_parts x)))
+      → IsRule IsFormed (of <$> bracketed (part inner)) (Made of (λ x. Bracketed (Commas SpellsPart x))) (λ _. PathNext) (Fits (suc n)) (BracketedTo SpellsPart (PartTo D))
+  list-rule of is = made-rule of (as_rule (parts-rule inner (Fits n) D one)) (λ _. PathNext) (Fits (suc n)) (λ x rest next. tt)
+      (λ x each. omega (arith, is x, parts-depth n x each)) (λ x w. depth-parts n x (omega (arith, is x, w)))
 
-  parts_fit : (of : List AstPart → AstType) (parts : List AstPart) → depth (plain (of parts)) ≡ suc (depth_of_parts (plain_parts parts)) → EachIs (λ p. Fits n p.ltype) parts → V (of parts)
-  parts_fit of parts is each = omega (arith, is, parts-depth n parts each)
-
-  fit_parts : (of : List AstPart → AstType) (parts : List AstPart) → depth (plain (of parts)) ≡ suc (depth_of_parts (plain_parts parts)) → V (of parts) → EachIs (λ p. Fits n p.ltype) parts
-  fit_parts of parts is w = depth-parts n parts (omega (arith, is, w))
-
-  -- what leads to something too deep after the word of a type
-  AfterTo : TypeWord → Form
-  AfterTo words.Null = Never
-  AfterTo words.Bits = Never
-  AfterTo words.Group = BracketedTo SpellsPart (PartTo D)
-  AfterTo words.Union = BracketedTo SpellsPart (PartTo D)
-  AfterTo words.Stream = Of kinds.OpenParen ⋯ ArgumentsTo D
-
-  after-rule : (k : TypeWord) → IsRule IsFormed (type_after inner k) (After k) (λ _. PathNext) V (AfterTo k)
-  unfolding After AfterTo
-  after-rule words.Null =
-      same-rule IsFormed (pure types.Null) (Only types.Null) (λ _. Anything) V Never (Only types.Null) (λ _. PathNext) V Never
-      (record { there = λ x ts s. s; back = λ x ts s. s; follow = λ x rest next. tt; within = λ x w. w; apart = λ x w. w; first = λ ts d. d; deep = λ ts d. d })
-      (pure-rule IsFormed V types.Null (fits_null n))
-  after-rule words.Bits = made-rule types.Bits (as_rule bits-rule) (λ _. PathNext) V (λ x rest next. tt) (λ x w. rw (plain-Bits x) (omega arith)) (λ x w. tt)
-  after-rule words.Group = made-rule types.Group (as_rule (parts-rule inner (Fits n) D one)) (λ _. PathNext) V (λ x rest next. tt)
-      (λ x. parts_fit types.Group x (ap depth (plain-Group x))) (λ x. fit_parts types.Group x (ap depth (plain-Group x)))
-  after-rule words.Union = made-rule types.Union (as_rule (parts-rule inner (Fits n) D one)) (λ _. PathNext) V (λ x rest next. tt)
-      (λ x. parts_fit types.Union x (ap depth (plain-Union x))) (λ x. fit_parts types.Union x (ap depth (plain-Union x)))
-  after-rule words.Stream = made-rule types.Stream (as_rule (stream-rule inner (Fits n) D one (null_within n))) (λ _. PathNext) V
+  after-rule : (k : TypeWord) → IsRule IsFormed (type_after inner k) (After k) (λ _. PathNext) (Fits (suc n)) (AfterTo D k)
+  after-rule words.Null = made-rule (λ _. types.Null) (as_rule (pure-rule {A = Unit {0}} IsFormed (λ _. Unit {0}) tt tt)) (λ _. PathNext) (Fits (suc n))
+      (λ x rest next. tt) (λ x w. rw plain-Null (omega arith)) (λ x w. tt)
+  after-rule words.Bits = made-rule types.Bits (as_rule bits-rule) (λ _. PathNext) (Fits (suc n)) (λ x rest next. tt) (λ x w. rw (plain-Bits x) (omega arith)) (λ x w. tt)
+  after-rule words.Group = list-rule types.Group (λ x. ap depth (plain-Group x))
+  after-rule words.Union = list-rule types.Union (λ x. ap depth (plain-Union x))
+  after-rule words.Stream = made-rule types.Stream (as_rule (stream-rule inner (Fits n) D one (null_within n))) (λ _. PathNext) (Fits (suc n))
       (λ x rest next. tt) (λ s w. rw (plain-Stream s) (omega (arith, w arguments.Data, w arguments.User)))
       (λ s w. let d = subst (λ t. depth t ≤ suc n) (plain-Stream s) w in values_within inner (Fits n) D one (null_within n) s (omega (arith, d)) (omega (arith, d)))
 
-  path_type-rule : IsRule IsFormed (types.Path <$> path) ByPath (λ _. PathNext) V Never
-  path_type-rule = made-rule types.Path (as_rule path-rule) (λ _. PathNext) V (λ x rest next. next) (λ x w. rw (plain-Path x) (omega arith)) (λ x w. tt)
+  path_type-rule : IsRule IsFormed (types.Path <$> path) (Made types.Path (λ x. Path x.names)) (λ _. PathNext) (Fits (suc n)) Never
+  path_type-rule = made-rule types.Path (as_rule path-rule) (λ _. PathNext) (Fits (suc n)) (λ x rest next. next) (λ x w. rw (plain-Path x) (omega arith)) (λ x w. tt)
 
-  abbrev WordTo : Form
-  WordTo ts = ((k : TypeWord) × ((Lead k ⋯ AfterTo k) ts)) ⊎ Never ts
-
-  to_word : (k : TypeWord) (Second : Form) (ts : List Lexeme) → (Word (type_word k) ⋯ Second) ts → ((back : List Lexeme) → Second back → AfterTo k back) → WordTo ts
-  unfolding Lead
-  to_word k Second ts s to = inl (k, with_ends s (to s.back s.ends))
-
-  inside_to : (ts : List Lexeme) → WordTo ts → InsideTo D ts
-  unfolding Lead AfterTo
-  inside_to ts = ⊎_elim (λ d. by_keyword d.0 d.1) (λ d. absurd d)
-    where
-      by_keyword : (k : TypeWord) → (Lead k ⋯ AfterTo k) ts → InsideTo D ts
-      by_keyword words.Null d = absurd d.ends
-      by_keyword words.Bits d = absurd d.ends
-      by_keyword words.Group d = inl d
-      by_keyword words.Union d = inr (inl d)
-      by_keyword words.Stream d = inr (inr d)
-
-  to_inside : (ts : List Lexeme) → InsideTo D ts → WordTo ts
-  unfolding AfterTo
-  to_inside ts = ⊎_elim (λ d. to_word words.Group _ ts d (λ back b. b)) (⊎_elim (λ d. to_word words.Union _ ts d (λ back b. b)) (λ d. to_word words.Stream _ ts d (λ back b. b)))
-
-  pub type-rule : IsRule IsFormed (type_with inner) S (λ _. PathNext) V (InsideTo D)
+  type-rule : IsRule IsFormed (type_with inner) S (λ _. PathNext) (Fits (suc n)) (InsideTo D)
   unfolding type_with
   type-rule =
-      same-rule IsFormed (led type_word_at (type_after inner) (types.Path <$> path)) (λ y ts. ByWord y ts ⊎ ByPath y ts) (λ _. PathNext) V WordTo S (λ _. PathNext) V (InsideTo D)
-      (record { there = there; back = back; follow = λ x rest next. next; within = λ x w. w; apart = λ x w. w; first = inside_to; deep = to_inside })
-      (led-rule IsFormed type_word_at (type_after inner) (types.Path <$> path) Lead After ByPath (λ _. PathNext) V AfterTo Never lead-there
-      (λ y front rest s. path-apart s.0.names front rest s.2) (λ front rest d. absurd d) lead-rule after-rule path_type-rule)
+      same-rule IsFormed (led type_word_at (type_after inner) (types.Path <$> path)) Spelling (λ _. PathNext) (Fits (suc n)) (λ ts. InsideTo D ts ⊎ Never ts) S (λ _. PathNext) (Fits (suc n)) (InsideTo D)
+      (record { there = there; back = back; follow = λ x rest next. next; within = λ x w. w; apart = λ x w. w; first = λ ts. ⊎_elim (λ d. d) (λ d. absurd d); deep = λ ts d. inl d })
+      (led-rule IsFormed type_word_at (type_after inner) (types.Path <$> path) Lead After (Made types.Path (λ x. Path x.names)) (λ _. PathNext) (Fits (suc n)) (AfterTo D) Never
+      (word_at-back type_word all_type_words each_type_word) (λ y front rest s. path-apart s.0.names front rest s.2) (λ front rest d. absurd d)
+      (word_at-rule type_word all_type_words each_type_word words.Null refl) after-rule path_type-rule)
+
+-- ---- each word with which a type begins goes on to one
+
+closed : (kind : TokenKind) (spelling : List ℕ) → Of kind (made kind spelling ∷ [])
+closed kind spelling = one (λ lexeme. lexeme.kind ≡ kind) (made kind spelling) refl
+
+in_brackets : {A : Type 0} {Within : A → Form} → GoesOn IsFormed Within [] → GoesOn IsFormed (λ x. Bracketed (Within x)) []
+in_brackets g = record {
+  value = g.value;
+  more = made kinds.OpenParen (codes "(") ∷ (g.more ++ made kinds.CloseParen (codes ")") ∷ []);
+  good = All-cons IsFormed (made kinds.OpenParen (codes "(")) _ refl (All-append IsFormed g.more _ g.good (All-one IsFormed (made kinds.CloseParen (codes ")")) refl));
+  spelled = joins (made kinds.OpenParen (codes "(") ∷ []) _ (closed kinds.OpenParen (codes "(")) (joins g.more _ g.spelled (closed kinds.CloseParen (codes ")")));
+}
+
+word_token : (word : List ℕ) → Word word (made kinds.Word word ∷ [])
+word_token word = one (IsWord word) (made kinds.Word word) (record { kind = refl; text = refl })
+
+null_spelled : S types.Null (made kinds.Word (codes "Null") ∷ [])
+null_spelled = (same_form (ap SpellsType plain-Null) _).1 (word_token (codes "Null"))
+
+-- a Stream of `data: Null`
+null_defaults : (name : Argument) → (Contains (arguments.Data ∷ []) name → ⊥) → IsDefault (plain types.Null) (settings_of (filled types.Null none_given)) name
+null_defaults arguments.Data out = absurd (out (Contains-first [] arguments.Data arguments.Data refl))
+null_defaults arguments.Throughput out = lowest-whole
+null_defaults arguments.User out = plain-Null
+null_defaults _ out = refl
+
+null_argument : GoesOn IsFormed ArgumentsOf []
+null_argument = record {
+  value = filled types.Null none_given;
+  more = made kinds.Word (codes "data") ∷ made kinds.Colon (codes ":") ∷ made kinds.Word (codes "Null") ∷ [];
+  good = All-cons IsFormed (made kinds.Word (codes "data")) (made kinds.Colon (codes ":") ∷ made kinds.Word (codes "Null") ∷ []) refl
+      (All-cons IsFormed (made kinds.Colon (codes ":")) (made kinds.Word (codes "Null") ∷ []) refl (All-one IsFormed (made kinds.Word (codes "Null")) refl));
+  spelled = record {
+    order = arguments.Data ∷ [];
+    apart = (Contains-none arguments.Data, tt);
+    others = null_defaults;
+    written = record {
+      front = _;
+      back = [];
+      all = refl;
+      begins = joins (made kinds.Word (codes "data") ∷ []) (made kinds.Colon (codes ":") ∷ made kinds.Word (codes "Null") ∷ []) (word_token (codes "data"))
+          (joins (made kinds.Colon (codes ":") ∷ []) (made kinds.Word (codes "Null") ∷ []) (closed kinds.Colon (codes ":")) null_spelled);
+      ends = inl refl;
+    };
+  };
+}
+
+held_goes : (k : TypeWord) → GoesOn IsFormed (Inside k) []
+held_goes words.Null = record { value = tt; more = []; good = All-nil IsFormed; spelled = (refl, refl) }
+held_goes words.Bits = bits-rule.example
+held_goes words.Group = in_brackets (record { value = []; more = []; good = All-nil IsFormed; spelled = refl })
+held_goes words.Union = in_brackets (record { value = []; more = []; good = All-nil IsFormed; spelled = refl })
+held_goes words.Stream = in_brackets null_argument
+
+word_goes : (k : TypeWord) (t : Lexeme) → IsWord (type_word k) t → GoesOn IsFormed S (t ∷ [])
+word_goes k t is = let g = held_goes k in record {
+  value = made_of k g.value;
+  more = g.more;
+  good = g.good;
+  spelled = (spelled k g.value (t ∷ g.more)).1 (joins (t ∷ []) g.more (one (IsWord (type_word k)) t is) g.spelled);
+}
+
+-- a word that is none of the five is a name
+name_goes : (t : Lexeme) → t.kind ≡ kinds.Word → is_name t.spelling ≡ true → GoesOn IsFormed S (t ∷ [])
+name_goes t kind named =
+    let x : AstName = record { name = t.spelling; place = t.place } in
+    record {
+      value = types.Path (record { names = x ∷ [] });
+      more = [];
+      good = All-nil IsFormed;
+      spelled = (path_spelled (record { names = x ∷ [] }) (t ∷ [])).1 (one (IsNamed x) t (record { kind = kind; text = refl; place = refl; named = named }));
+    }
+
+-- a word in the form of a name that is none of the words of types is a name
+is_named : (word : List ℕ) → has_name_form word ≡ true → type_word_of word ≡ None → is_name word ≡ true
+is_named word form none = let out = entry-none type_word all_type_words word none in rw (form, out.0, out.1.0, out.1.1.0, out.1.1.1.0, out.1.1.1.1.0) refl
+
+begun : (t : Lexeme) → begins_type t ≡ true → GoesOn IsFormed S (t ∷ [])
+begun t is = let parts = both (same_kind t.kind kinds.Word) (has_name_form t.spelling) is in of_word (kind_is t.kind kinds.Word parts.0) parts.1 (type_word_of t.spelling) refl
+  where
+    of_word : t.kind ≡ kinds.Word → has_name_form t.spelling ≡ true → (o : Option TypeWord) → type_word_of t.spelling ≡ o → GoesOn IsFormed S (t ∷ [])
+    of_word kind form (Some k) told = word_goes k t (record { kind = kind; text = entry-word type_word all_type_words t.spelling k told })
+    of_word kind form None told = name_goes t kind (is_named t.spelling form told)
+
+null_goes : GoesOn IsFormed S []
+null_goes = let word = made kinds.Word (codes "Null") in
+    record { value = types.Null; more = word ∷ []; good = All-one IsFormed word refl; spelled = null_spelled }
+
+-- the first token of a type is a word
+type_begins : (y : AstType) (front rest : List Lexeme) → S y front → tells (is_kind kinds.Word) false (front ++ rest) ≡ true
+type_begins y front rest s = ⊎_elim
+    (λ b. front-tells (is_kind kinds.Word) true (Lead b.0) _ front rest (λ f r o. rw (o.all) (same_kind-is o.lexeme.kind kinds.Word o.is.kind)) b.1)
+    (λ p. path-front (λ ts. tells (is_kind kinds.Word) false ts ≡ true) (λ x t more is. same_kind-is t.kind kinds.Word is.kind) p.0.names front rest p.2)
+    (back y front s)
+
+starts : (y : AstType) (front : List Lexeme) → All IsFormed front → S y front → tells begins_type false front ≡ true
+starts y front good s = of_word front good (subst (λ l. tells (is_kind kinds.Word) false l ≡ true) (append-nil front) (type_begins y front [] s))
+  where
+    of_word : (ts : List Lexeme) → All IsFormed ts → tells (is_kind kinds.Word) false ts ≡ true → tells begins_type false ts ≡ true
+    of_word [] good is = is
+    of_word (t ∷ more) good is = rw is (subst (λ kind. HasForm kind t.spelling) (kind_is t.kind kinds.Word is) (All-head IsFormed t more good))
+
+-- ---- types of so many levels
+
+no_level : (x : AstType) → Fits 0 x → ⊥
+no_level x fits = let some = depth-some (plain x) in omega arith
+
+-- a type of at most so many levels
+pub ltype-rule : (n : ℕ) → IsRule IsFormed (ltype n) S (λ _. PathNext) (Fits n) (TypeTo n)
+unfolding ltype TypeTo
+ltype-rule zero =
+    same-rule IsFormed (too_deep begins_type) S (λ _. PathNext) (λ _. ⊥) Nothing S (λ _. PathNext) (Fits 0) Nothing
+    (record { there = λ x ts s. s; back = λ x ts s. s; follow = λ x rest next. next; within = λ x w. absurd w; apart = no_level; first = λ ts d. d; deep = λ ts d. d })
+    (too_deep-rule IsFormed begins_type S (λ _. PathNext) null_goes begun starts)
+ltype-rule (suc n) = type-rule n (ltype n) (TypeTo n) (ltype-rule n)
+
+-- ---- what takes a token at least
+
+pub Shrinks-part : (n : ℕ) (found : List AstPart) → Shrinks (one_more (part (ltype n)) found)
+Shrinks-part n found = mapped-less (λ x. found ++ x ∷ []) (part (ltype n)) (part-shrinks (ltype n) (Fits n) (TypeTo n) (ltype-rule n))
+
+pub Shrinks-argument : (n : ℕ) (given : Arguments) → Shrinks (argument argument_at is_given (value (ltype n)) given)
+Shrinks-argument n = argument-shrinks (ltype n) (Fits n) (TypeTo n) (ltype-rule n) (null_within n)

@@ -1,4 +1,4 @@
-use Rattle.std.proofs.Common.{◌≡◌, Bool, true, Option, List, length}
+use Rattle.std.proofs.Common.{◌≡◌, Bool, true, Option, length}
 use Rattle.tydi_reading.specs.Calls.{Decides, DecidesPair, DoesAdd, Means}
 use Rattle.tydi_reading.specs.Lists.{steps_turn}
 use Rattle.tydi_reading.specs.Named.{argument, NeverGrows}

@@ -1,28 +1,16 @@
 use Rattle.std.proofs.Common.{false, true, rules, arith}
 use Rattle.std.proofs.lemmas.Grind.{common_steps}
 use Rattle.til_parser.specs.ReadDecls.{namespace}
-use Rattle.tydi_reading.specs.Lists.{repeated, repeated_turn}
-use Rattle.tydi_reading.proofs.LoopLemmas.{loop_unfolds, repeated_turn-advances}
-use Rattle.til_parser.proofs.rules.Shrinking.{Shrinks-namespace}
+use Rattle.tydi_reading.specs.Lists.{repeated}
+use Rattle.tydi_reading.proofs.LoopLemmas.{reads-less}
+use Rattle.til_parser.proofs.rules.ProjectRules.{Shrinks-namespace}
 use Rattle.til_parser.proofs.parser.Parser.namespaces.Goals as goal
 
-pub returns-in_err-namespace : goal.returns-in_err-namespace
-unfolding repeated repeated_turn
-returns-in_err-namespace c =
-    let turn = loop_unfolds (repeated_turn (λ _. false) true (namespace c.args.levels)) (repeated_turn-advances (λ _. false) true (namespace c.args.levels) (Shrinks-namespace c.args.levels)) c.namespaces.namespaces c.namespaces.self in
-    first_of (search rules, grind (arith, common_steps))
+pub repeated-requires : goal.repeated-requires
+repeated-requires c κs = (search rules, (search rules, (search rules, λ p q a k. reads-less {read = namespace c.args.levels} (Shrinks-namespace c.args.levels) p.now q.now a (search rules))))
 
 pub returns : goal.returns
-unfolding repeated repeated_turn
+unfolding repeated
 returns c =
-    let turn = loop_unfolds (repeated_turn (λ _. false) true (namespace c.args.levels)) (repeated_turn-advances (λ _. false) true (namespace c.args.levels) (Shrinks-namespace c.args.levels)) c.namespaces.namespaces c.namespaces.self in
+    let made = c.repeated.ensures (namespace c.args.levels) (λ _. false) true (λ p b k. search rules) (λ p q a k. search rules) (Shrinks-namespace c.args.levels) in
     first_of (search rules, grind (arith, common_steps))
-
-pub namespaces-preserved : goal.namespaces-preserved
-unfolding repeated_turn
-namespaces-preserved c =
-    let turn = loop_unfolds (repeated_turn (λ _. false) true (namespace c.args.levels)) (repeated_turn-advances (λ _. false) true (namespace c.args.levels) (Shrinks-namespace c.args.levels)) c.namespaces.namespaces c.namespaces.self in
-    first_of (search rules, grind (arith, common_steps))
-
-pub namespaces-smaller : goal.namespaces-smaller
-namespaces-smaller c = let one = ((Shrinks-namespace c.args.levels)).less _ _ _ c.in_ok-namespace.ensures in omega arith

@@ -1,0 +1,85 @@
+use Rattle.std.proofs.Common.{◌≡◌, ℕ, zero, suc, ◌-◌, ◌<◌, List, sym, ap, ◌∙◌, subst, rules, arith}
+use Rattle.std.proofs.lemmas.Grind.{common_steps}
+use Rattle.til_parser.specs.declared.ltype.AstType.{the_lemmas}
+use Rattle.til_parser.specs.Lexemes.{Lexeme}
+use Rattle.til_parser.specs.ReadTypes.{is_given, value, ltype, one_more, part, type_with}
+use Rattle.til_parser.specs.Words.{argument_at}
+use Rattle.tydi_reading.specs.Named.{argument, named}
+use Rattle.tydi_reading.proofs.NamedSteps.{argument-none, argument-given, argument-taken}
+use Rattle.tydi_reading.specs.Reading.{Reads}
+use Rattle.tydi_reading.proofs.LoopLemmas.{reads-less}
+use Rattle.til_parser.proofs.rules.TypeRules.{Shrinks-part, Shrinks-argument}
+use Rattle.til_parser.proofs.parser.+ltype.Goals as goal
+
+-- ---- a type
+
+deeper : (levels : ℕ) (ts : List Lexeme) → 0 < levels → ltype levels ts ≡ type_with (ltype (levels - 1)) ts
+unfolding ltype
+deeper zero ts some = absurd (omega arith)
+deeper (suc levels) ts some = let same : levels ≡ suc levels - 1 = omega arith in ap (λ (n : ℕ). type_with (ltype n) ts) same
+
+pub Parser::ltype-returns-in-Some : goal.Parser::ltype-returns-in-Some
+unfolding type_with
+Parser::ltype-returns-in-Some t c =
+    rw (deeper c.args.levels c.args.self.now (omega arith), sym c.type_word.ensures)
+    first_of (search rules, grind (arith, common_steps), search (rules, the_lemmas), grind (arith, the_lemmas))
+
+pub Parser::ltype-returns-in_err-path-in-None : goal.Parser::ltype-returns-in_err-path-in-None
+unfolding type_with
+Parser::ltype-returns-in_err-path-in-None t c =
+    rw (deeper c.args.levels c.args.self.now (omega arith), sym c.type_word.ensures)
+    first_of (search rules, grind (arith, common_steps), search (rules, the_lemmas), grind (arith, the_lemmas))
+
+pub Parser::ltype-returns-in_ok-path-in-None : goal.Parser::ltype-returns-in_ok-path-in-None
+unfolding type_with
+Parser::ltype-returns-in_ok-path-in-None t c =
+    rw (deeper c.args.levels c.args.self.now (omega arith), sym c.type_word.ensures)
+    first_of (search rules, grind (arith, common_steps), search (rules, the_lemmas), grind (arith, the_lemmas))
+
+-- ---- lists
+
+pub Parser::parts-bracketed-requires : goal.Parser::parts-bracketed-requires
+Parser::parts-bracketed-requires t c κs = (
+  search rules,
+  (
+    search rules,
+    λ p q found a k.
+        reads-less {read = one_more (part (ltype c.args.levels)) found} (Shrinks-part c.args.levels found) p.now q.now a (search rules),
+  ),
+)
+
+pub Parser::parts-returns : goal.Parser::parts-returns
+Parser::parts-returns t c =
+    let made = c.bracketed.ensures (one_more (part (ltype c.args.levels))) (λ p q found a k. search rules) (Shrinks-part c.args.levels) in first_of (search rules, grind (arith, common_steps))
+
+pub Parser::arguments-steps-requires : goal.Parser::arguments-steps-requires
+Parser::arguments-steps-requires t c κs = (
+  search rules,
+  (
+    search rules,
+    λ p q s a k.
+        reads-less {read = argument argument_at is_given (value (ltype c.args.levels)) s} (Shrinks-argument c.args.levels s) p.now q.now a (search rules),
+  ),
+)
+
+pub Parser::arguments-returns : goal.Parser::arguments-returns
+unfolding named
+Parser::arguments-returns t c =
+    let made = c.steps.ensures (argument argument_at is_given (value (ltype c.args.levels))) (λ p q s a k. search rules) (Shrinks-argument c.args.levels) in first_of (search rules, grind (arith, common_steps))
+
+-- ---- an argument
+
+pub Parser::argument-returns-in_default : goal.Parser::argument-returns-in_default
+Parser::argument-returns-in_default t c =
+    λ _. argument-none argument_at is_given (value (ltype c.args.levels)) c.args.given c.args.self.now (sym c.argument_name.ensures ∙ c.in_default.is)
+
+pub Parser::argument-returns-then-has : goal.Parser::argument-returns-then-has
+Parser::argument-returns-then-has t c =
+    λ _. argument-given argument_at is_given (value (ltype c.args.levels)) c.args.given c.in-Some.name c.args.self.now (sym c.argument_name.ensures ∙ c.in-Some.is)
+    (sym c.has.ensures ∙ c.if-has.true)
+
+pub Parser::argument-returns : goal.Parser::argument-returns
+Parser::argument-returns t c =
+    rw (argument-taken argument_at is_given (value (ltype c.args.levels)) c.args.given c.in-Some.name c.args.self.now (sym c.argument_name.ensures ∙ c.in-Some.is)
+    (sym c.has.ensures ∙ c.if-has.false))
+    (subst (λ ts. Reads (value (ltype c.args.levels) c.in-Some.name c.args.given ts) c.value.result c.value.new.self) c.skip.ensures c.value.ensures)
