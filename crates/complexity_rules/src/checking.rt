@@ -26,7 +26,7 @@ use std::alloc::Global;
 use tydi_base::Memory;
 
 /// What a cycle is that shows a transfer, where none waits.
-#[derive(Clone, Copy, Debug, PartialEq, Eq)]
+#[derive(Clone, Copy)]
 struct Judged {
     /// The lowest rule that it breaks.
     broken: Option<Rule>,

@@ -1,7 +1,7 @@
 use crate::last_item::LastItem;
 
 /// What a transfer changes when it is done.
-#[derive(Clone, Copy, Debug, PartialEq, Eq)]
+#[derive(Clone, Copy, Debug)]
 pub(crate) struct Effect {
     /// The kind of the last item then.
     pub tail: LastItem,

@@ -18,7 +18,7 @@ use crate::unmarked::{active_between, is_lane_active, marks_of, next_marked};
 use physical_stream::{Params, Transfer, is_last};
 
 /// What a walk over items has found so far.
-#[derive(Clone, Copy, Debug, PartialEq, Eq)]
+#[derive(Clone, Copy)]
 pub(crate) struct Walk {
     /// The kind of the last item, also of those before the walk.
     pub tail: LastItem,
@@ -217,7 +217,7 @@ impl Walk {
 }
 
 /// What the items of a transfer are, after an item of some kind.
-#[derive(Clone, Copy, Debug, PartialEq, Eq)]
+#[derive(Clone, Copy)]
 pub(crate) struct Shown {
     /// Whether a lane before the last one marks an end.
     pub early: bool,

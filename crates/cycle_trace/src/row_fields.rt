@@ -273,7 +273,7 @@ fn start_of(line: &[u8]) -> Result<(bool, bool, WordsLeft<'_>), NotForm>
 }
 
 /// The valid bit and the ready bit of a row.
-#[derive(Clone, Copy, Debug, PartialEq, Eq)]
+#[derive(Clone, Copy)]
 pub(crate) struct RowBits {
     pub valid: bool,
     pub ready: bool,

@@ -15,7 +15,7 @@ use crate::row_bytes::{ENDI_KEY, KEYS, ONE_BIT, STAI_KEY, ZERO_BIT};
 use tydi_base::{EQUALS, SPACE};
 
 /// What the value of a key is spelled with.
-#[derive(Clone, Copy, Debug, PartialEq, Eq)]
+#[derive(Clone, Copy)]
 pub(crate) enum ValueKind {
     /// Hexadecimal digits.
     Hex,
@@ -25,7 +25,7 @@ pub(crate) enum ValueKind {
 
 /// How far a line has the form of a row: what may come next. Keys are numbered from 0 in their order, and a form names the first
 /// that may come later.
-#[derive(Clone, Copy, Debug, PartialEq, Eq)]
+#[derive(Clone, Copy)]
 pub(crate) enum RowForm {
     /// The valid bit.
     Valid,

@@ -8,7 +8,7 @@ use physical_stream::{Params, all_lanes, index_limit};
 use signal_layout::Signals;
 
 /// A signal that is a word of bits.
-#[derive(Clone, Copy, Debug)]
+#[derive(Clone, Copy)]
 pub(crate) struct WordSignal {
     /// Whether the stream has it.
     pub present: bool,
@@ -32,7 +32,7 @@ impl WordSignal {
 }
 
 /// Which signals the rows of a stream show, how wide they are, and what an absent one stands at.
-#[derive(Clone, Copy, Debug)]
+#[derive(Clone, Copy)]
 pub(crate) struct RowLayout {
     pub params: Params,
     pub content: WordSignal,

@@ -21,7 +21,7 @@ use std::alloc::Global;
 use tydi_base::Memory;
 
 /// How far the rows of a trace text are read.
-#[derive(Debug, Drop)]
+#[derive(Drop)]
 pub(crate) struct RowsRead {
     /// For each stream, its rows.
     pub(crate) streams: Vec<StreamRows>,

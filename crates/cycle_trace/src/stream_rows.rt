@@ -13,7 +13,7 @@ use std::alloc::Global;
 use tydi_base::Memory;
 
 /// The rows of one stream: how they are laid out, and the transfer that they are read into.
-#[derive(Debug, Drop)]
+#[derive(Drop)]
 pub(crate) struct StreamRows {
     pub(crate) layout: RowLayout,
     /// The transfer that was read last, or only the room for one.

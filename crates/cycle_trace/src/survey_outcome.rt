@@ -15,7 +15,7 @@ use std::alloc::Global;
 use tydi_base::{List, Memory};
 
 /// An offence: its cycle and its stream, from 0, and the rule.
-#[derive(Clone, Copy, Debug, PartialEq, Eq)]
+#[derive(Clone, Copy)]
 pub(crate) struct FoundOffence {
     pub cycle: u32,
     pub stream: usize,
@@ -36,7 +36,7 @@ impl FoundOffence {
 }
 
 /// A stream that does not end whole, by its number from 0, and how it ends.
-#[derive(Clone, Copy, Debug, PartialEq, Eq)]
+#[derive(Clone, Copy)]
 pub(crate) struct FoundUnfinished {
     pub stream: usize,
     pub end: End,

@@ -13,7 +13,7 @@ use std::alloc::Global;
 use tydi_base::{Memory, TryClone};
 
 /// A survey that has begun.
-#[derive(Debug, Drop)]
+#[derive(Drop)]
 pub(crate) struct SurveyRun {
     pub(crate) header: Header,
     pub(crate) checkers: Vec<Checker>,

@@ -9,7 +9,7 @@ use std::collections::BTreeSet;
 use tydi_base::List;
 
 /// What the next line of a trace text is.
-#[derive(Clone, Copy, Debug, PartialEq, Eq)]
+#[derive(Clone, Copy)]
 pub(crate) enum Stage {
     /// The first line.
     Title,
@@ -24,7 +24,7 @@ pub(crate) enum Stage {
 }
 
 /// How far a trace text is read.
-#[derive(Debug, Drop)]
+#[derive(Drop)]
 pub(crate) struct TextRead {
     pub(crate) stage: Stage,
     pub(crate) cycles: u64,

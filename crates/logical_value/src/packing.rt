@@ -31,7 +31,7 @@ pub fn pack(alloc: Global, ltype: &LType, value: &Value) -> Result<Bits, Memory>
 }
 
 /// A word that is written from its lowest bit on; above what was written it is zero.
-#[derive(Debug, Drop)]
+#[derive(Drop)]
 pub(crate) struct Packing {
     pub(crate) alloc: Global,
     pub(crate) bits: Bits,

@@ -120,7 +120,7 @@ impl Value {
 }
 
 /// A value of one variant of a Union, numbered from 0.
-#[derive(Clone, Copy, Debug)]
+#[derive(Clone, Copy)]
 pub(crate) struct Variant<'v> {
     pub(crate) tag: u32,
     pub(crate) part: &'v Value,

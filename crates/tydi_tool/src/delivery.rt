@@ -10,7 +10,7 @@ use tydi_base::Memory;
 use tydi_io::{Failed, Sink};
 
 /// Why a text was not written to its end.
-#[derive(Clone, Copy, Debug, PartialEq, Eq)]
+#[derive(Clone, Copy)]
 pub(crate) enum WriteError {
     /// The sink failed.
     Failed,

@@ -11,7 +11,7 @@ use logical_types::{Around, StreamType, Sync, inside, saturated_width};
 use physical_stream::Params;
 
 /// A Stream's number, its own dimensionality, the parameters of its physical stream, and the place of what stands inside it.
-#[derive(Clone, Copy, Debug)]
+#[derive(Clone, Copy)]
 pub(crate) struct Found {
     pub(crate) number: u32,
     pub(crate) own_dims: u8,

@@ -1,7 +1,7 @@
 use logical_types::Around;
 
 /// What is around a type in a port's type.
-#[derive(Clone, Copy, Debug)]
+#[derive(Clone, Copy)]
 pub(crate) struct Place {
     /// The throughputs and the dimensionality around it.
     pub(crate) around: Around,
