@@ -8,7 +8,7 @@ use physical_stream::Tail;
 use std::marker::Model;
 
 /// The kind of the last item, where there is one. One number takes its place with no branch, which three parts do not.
-#[derive(Clone, Copy, Debug, PartialEq, Eq)]
+#[derive(Clone, Copy, Debug)]
 pub(crate) struct LastItem {
     code: u16,
 }
