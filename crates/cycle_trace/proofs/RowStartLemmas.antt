@@ -31,9 +31,6 @@ pub row_of_start : (p : Parameters) (line : List ℕ) → row_of p line ≡ (row
 unfolding row_of
 row_of_start p line = at_words p (words_of line)
 
-byte-lacks : (byte : ℕ) → byte ≢ 32 → Lacks 32 (byte ∷ [])
-byte-lacks byte ne = All-cons (λ b. b ≢ 32) byte [] ne (All-nil (λ b. b ≢ 32))
-
 -- the byte of a bit
 abbrev pub byte_of_bit : Bool → ℕ
 byte_of_bit bit = if bit then 49 else 48
@@ -44,16 +41,15 @@ bit_of-byte true = refl
 bit_of-byte false = refl
 
 byte_of_bit-lacks : (bit : Bool) → Lacks 32 (byte_of_bit bit ∷ [])
-byte_of_bit-lacks true = byte-lacks 49 (omega arith)
-byte_of_bit-lacks false = byte-lacks 48 (omega arith)
+byte_of_bit-lacks true = All-cons (λ b. b ≢ 32) 49 [] (omega arith) (All-nil (λ b. b ≢ 32))
+byte_of_bit-lacks false = All-cons (λ b. b ≢ 32) 48 [] (omega arith) (All-nil (λ b. b ≢ 32))
 
 bits_are : (valid ready : Bool) (rest : List ℕ) → row_start (words_of (byte_of_bit valid ∷ 32 ∷ byte_of_bit ready ∷ 32 ∷ rest)) ≡ Ok (valid, ready, words_of rest)
 unfolding row_start
 bits_are valid ready rest =
-    let second = byte_of_bit ready ∷ [] in
-    let inner : words_of (byte_of_bit ready ∷ 32 ∷ rest) ≡ second ∷ words_of rest = pieces_of-append 32 second rest (byte_of_bit-lacks ready) in
-    let first = byte_of_bit valid ∷ [] in
-    let outer : words_of (byte_of_bit valid ∷ 32 ∷ byte_of_bit ready ∷ 32 ∷ rest) ≡ first ∷ words_of (byte_of_bit ready ∷ 32 ∷ rest) = pieces_of-append 32 first (byte_of_bit ready ∷ 32 ∷ rest) (byte_of_bit-lacks valid) in
+    let inner : words_of (byte_of_bit ready ∷ 32 ∷ rest) ≡ (byte_of_bit ready ∷ []) ∷ words_of rest = pieces_of-append 32 (byte_of_bit ready ∷ []) rest (byte_of_bit-lacks ready) in
+    let outer : words_of (byte_of_bit valid ∷ 32 ∷ byte_of_bit ready ∷ 32 ∷ rest) ≡ (byte_of_bit valid ∷ []) ∷ words_of (byte_of_bit ready ∷ 32 ∷ rest) =
+    pieces_of-append 32 (byte_of_bit valid ∷ []) (byte_of_bit ready ∷ 32 ∷ rest) (byte_of_bit-lacks valid) in
     rw (outer, inner, bit_of-byte valid, bit_of-byte ready) refl
 
 -- two bits with a space after each

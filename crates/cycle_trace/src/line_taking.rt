@@ -80,7 +80,10 @@ fn after_line<K: RowSink>(
             Err(_) => Err(TraceFault::BadHeader(2)),
         },
         Stage::Heads => after_head(alloc, sink, text, line),
-        Stage::Rows => after_row(alloc, sink, &mut text.rows, line),
+        Stage::Rows => {
+            take_row(alloc, sink, text, line);
+            Ok(())
+        }
         Stage::Failed(fault) => Err(fault),
     }
 }
@@ -107,7 +110,8 @@ fn after_head<K: RowSink>(
         return Err(TraceFault::TooManyCycles);
     }
     start_rows(alloc, sink, text)?;
-    after_row(alloc, sink, &mut text.rows, line)
+    take_row(alloc, sink, text, line);
+    Ok(())
 }
 
 /// Ends the header, and begins with the rows.
@@ -129,8 +133,24 @@ fn start_rows<K: RowSink>(alloc: Global, sink: &mut K, text: &mut TextRead) -> R
 }
 
 /// Takes the line of a row, or what follows the last one.
-// All that a row takes is called from here alone, and becomes one function. In its callers it would be slower.
+// All that a row takes becomes one function here; in its callers it would be slower. A fault is kept: an answer would take room.
 #[inline(never)]
+fn take_row<K: RowSink>(alloc: Global, sink: &mut K, text: &mut TextRead, line: &[u8])
+    requires rows { text.old.stage ≡ stages.Rows }
+    requires stands { (t : TraceText) × (K.stands_for sink.old (Some t) × ReadsRows text.old.rows t) }
+    ensures stands { (t : TraceText) (bytes : List ℕ) → K.stands_for sink.old (Some t) → ReadsRows text.old.rows t → GoesOnLine bytes line.now t
+        → Stands K.stands_for sink.new text.new [] (bytes ++ LINE_FEED ∷ []) }
+    ensures room { text.new.rows.room ≡ text.old.rows.room }
+    ensures fixed { K.fixed sink.new ≡ K.fixed sink.old }
+    ensures calm { K.fixed sink.old ≡ true → is_past_header text.new.stage ≡ true }
+{
+    if let Err(fault) = after_row(alloc, sink, &mut text.rows, line) {
+        text.stage = Stage::Failed(fault);
+    }
+}
+
+/// The same, or the fault.
+#[inline(always)]
 fn after_row<K: RowSink>(
     alloc: Global,
     sink: &mut K,

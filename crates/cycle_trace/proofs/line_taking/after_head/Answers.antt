@@ -7,7 +7,7 @@ use Rattle.cycle_trace.specs.declared.text_read.Stage.{Stage}
 use Rattle.cycle_trace.proofs.BeginningLemmas.{head-fails, head-ok, header-many, header-ok, heads-stand}
 use Rattle.cycle_trace.specs.HeaderText.{head_after}
 use Rattle.cycle_trace.proofs.HeadsSpelling.{head_after-some, in_header-some}
-use Rattle.cycle_trace.proofs.ReaderLemmas.{after_row-line, plain-none}
+use Rattle.cycle_trace.proofs.ReaderLemmas.{plain-none}
 use Rattle.cycle_trace.proofs.line_taking.after_head.Goals as goal
 
 pub returns-in_err-head-clause-stands : goal.returns-in_err-head-clause-stands
@@ -46,4 +46,4 @@ returns-clause-stands g c bytes stands =
     let h = subst (λ (s : Stage). StandsAt g.K.RowSink.stands_for c.args.sink.now text s c.args.line.now bytes) c.requires.heads stands in
     let goes = header-ok bytes c.args.line.now h.1 text.cycles text.heads text.paths h.2 (sym c.is_head_line.ensures ∙ c.if-is_head_line.false) c.if-text-gt-MOST_CYCLES.false in
     let started = c.in_ok-start_rows.ensures.ok in
-    after_row-line g.K.RowSink.stands_for c.after_row.new.sink _ bytes c.after_row.result started.0 (c.after_row.ensures.stands (begun text.cycles text.heads) bytes started.2 started.1 goes)
+    c.take_row.ensures.stands (begun text.cycles text.heads) bytes started.2 started.1 goes

@@ -5,7 +5,7 @@ use Rattle.cycle_trace.specs.ReaderView.{StandsAt}
 use Rattle.cycle_trace.specs.declared.text_read.Stage.{Stage}
 use Rattle.cycle_trace.proofs.BeginningLemmas.{GoesOn-line, line-fails, line-ok}
 use Rattle.cycle_trace.proofs.HeaderLemmas.{after_cycles, of_title}
-use Rattle.cycle_trace.proofs.ReaderLemmas.{after_row-line, plain-none}
+use Rattle.cycle_trace.proofs.ReaderLemmas.{plain-none}
 use Rattle.cycle_trace.proofs.line_taking.after_line.Goals as goal
 
 pub returns-in-Ok-clause-stands : goal.returns-in-Ok-clause-stands
@@ -33,4 +33,4 @@ returns-in-Err-read_cycles-clause-stands g c bytes stands =
 pub returns-in-Rows-clause-stands : goal.returns-in-Rows-clause-stands
 returns-in-Rows-clause-stands g c bytes stands =
     let h = subst (λ (s : Stage). StandsAt g.K.RowSink.stands_for c.args.sink.now c.args.text.now s c.args.line.now bytes) c.in-Rows.is stands in
-    after_row-line g.K.RowSink.stands_for c.after_row.new.sink _ bytes c.after_row.result c.in-Rows.is (c.after_row.ensures.stands h.0 bytes h.1.0 h.1.2 (GoesOn-line bytes c.args.line.now h.0 h.1.1 h.1.3))
+    c.take_row.ensures.stands h.0 bytes h.1.0 h.1.2 (GoesOn-line bytes c.args.line.now h.0 h.1.1 h.1.3)
