@@ -13,19 +13,12 @@ use crate::row_sink::RowSink;
 use crate::trace::Trace;
 use physical_stream::{Header, Row, Transfer};
 use std::alloc::Global;
-use std::fmt;
 use tydi_base::{List, Memory, TryClone};
 
 /// Keeps a trace. It is not a fixed sink: it takes memory for each row.
 #[derive(Drop)]
 pub struct Keep {
     pub(crate) kept: Option<Kept>,
-}
-
-impl fmt::Debug for Keep {
-    fn fmt<W: fmt::Write>(&self, f: &mut fmt::Formatter<W>) -> fmt::Result {
-        f.write_str("Keep { .. }")
-    }
 }
 
 /// A header and the rows so far.

@@ -14,19 +14,12 @@ use crate::survey_run::SurveyRun;
 use crate::surveyed::Surveyed;
 use physical_stream::{Header, Row};
 use std::alloc::Global;
-use std::fmt;
 use tydi_base::Memory;
 
 /// A survey of rows as they come: it keeps of them a checker for each stream, and the first offence. It is a fixed sink.
 #[derive(Drop)]
 pub struct Surveyor {
     run: Option<SurveyRun>,
-}
-
-impl fmt::Debug for Surveyor {
-    fn fmt<W: fmt::Write>(&self, f: &mut fmt::Formatter<W>) -> fmt::Result {
-        f.write_str("Surveyor { .. }")
-    }
 }
 
 impl Surveyor {

@@ -14,7 +14,6 @@ use crate::line_taking::{finish_text, take_begun, take_line};
 use crate::row_sink::RowSink;
 use crate::text_read::{Stage, TextRead};
 use std::alloc::Global;
-use std::fmt;
 use tydi_base::{LINE_FEED, Memory, first_piece};
 
 /// Reads a trace whose text comes in pieces. Its rows go into a sink as they come.
@@ -23,12 +22,6 @@ pub struct TraceReader<K> {
     pub(crate) sink: K,
     pub(crate) text: TextRead,
     pub(crate) line: LineBegun,
-}
-
-impl<K> fmt::Debug for TraceReader<K> {
-    fn fmt<W: fmt::Write>(&self, f: &mut fmt::Formatter<W>) -> fmt::Result {
-        f.write_str("TraceReader { .. }")
-    }
 }
 
 impl<K: RowSink> TraceReader<K> {
