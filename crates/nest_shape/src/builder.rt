@@ -17,7 +17,7 @@ use std::alloc::Global;
 use tydi_base::{Bits, List, Memory, TryClone};
 
 /// Nests of one depth that no Close has taken yet.
-#[derive(Drop)]
+#[derive(Debug, Drop)]
 pub(crate) struct Open {
     pub(crate) depth: u8,
     pub(crate) members: List<Nest>,
