@@ -1,6 +1,6 @@
 -- The tokens that are left.
 use Rattle.std.proofs.Common.{◌≡◌, ◌==◌, ◌+◌, ◌-◌, ◌<◌, ◌≤◌, ◌⊎◌, inl, inr, ℕ, suc, true, false, cond, List, [], ◌∷◌, length, get_or, slice_index_or, All}
-use Rattle.std.proofs.Common.{IsUtf8, IsCharBoundary, length-append, refl, sym, ap, ◌∙◌, subst, rules, arith}
+use Rattle.std.proofs.Common.{IsUtf8, IsCharBoundary, length-append, refl, ap, ◌∙◌, subst, rules, arith}
 use Rattle.std.proofs.Math.Seq.{get_or-append_seam}
 use Rattle.std.proofs.lemmas.List.Elements.{All-head}
 use Rattle.std.proofs.lemmas.Str.{IsCharBoundary-after_ascii, IsCharBoundary-before_ascii}
@@ -26,19 +26,16 @@ pub at_end-lexemes : (text : List ℕ) (tokens : List Token) → tells (λ _. fa
 at_end-lexemes text [] = refl
 at_end-lexemes text (token ∷ tokens) = search rules
 
-word_kind : (kind : TokenKind) → same_kind kind kinds.Word ≡ true → kind ≡ kinds.Word
+kind_is : (one other : TokenKind) → same_kind one other ≡ true → one ≡ other
 unfolding same_kind
-word_kind kind same = same_true the_type tt kind kinds.Word same
+kind_is one other same = same_true the_type tt one other same
 
 -- a token of this kind has its form
 pub HasForm-first : (text : List ℕ) (tokens : List Token) (token : Token) (kind : TokenKind) (spelling : List ℕ) → All (HasFormIn text) tokens
     → 1 ≤ length tokens
     → same_kind (slice_index_or tokens 0 token).kind kind ≡ true → spelling ≡ own_text text (slice_index_or tokens 0 token) → HasForm kind spelling
-unfolding same_kind
 HasForm-first text tokens token kind spelling formed some same is =
-    let kinds_are : (slice_index_or tokens 0 token).kind ≡ kind = same_true the_type (search rules) _ _ same in
-    let own = formed 0 token (omega arith) in
-    subst (HasForm kind) (sym is) (subst (λ (k : TokenKind). HasForm k (own_text text (slice_index_or tokens 0 token))) kinds_are own)
+    rw is (subst (λ (k : TokenKind). HasForm k (own_text text (slice_index_or tokens 0 token))) (kind_is _ kind same) (formed 0 token (omega arith)))
 
 -- a word, which has its form, begins a type
 pub TooDeep-first : (text : List ℕ) (tokens : List Token) (token : Token) → All (HasFormIn text) tokens → 1 ≤ length tokens
@@ -46,7 +43,7 @@ pub TooDeep-first : (text : List ℕ) (tokens : List Token) (token : Token) → 
     → ◌≡◌ {A = Outcome Lexeme AstType} (too_deep begins_type (lexemes_of text tokens)) (stopped reading.TooDeep (lexemes_of text tokens))
 TooDeep-first text [] token formed some same = absurd (omega arith)
 TooDeep-first text (t ∷ tokens) token formed some same =
-    let is : t.kind ≡ kinds.Word = word_kind t.kind same in
+    let is : t.kind ≡ kinds.Word = kind_is t.kind kinds.Word same in
     let form = subst (λ kind. HasForm kind (own_text text t)) is (All-head (HasFormIn text) t tokens formed) in
     let test : begins_type (lexeme_of text t) ≡ true = rw (same) form in
     ap (λ b. stopped (cond b reading.TooDeep reading.Refused) (lexemes_of text (t ∷ tokens))) test

@@ -1,12 +1,11 @@
 -- The digits of a number before its point and behind it.
 use Rattle.std.proofs.Common.{◌≡◌, ℕ, zero, suc, ◌+◌, ◌-◌, ◌*◌, ◌^◌, ◌<◌, ◌≤◌, ◌⊎◌, inl, inr, true, false, min, List, [], ◌∷◌, ◌++◌, length, take, drop}
-use Rattle.std.proofs.Common.{get_or, length-drop, append-nil, refl, sym, ap, ◌∙◌, subst, le_trans, mul-le-mul_right, le-mul_of_pos_right, mul_assoc, arith}
+use Rattle.std.proofs.Common.{get_or, length-drop, append-nil, refl, ◌∙◌, subst, le_trans, mul-le-mul_right, le-mul_of_pos_right, mul_assoc, arith}
 use Rattle.std.proofs.Math.Seq.{drop-append-add, take-append_seam}
 use Rattle.std.proofs.Math.Nat.{pow-le-pow_right, pow-succ'}
-use Rattle.std.proofs.lemmas.Bool.{cases_lt}
 use Rattle.std.proofs.lemmas.Bool.Decides.{nat_tests}
 use Rattle.std.proofs.lemmas.Int.Digits.{digits_value-lt}
-use Rattle.std.proofs.lemmas.List.{drop_all, take_all}
+use Rattle.std.proofs.lemmas.List.{drop_min, take_all}
 use Rattle.std.proofs.lemmas.List.Sums.{AllPass-from_list_all}
 use Rattle.std.proofs.lemmas.Nat.{pow-add}
 use Rattle.std.specs.Char.{is_ascii_digit}
@@ -104,14 +103,7 @@ read_on-append number (digit ∷ one) other = read_on-append (10 * number + (dig
 pub cut-before : (number bytes : List ℕ) (at : ℕ) → bytes ≡ number → at ≡ digits_at bytes → take at bytes ≡ digits_before number
 cut-before number bytes at same is = rw (is, same) refl
 
-behind-drop : (number : List ℕ) (at : ℕ) → at ≡ min (digits_at number + 1) (length number)
-    → (length number < digits_at number + 1) ⊎ (digits_at number + 1 ≤ length number) → drop at number ≡ digits_behind number
-behind-drop number at is (inl short) = drop_all at number (omega arith) ∙ sym (drop_all (digits_at number + 1) number (omega arith))
-behind-drop number at is (inr within) = let same : at ≡ digits_at number + 1 = omega arith in ap (λ (n : ℕ). drop n number) same
-
 pub cut-behind : (number bytes : List ℕ) (at past : ℕ) → bytes ≡ number → at ≡ digits_at bytes → past ≡ min (at + 1) (length bytes)
     → take (length bytes - past) (drop past bytes) ≡ digits_behind number
-cut-behind number bytes at past same is past_is =
-    let past_at : past ≡ min (digits_at number + 1) (length number) = past_is ∙ rw (is, same) refl in
-    let whole = take_all (length number - past) (drop past number) (omega (arith, length-drop past number)) in
-    rw same (whole ∙ behind-drop number past past_at (cases_lt (length number) (digits_at number + 1)))
+cut-behind number bytes at past same is past_is = take_all (length bytes - past) (drop past bytes) (omega (arith, length-drop past bytes))
+    ∙ rw (past_is, is, same) (drop_min (digits_at number + 1) number)

@@ -1,6 +1,6 @@
 -- Texts that are printed of tokens and white space, and what their tokens spell when they are read.
 use Rattle.std.proofs.Common.{◌≡◌, true, false, ℕ, List, [], ◌∷◌, ◌++◌, get_or, length, map, take, drop}
-use Rattle.std.proofs.Common.{refl, sym, ap, subst, ◌∙◌, append_assoc, append-nil, take-append-drop, codes}
+use Rattle.std.proofs.Common.{refl, sym, ap, subst, ◌∙◌, append_assoc, take-append-drop, codes}
 use Rattle.std.specs.List.{list_all}
 use Rattle.std.proofs.Math.Seq.{drop-append_seam, take-append_seam}
 use Rattle.std.proofs.lemmas.List.{drop-map, take-map}
@@ -131,43 +131,41 @@ one_token kind spelling form reads = record {
       (found.0, record { lexeme = one.0; all = one.1; is = found.1 });
 }
 
-no_tokens : (ts : List Lexeme) → map shown ts ≡ [] → ts ≡ []
-no_tokens [] are = refl
-no_tokens (t ∷ ts) are = absurd cc
-
-white : (gap : List ℕ) → list_all is_space gap ≡ true → Printed {A = Unit {0}} free gap (λ _. Nothing)
-white gap space = record {
-  tokens = [];
-  before = λ rest more stops s. record {
-    gap = gap ++ s.gap;
-    pieces = s.pieces;
-    is = ap (λ l. gap ++ l) s.is ∙ sym (append_assoc gap s.gap (spelled_text s.pieces));
-    space = list_all-append is_space gap s.gap ∙ rw (space, s.space) refl;
-    spelled = s.spelled;
-    made = s.made;
-  };
-  reads = λ ts are. (tt, no_tokens ts are);
-}
-
 -- nothing is printed
 pub nothing : {last : TokenKind} → Printed {A = Unit {0}} last [] (λ _. Nothing)
-nothing {last} = ends_as last (λ rest _. refl) (white [] refl)
+nothing = record { tokens = []; before = λ rest more stops s. s; reads = λ ts are. (tt, no_tokens ts are) }
+  where
+    no_tokens : (ts : List Lexeme) → map shown ts ≡ [] → ts ≡ []
+    no_tokens [] are = refl
+    no_tokens (t ∷ ts) are = absurd cc
+
+with_gap : (gap : List ℕ) → list_all is_space gap ≡ true → {rest : List ℕ} {more : List Shown} → IsSplit rest more → IsSplit (gap ++ rest) more
+with_gap gap space s = record {
+  gap = gap ++ s.gap;
+  pieces = s.pieces;
+  is = ap (λ l. gap ++ l) s.is ∙ sym (append_assoc gap s.gap (spelled_text s.pieces));
+  space = list_all-append is_space gap s.gap ∙ rw (space, s.space) refl;
+  spelled = s.spelled;
+  made = s.made;
+}
 
 -- white space after what is printed
 pub spaced : {A : Type 0} {P : A → Form} {last : TokenKind} {text : List ℕ} (gap : List ℕ) → list_all is_space gap ≡ true
     → ((rest : List ℕ) → Stops last (gap ++ rest)) → Printed last text P → Printed free (text ++ gap) P
-spaced {P = P} gap space stop printed = made (λ a. a) (λ a ts is. without_end (P a) ts is) (suffixed printed (white gap space) (λ rest _. stop rest))
-  where
-    without_end : (P : Form) (ts : List Lexeme) → (P ⋯ Nothing) ts → P ts
-    without_end P ts is = subst P (sym (is.all ∙ ap (λ l. is.front ++ l) is.ends ∙ append-nil is.front)) is.begins
+spaced {text = text} gap space stop printed = record {
+  tokens = printed.tokens;
+  before = λ rest more stops s. rw (append_assoc text gap rest) (printed.before (gap ++ rest) more (stop rest) (with_gap gap space s));
+  reads = printed.reads;
+}
 
 -- white space before what is printed
 pub indented : {A : Type 0} {P : A → Form} {last : TokenKind} {text : List ℕ} (gap : List ℕ) → list_all is_space gap ≡ true
     → Printed last text P → Printed last (gap ++ text) P
-indented {P = P} gap space printed = made (λ a. a) (λ a ts is. without_start (P a) ts is) (prefixed (white gap space) printed (λ rest _. refl))
-  where
-    without_start : (P : Form) (ts : List Lexeme) → (Nothing ⋯ P) ts → P ts
-    without_start P ts is = subst P (sym (is.all ∙ ap (λ l. l ++ is.back) is.begins)) is.ends
+indented {text = text} gap space printed = record {
+  tokens = printed.tokens;
+  before = λ rest more stops s. rw (append_assoc gap text rest) (with_gap gap space (printed.before rest more stops s));
+  reads = printed.reads;
+}
 
 -- ---- fixed tokens
 

@@ -1,5 +1,5 @@
 -- What spells a name, a path, a number or a marked text has its form.
-use Rattle.std.proofs.Common.{◌≡◌, ℕ, ◌^◌, ◌≤◌, ◌<◌, true, List, [], ◌∷◌, length, Option, Some, None, All, IsUtf8, refl, sym, ap, subst, ◌∙◌, append-nil, arith}
+use Rattle.std.proofs.Common.{◌≡◌, ℕ, ◌^◌, ◌≤◌, true, List, [], ◌∷◌, length, Option, Some, None, All, IsUtf8, refl, sym, ap, subst, ◌∙◌, append-nil, arith}
 use Rattle.std.specs.Char.{is_ascii_digit}
 use Rattle.std.specs.List.{list_all}
 use Rattle.std.proofs.Math.Nat.{pow-le-pow_right}
@@ -84,17 +84,11 @@ shows_place At = record { named = λ name lexeme is at. subst At is.place at }
 pub name_of : {At : Place → Type 0} {Named : AstName → Type 0} → Shows At Named → (name : AstName) → Spelt At (Name name) → Named name
 name_of shows name spelt = shows.named name spelt.spelled.lexeme spelt.spelled.is (one_at spelt).placed
 
-names_of : {At : Place → Type 0} {Named : AstName → Type 0} → Shows At Named → (names : List AstName) → Spelt At (Path names) → EachIs Named names
-names_of shows [] spelt = tt
-names_of shows (name ∷ []) spelt = (name_of shows name spelt, tt)
-names_of shows (name ∷ next ∷ names) spelt = (name_of shows name (first_of spelt), names_of shows (next ∷ names) (third_of spelt))
-
-some_names : (names : List AstName) (ts : List Lexeme) → Path names ts → 0 < length names
-some_names [] ts s = absurd s
-some_names (name ∷ names) ts s = omega arith
-
 pub path_of : {At : Place → Type 0} {Named : AstName → Type 0} → Shows At Named → (names : List AstName) → Spelt At (Path names) → PathWith Named names
-path_of shows names spelt = record { some = some_names names spelt.tokens spelt.spelled; each = names_of shows names spelt }
+path_of shows [] spelt = absurd spelt.spelled
+path_of shows (name ∷ []) spelt = record { some = omega arith; each = (name_of shows name spelt, tt) }
+path_of shows (name ∷ next ∷ names) spelt =
+    record { some = omega arith; each = (name_of shows name (first_of spelt), (path_of shows (next ∷ names) (third_of spelt)).each) }
 
 -- ---- numbers
 

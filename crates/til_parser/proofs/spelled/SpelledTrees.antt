@@ -1,6 +1,5 @@
 -- What spells a tree shows its form.
 use Rattle.std.proofs.Common.{◌≡◌, ◌⊎◌, inl, inr, ◌++◌, List, Option, Some, None, refl, subst, sym, arith}
-use Rattle.tydi_base.specs.Level.{IsLevel}
 use Rattle.tydi_base.specs.declared.place.Place.{Place}
 use Rattle.til_lexer.specs.declared.token.TokenKind.TheVariants as kinds
 use Rattle.tydi_reading.specs.Lists.{EachIs}
@@ -26,12 +25,6 @@ use Rattle.til_parser.proofs.texts.NumberTextLemmas.{one-is}
 
 -- ---- the arguments of a Stream
 
--- what spells the types of the arguments of a Stream, and the form of the others
-record AreFound (At : Place → Type 0) (Element User : Form) (user : Ltype) (values : Settings) : Type 0 where
-  element : Spelt At Element
-  user_type : Spelt At User ⊎ (user ≡ null)
-  settings : AreSettings values
-
 inside : {At : Place → Type 0} {F G : Form} (spelt : Spelt At F) → Inside G spelt.tokens → Spelt At G
 inside {At} spelt i = record {
   tokens = i.middle;
@@ -46,22 +39,20 @@ module _ {At : Place → Type 0} (Element User : Form) (user : Ltype) (settings 
     | inr default ↦ inr default
   ]
 
-  arguments-found : AreFound At Element User user settings
-  arguments-found = record {
-    element = elim (has arguments.Data) [ inl found ↦ third_of found | inr default ↦ absurd default ];
-    user_type = elim (has arguments.User) [ inl found ↦ inl (third_of found) | inr default ↦ inr default ];
-    settings = record {
+  -- what spells the types of the arguments of a Stream, and the form of the others
+  arguments-found : Spelt At Element × (Spelt At User ⊎ (user ≡ null)) × AreSettings settings
+  arguments-found = (
+    elim (has arguments.Data) [ inl found ↦ third_of found | inr default ↦ absurd default ],
+    elim (has arguments.User) [ inl found ↦ inl (third_of found) | inr default ↦ inr default ],
+    record {
       throughput = elim (has arguments.Throughput) [
         | inl found ↦ number_of settings.throughput (third_of found)
         | inr default ↦ subst IsSpelledNumber (sym default) (record { text = _; spelled = one-is })
       ];
       dims = elim (has arguments.Dimensionality) [ inl found ↦ whole_of settings.dims (third_of found) | inr default ↦ omega (arith, default) ];
-      level = elim (has arguments.Complexity) [
-        | inl found ↦ (third_of found).spelled.within
-        | inr default ↦ subst IsLevel (sym default) (omega arith, omega arith)
-      ];
-    };
-  }
+      level = elim (has arguments.Complexity) [ inl found ↦ (third_of found).spelled.within | inr default ↦ omega (arith, default) ];
+    },
+  )
 
 module _ {At : Place → Type 0} {Named : AstName → Type 0} (shows : Shows At Named) where
   -- ---- types
@@ -74,7 +65,7 @@ module _ {At : Place → Type 0} {Named : AstName → Type 0} (shows : Shows At 
     type_of (union parts) spelt = parts_of parts (inside_of (second_of spelt))
     type_of (stream element user settings) spelt =
         let found = arguments-found (SpellsType element) (SpellsType user) user settings (inside_of (second_of spelt)) in
-        (type_of element found.element, elim found.user_type [ inl s ↦ type_of user s | inr default ↦ subst (TypeWith Named) (sym default) tt ], found.settings)
+        (type_of element found.0, elim found.1 [ inl s ↦ type_of user s | inr default ↦ subst (TypeWith Named) (sym default) tt ], found.2)
     type_of (path names) spelt = path_of shows names spelt
 
     parts_of : (ones : Parts) → Spelt At (SpellsParts ones) → PartsWith Named ones

@@ -1,5 +1,5 @@
 -- The text of a number: the digits of a division, their count and their value, and that the text is read as the number again.
-use Rattle.std.proofs.Common.{◌≡◌, ℕ, zero, suc, ◌+◌, ◌*◌, ◌/◌, ◌%◌, ◌^◌, ◌<◌, ◌≤◌, Bool, true, false, inl, inr, cond, eqb, List, [], ◌∷◌, ◌++◌, length, decimal}
+use Rattle.std.proofs.Common.{◌≡◌, ℕ, zero, suc, ◌+◌, ◌-◌, ◌*◌, ◌/◌, ◌%◌, ◌^◌, ◌<◌, ◌≤◌, Bool, true, false, inl, inr, cond, eqb, List, [], ◌∷◌, ◌++◌, length, decimal}
 use Rattle.std.proofs.Common.{refl, sym, ap, subst, ◌∙◌, arith, append-nil, length-append, pow-add, pow-suc, mod-lt, div-add-mod', div-lt_iff_lt-mul}
 use Rattle.std.proofs.Common.{lt_of_mul-lt-mul_right, mul-lt-mul_of_pos_right}
 use Prim.Native.Nat.{◌∣◌}
@@ -48,26 +48,28 @@ step_value den quotient left rest whole power value parts is =
     let times : (den * quotient + left) * power ≡ 10 * rest * power = ap (λ n. n * power) parts in
     omega (arith, times, is)
 
-digit_value : (whole digit : ℕ) (digits : List ℕ) → read_on whole ((48 + digit) ∷ digits) ≡ read_on (10 * whole + digit) digits
-digit_value whole digit digits = ap (λ n. read_on (10 * whole + n) digits) (omega arith)
-
 digit_is : (digit : ℕ) → digit < 10 → is_ascii_digit (48 + digit) ≡ true
 digit_is digit below = grind (arith, nat_tests)
 
-next_digit : (most count rest den : ℕ) (digits : List ℕ) → count ≤ suc most → rest < den → 0 < rest → den ∣ rest * 10 ^ count
+-- one digit more, or none where nothing is left
+next_digit : (none : Bool) (most count rest den : ℕ) (digits : List ℕ) → eqb rest 0 ≡ none → count ≤ suc most → rest < den → den ∣ rest * 10 ^ count
     → ((n : ℕ) → n ≤ most → den ∣ (10 * rest % den) * 10 ^ n → AreRest digits n (10 * rest % den) den)
-    → AreRest ((48 + 10 * rest / den) ∷ digits) count rest den
-next_digit most zero rest den digits within below some divides later = absurd (let none = nothing_left rest den below divides in omega arith)
-next_digit most (suc count) rest den digits within below some divides later =
+    → AreRest (cond none [] ((48 + 10 * rest / den) ∷ digits)) count rest den
+next_digit true most count rest den digits is within below divides later =
+    let nothing : rest ≡ 0 = grind (arith, nat_tests) in record { few = omega arith; each = refl; value = λ whole. omega arith }
+next_digit false most zero rest den digits is within below divides later =
+    absurd (let nothing = nothing_left rest den below divides in grind (arith, nat_tests))
+next_digit false most (suc count) rest den digits is within below divides later =
     let parts : den * (10 * rest / den) + 10 * rest % den ≡ 10 * rest = div-add-mod (10 * rest) den in
     let digit : 10 * rest / den < 10 = (div-lt_iff_lt-mul {k = den} {x = 10 * rest} {y = 10} (omega arith)).1 (omega arith) in
     let in-left = step_divides den (10 * rest / den) (10 * rest % den) rest (10 ^ count) parts (subst (λ n. den ∣ rest * n) (pow-suc 10 count) divides) in
     let are = later count (omega arith) in-left in
+    let back : 48 + 10 * rest / den - 48 ≡ 10 * rest / den = omega arith in
     record {
       few = omega (arith, are.few);
       each = rw (digit_is (10 * rest / den) digit) are.each;
       value = λ whole. step_value den (10 * rest / den) (10 * rest % den) rest whole (10 ^ length digits) _ parts
-          (ap (λ n. n * den) (digit_value whole (10 * rest / den) digits) ∙ are.value (10 * whole + 10 * rest / den))
+          (ap (λ n. read_on (10 * whole + n) digits * den) back ∙ are.value (10 * whole + 10 * rest / den))
           ∙ ap (λ n. (whole * den + rest) * n) (sym (pow-suc 10 (length digits)));
     }
 
@@ -77,16 +79,8 @@ unfolding digits_of_rest
 digits_of_rest-are zero zero rest den within below divides =
     let none = nothing_left rest den below divides in record { few = omega arith; each = refl; value = λ whole. omega arith }
 digits_of_rest-are zero (suc count) rest den within below divides = absurd (omega arith)
-digits_of_rest-are (suc most) count rest den within below divides =
-    by_cases (eqb rest 0) refl (λ n le in-left. digits_of_rest-are most n (10 * rest % den) den le (mod-lt (10 * rest) (omega arith)) in-left)
-  where
-    by_cases : (none : Bool) → eqb rest 0 ≡ none
-        → ((n : ℕ) → n ≤ most → den ∣ (10 * rest % den) * 10 ^ n → AreRest (digits_of_rest most (10 * rest % den) den) n (10 * rest % den) den)
-        → AreRest (cond none [] ((48 + 10 * rest / den) ∷ digits_of_rest most (10 * rest % den) den)) count rest den
-    by_cases true is later =
-        let nothing : rest ≡ 0 = grind (arith, nat_tests) in
-        record { few = omega arith; each = refl; value = λ whole. omega arith }
-    by_cases false is later = next_digit most count rest den _ within below (grind (arith, nat_tests)) divides later
+digits_of_rest-are (suc most) count rest den within below divides = next_digit (eqb rest 0) most count rest den _ refl within below divides
+    (λ n le in-left. digits_of_rest-are most n (10 * rest % den) den le (mod-lt (10 * rest) (omega arith)) in-left)
 
 -- ---- the digits of a number before and behind its point
 

@@ -2,12 +2,11 @@
 use Rattle.std.proofs.Common.{◌≡◌, ◌⊎◌, inl, inr, ℕ, zero, suc, ◌+◌, ◌-◌, ◌*◌, ◌/◌, ◌%◌, ◌<◌, ◌≤◌, ◌++◌, List, [], ◌∷◌, length, get_or, take, drop, flat_map}
 use Rattle.std.proofs.Common.{refl, sym, ap, ◌∙◌, append_assoc, append-nil, length-append, take-take, take_all, take_at, arith, rules, codes}
 use Rattle.tydi_base.specs.Writing.{StandsInFront}
-use Rattle.til_parser.specs.declared.ltype.{AstPart.AstPart, AstStream.AstStream, AstType.AstType}
-use Rattle.til_parser.specs.declared.ltype.AstType.TheVariants as types
+use Rattle.til_parser.specs.declared.ltype.{AstPart.AstPart, AstStream.AstStream}
 use Rattle.til_parser.specs.Canonical.{behind_point, digits_of_rest, listed_text, more_parts_text, next_part_text, part_text, parts_text, settings_text, stream_text, type_text}
 use Rattle.til_parser.specs.Grammar.{truth_word}
 use Rattle.til_parser.specs.Tree.{Settings, plain, settings_of}
-use Rattle.til_parser.proofs.PlainLemmas.{plain_parts, plain-Group, plain-Union}
+use Rattle.til_parser.proofs.PlainLemmas.{plain_parts}
 
 -- ---- the digits behind a point
 
@@ -70,18 +69,9 @@ more-listed : (parts : List AstPart) → flat_map next_part_text parts ≡ more_
 more-listed [] = refl
 more-listed (first ∷ more) = ap (λ text. next_part_text first ++ text) (more-listed more)
 
-listed : (parts : List AstPart) → listed_text parts ≡ parts_text (plain_parts parts)
+pub listed : (parts : List AstPart) → listed_text parts ≡ parts_text (plain_parts parts)
 listed [] = refl
 listed (first ∷ more) = ap (λ text. part_text first ++ text) (more-listed more)
-
--- a Group, and a Union
-pub group-written : (ltype : AstType) (parts items : List AstPart) (old : List ℕ) → ltype ≡ types.Group parts → items ≡ parts
-    → old ++ (codes "Group(" ++ (listed_text items ++ codes ")")) ≡ old ++ type_text (plain ltype)
-group-written ltype parts items old is same = rw (is, same, plain-Group, listed) refl
-
-pub union-written : (ltype : AstType) (parts items : List AstPart) (old : List ℕ) → ltype ≡ types.Union parts → items ≡ parts
-    → old ++ (codes "Union(" ++ (listed_text items ++ codes ")")) ≡ old ++ type_text (plain ltype)
-union-written ltype parts items old is same = rw (is, same, plain-Union, listed) refl
 
 -- parts, one at least: the first, and then the others
 pub parts-written : (parts : List AstPart) (first : AstPart) (old word t1 t2 : List ℕ) (at : ℕ) → 1 ≤ length parts → first ≡ get_or parts 0 first

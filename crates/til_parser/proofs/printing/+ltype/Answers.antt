@@ -1,17 +1,17 @@
 use Rattle.std.proofs.Common.{◌++◌, ap, ◌∙◌, refl, rules}
 use Rattle.std.proofs.lemmas.Result.{on_ok_weaker}
 use Rattle.til_parser.specs.Canonical.{stream_text}
-use Rattle.til_parser.proofs.PlainLemmas.{plain-Stream}
-use Rattle.til_parser.proofs.texts.WrittenLemmas.{front_before, group-written, parts-written, stream-written, union-written}
+use Rattle.til_parser.proofs.PlainLemmas.{plain-Group, plain-Stream, plain-Union}
+use Rattle.til_parser.proofs.texts.WrittenLemmas.{front_before, listed, parts-written, stream-written}
 use Rattle.til_parser.proofs.printing.+ltype.Goals as goal
 
 pub write_type-returns-in-Group-clause-ok : goal.write_type-returns-in-Group-clause-ok
 write_type-returns-in-Group-clause-ok t c =
-    on_ok_weaker c.write_parts.result (λ ok. ok ∙ group-written _ _ _ _ c.in-Group.is c.as_slice.ensures) c.write_parts.ensures.ok
+    on_ok_weaker c.write_parts.result (λ ok. rw (c.in-Group.is, plain-Group, ← listed, ← c.as_slice.ensures) ok) c.write_parts.ensures.ok
 
 pub write_type-returns-in-Union-clause-ok : goal.write_type-returns-in-Union-clause-ok
-write_type-returns-in-Union-clause-ok t c =
-    on_ok_weaker c.write_parts-in-Union.result (λ ok. ok ∙ union-written _ _ _ _ c.in-Union.is c.as_slice-in-Union.ensures) c.write_parts-in-Union.ensures.ok
+write_type-returns-in-Union-clause-ok t c = on_ok_weaker c.write_parts-in-Union.result
+    (λ ok. rw (c.in-Union.is, plain-Union, ← listed, ← c.as_slice-in-Union.ensures) ok) c.write_parts-in-Union.ensures.ok
 
 pub write_type-returns-in-Stream-clause-ok : goal.write_type-returns-in-Stream-clause-ok
 write_type-returns-in-Stream-clause-ok t c = on_ok_weaker c.write_stream.result
