@@ -1,9 +1,8 @@
 -- The tokens that are left.
-use Rattle.std.proofs.Common.{◌≡◌, ◌==◌, ◌+◌, ◌-◌, ◌<◌, ◌≤◌, ◌⊎◌, inl, inr, ℕ, suc, true, false, cond, List, [], ◌∷◌, length, get_or, slice_index_or, All}
-use Rattle.std.proofs.Common.{IsUtf8, IsCharBoundary, length-append, refl, ap, ◌∙◌, subst, rules, arith}
-use Rattle.std.proofs.Math.Seq.{get_or-append_seam}
+use Rattle.std.proofs.Common.{◌≡◌, ◌==◌, ◌-◌, ◌≤◌, ◌⊎◌, inl, inr, ℕ, suc, true, false, cond, List, [], ◌∷◌, length, slice_index_or, All}
+use Rattle.std.proofs.Common.{IsUtf8, IsCharBoundary, length-append, refl, ap, subst, rules, arith}
 use Rattle.std.proofs.lemmas.List.Elements.{All-head}
-use Rattle.std.proofs.lemmas.Str.{IsCharBoundary-after_ascii, IsCharBoundary-before_ascii}
+use Rattle.std.proofs.lemmas.Str.{IsCharBoundary-at_seam, IsUtf8-append}
 use denote.Enum.Bare.{same_true}
 use Rattle.tydi_reading.specs.declared.fault.Fault.TheVariants as reading
 use Rattle.tydi_reading.specs.Reading.{Outcome, stopped, too_deep, tells}
@@ -12,6 +11,7 @@ use Rattle.til_lexer.specs.contracts.token.TokenKind.{the_type}
 use Rattle.til_lexer.specs.declared.token.Token.{Token}
 use Rattle.til_lexer.specs.declared.token.TokenKind.{TokenKind}
 use Rattle.til_lexer.specs.declared.token.TokenKind.TheVariants as kinds
+use Rattle.til_lexer.proofs.FormBegins.{ascii_utf8}
 use Rattle.til_parser.specs.declared.ltype.AstType.{AstType}
 use Rattle.til_parser.specs.Lexemes.{Lexeme, HasFormIn, lexeme_of, lexemes_of}
 use Rattle.til_parser.specs.Reading.{same_kind, begins_type}
@@ -55,20 +55,15 @@ pub record AreCuts (text : List ℕ) : Type 0 where
   pub first : IsCharBoundary text 1
   pub last : IsCharBoundary text (length text - 1)
 
--- a text between two marks of ASCII may be cut after the first and before the last
-AreCuts-between : (mark : ℕ) (text : List ℕ) → mark < 128 → IsUtf8 text → IsBetween mark text → AreCuts text
-AreCuts-between mark text ascii utf8 between =
-    let size : length text ≡ length between.inside + 2 = ap length between.marked ∙ omega (arith, length-append between.inside (mark ∷ [])) in
-    let first : get_or text 0 0 ≡ mark = ap (λ (l : List ℕ). get_or l 0 0) between.marked in
-    let place : length text - 1 ≡ length (mark ∷ between.inside) = omega arith in
-    let last : get_or text (length text - 1) 0 ≡ mark =
-    ap (λ (i : ℕ). get_or text i 0) place ∙ ap (λ (l : List ℕ). get_or l (length (mark ∷ between.inside)) 0) between.marked
-    ∙ get_or-append_seam (mark ∷ between.inside) mark [] 0 in
+-- a text between two marks may be cut after the first and before the last
+AreCuts-between : (mark : ℕ) (text : List ℕ) → IsUtf8 (mark ∷ []) → IsBetween mark text → AreCuts text
+AreCuts-between mark text utf8 between =
+    let place : length text - 1 ≡ length (mark ∷ between.inside) = omega (arith, ap length between.marked, length-append between.inside (mark ∷ [])) in
     record {
-      first = IsCharBoundary-after_ascii text 0 utf8 (omega arith) (omega arith);
-      last = IsCharBoundary-before_ascii text (length text - 1) (omega arith) (omega arith);
+      first = IsCharBoundary-at_seam text (mark ∷ []) _ between.marked (IsUtf8-append between.inside (mark ∷ []) between.utf8 utf8);
+      last = rw place (IsCharBoundary-at_seam text (mark ∷ between.inside) (mark ∷ []) between.marked utf8);
     }
 
 pub AreCuts-marked : (text : List ℕ) → IsUtf8 text → HasForm kinds.Quoted text ⊎ HasForm kinds.Doc text → AreCuts text
-AreCuts-marked text utf8 (inl quoted) = AreCuts-between 34 text (omega arith) utf8 quoted
-AreCuts-marked text utf8 (inr doc) = AreCuts-between 35 text (omega arith) utf8 doc
+AreCuts-marked text utf8 (inl quoted) = AreCuts-between 34 text (ascii_utf8 (34 ∷ []) refl) quoted
+AreCuts-marked text utf8 (inr doc) = AreCuts-between 35 text (ascii_utf8 (35 ∷ []) refl) doc

@@ -134,8 +134,8 @@ stmt-kept _ _ s = absurd s
 body-kept : (one other : AstBody) → SameBody one other → Kept body_text IsBody NoBounds one other
 body-kept (bodies.Linked one) (bodies.Linked other) s = record { text = ap quoted_text s; is = subst IsQuote s; within = λ w. w }
 body-kept (bodies.Structural ones) (bodies.Structural others) s =
-    let k = each-kept (λ a b same. around (λ l. l ++ codes " ") (stmt-kept a b same)) ones others s in
-    record { text = ap (λ l. codes "{ " ⁀ l ⁀ codes "}") k.text; is = k.is; within = λ w. w }
+    let k = each-kept (λ a b same. around (λ l. codes " " ++ l) (stmt-kept a b same)) ones others s in
+    record { text = ap (λ l. codes "{" ⁀ l ⁀ codes " }") k.text; is = k.is; within = λ w. w }
 body-kept _ _ s = absurd s
 
 -- ---- what types stand in

@@ -142,13 +142,13 @@ stmt_text (stmts.Link first second) = end_text first ⁀ codes " -- " ⁀ end_te
 abbrev pub quoted_text : List ℕ → List ℕ
 quoted_text text = codes "\"" ++ text ++ codes "\""
 
--- a statement, and a space after it
+-- a statement, and a space before it
 abbrev pub spaced_text : AstStmt → List ℕ
-spaced_text stmt = stmt_text stmt ++ codes " "
+spaced_text stmt = codes " " ++ stmt_text stmt
 
 -- statements in braces, on one line
 abbrev pub stmts_text : List AstStmt → List ℕ
-stmts_text all = codes "{ " ⁀ flat_map spaced_text all ⁀ codes "}"
+stmts_text all = codes "{" ⁀ flat_map spaced_text all ⁀ codes " }"
 
 -- the body of an implementation
 abbrev pub body_text : AstBody → List ℕ

@@ -110,23 +110,8 @@ impl Written for AstBody {
     fn write_to(&self, out: &mut List<u8>) -> Result<(), Memory> {
         match self {
             AstBody::Linked(text) => emit!(out; Quoted(text)),
-            AstBody::Structural(stmts) => emit!(out; "{ ", Stmts(stmts), "}"),
+            AstBody::Structural(stmts) => emit!(out; "{", EachAfter(" ", stmts.as_slice()), " }"),
         }
-    }
-}
-
-/// Statements, with a space after each.
-#[derive(Clone, Copy)]
-struct Stmts<'a>(&'a List<AstStmt>);
-
-impl Written for Stmts<'_> {
-    ghost text = { λ stmts. flat_map spec.spaced_text stmts.0.now };
-
-    fn write_to(&self, out: &mut List<u8>) -> Result<(), Memory> {
-        'stmts: for stmt in self.0.as_slice() {
-            emit!(out; stmt, " ")?;
-        }
-        Ok(())
     }
 }
 

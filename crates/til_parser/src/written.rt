@@ -103,6 +103,7 @@ impl Written for FewestDigits {
 }
 
 /// A point and the digits of what is left of a division; nothing where nothing is left.
+#[tactic(auto, using(crate::proofs::texts::WrittenLemmas::front_before))]
 fn write_behind_point(rest: u64, den: u64, out: &mut List<u8>) -> Result<(), Memory>
     requires { rest < den }
     ensures ok { OnOk result (out.new ≡ out.old ++ behind_point (digits_of_rest most_digits rest den)) }

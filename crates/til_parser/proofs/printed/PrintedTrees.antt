@@ -179,11 +179,11 @@ printed_stmt (stmts.Link first second) is =
 printed_body : (body : AstBody) → IsBody body → PrintedAs (body_text body) SameBody SpellsBody body
 printed_body (bodies.Linked text) is = made (λ a. (bodies.Linked text, refl)) (λ a ts is. is) (ends_as kinds.Word (λ rest _. refl) (printed_quoted text is))
 printed_body (bodies.Structural all) is =
-    let spaced_stmt = λ (stmt : AstStmt) (s : IsStmt stmt). spaced (codes " ") refl (λ rest. refl) (printed_stmt stmt s) in
+    let spaced_stmt = λ (stmt : AstStmt) (s : IsStmt stmt). indented (codes " ") refl (printed_stmt stmt s) in
     let inside = printed_each SameStmt IsStmt SpellsStmt spaced_text all spaced_stmt is in
-    let close = ends_as kinds.Word (λ rest _. refl) (symbol kinds.CloseBrace (codes "}") refl) in
-    let open_brace = spaced (codes " ") refl (λ rest. refl) (symbol kinds.OpenBrace (codes "{") refl) in
-    made (λ a. (bodies.Structural a.0, a.1)) (λ a ts is. is) (prefixed open_brace (suffixed inside close (λ rest _. refl)) (λ rest _. refl))
+    let close = ends_as kinds.Word (λ rest _. refl) (indented (codes " ") refl (symbol kinds.CloseBrace (codes "}") refl)) in
+    made (λ a. (bodies.Structural a.0, a.1)) (λ a ts is. is)
+    (prefixed (symbol kinds.OpenBrace (codes "{") refl) (suffixed inside close (λ rest _. refl)) (λ rest _. refl))
 
 -- ---- declarations
 

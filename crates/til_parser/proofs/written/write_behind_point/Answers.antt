@@ -1,6 +1,6 @@
 use Rattle.std.proofs.Common.{inr, sym, append-nil}
-use Rattle.std.proofs.lemmas.Result.{on_ok_weaker, on_err_weaker}
-use Rattle.til_parser.proofs.texts.WrittenLemmas.{digits_none, front_before, point-written}
+use Rattle.std.proofs.lemmas.Result.{on_ok_weaker}
+use Rattle.til_parser.proofs.texts.WrittenLemmas.{digits_none, point-written}
 use Rattle.til_parser.proofs.written.write_behind_point.Goals as goal
 
 pub returns-then-rest-eq0-clause-ok : goal.returns-then-rest-eq0-clause-ok
@@ -8,6 +8,3 @@ returns-then-rest-eq0-clause-ok c = rw (digits_none 18 c.args.rest c.args.den (i
 
 pub returns-clause-ok : goal.returns-clause-ok
 returns-clause-ok c = on_ok_weaker c.write_digits.result (point-written _ _ _ _ _ c.if-rest-eq0.false c.in_ok-emit.ensures.ok) c.write_digits.ensures.ok
-
-pub returns-clause-err : goal.returns-clause-err
-returns-clause-err c = on_err_weaker c.write_digits.result (front_before _ _ _ _ c.in_ok-emit.ensures.ok) c.write_digits.ensures.err
