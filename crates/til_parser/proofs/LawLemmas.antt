@@ -1,9 +1,7 @@
 -- The laws of trees and their texts: no text spells two trees, and the tree of a text has its form and its places.
 use Rattle.std.proofs.Common.{◌≡◌, ℕ, ◌≤◌, ◌+◌, max, List, [], ◌∷◌, All, length, Ok, IsUtf8, ap, sym, ◌∙◌, subst, length-append, arith}
 use Rattle.std.proofs.lemmas.List.Elements.{All-nil, All-cons, All-head, All-tail}
-use Rattle.til_lexer.specs.Places.{IsPlaceIn}
-use Rattle.til_lexer.specs.Slices.{IsTokenOf}
-use Rattle.til_lexer.specs.Tokens.{tokens_of}
+use Rattle.til_lexer.specs.{Places.IsPlaceIn, Slices.IsTokenOf, Tokens.tokens_of}
 use Rattle.til_lexer.specs.declared.token.Token.{Token}
 use Rattle.til_lexer.proofs.CountLemmas.{tokens_of-few}
 use Rattle.til_lexer.proofs.FormLemmas.{tokens-have_form}

@@ -2,17 +2,17 @@
 use Rattle.std.proofs.Common.{◌≡◌, ℕ, ◌≤◌, max, suc, List, [], ◌∷◌, ◌++◌, length, flat_map, Option, Some, None, IsTrue, refl, ap, ◌∙◌, subst, arith, codes}
 use Rattle.tydi_base.specs.Name.{is_name}
 use Rattle.tydi_reading.specs.Lists.{EachIs}
-use Rattle.til_parser.specs.declared.tree.{AstBody.AstBody, AstDecl.AstDecl, AstEnd.AstEnd, AstKind.AstKind, AstName.AstName, AstNamespace.AstNamespace}
+use Rattle.til_parser.specs.declared.tree.{Ast.Ast, AstBody.AstBody, AstDecl.AstDecl, AstEnd.AstEnd, AstKind.AstKind, AstName.AstName, AstNamespace.AstNamespace}
 use Rattle.til_parser.specs.declared.tree.{AstPort.AstPort, AstPorts.AstPorts, AstStmt.AstStmt}
 use Rattle.til_parser.specs.declared.tree.AstBody.TheVariants as bodies
 use Rattle.til_parser.specs.declared.tree.AstKind.TheVariants as decls
 use Rattle.til_parser.specs.declared.tree.AstPorts.TheVariants as ports
 use Rattle.til_parser.specs.declared.tree.AstStmt.TheVariants as stmts
-use Rattle.til_parser.specs.Canonical.{◌⁀◌, names_text, settings_text, type_text, parts_text, more_parts_text, doc_text, port_text, ports_text, second_text, end_text}
+use Rattle.til_parser.specs.Canonical.{◌⁀◌, but_first, names_text, settings_text, type_text, more_parts_text, doc_text, port_text, ports_text, second_text, end_text}
 use Rattle.til_parser.specs.Canonical.{stmt_text, body_text, streamlet_text, quoted_text, kind_text, doc_line, decl_text, namespace_text}
 use Rattle.til_parser.specs.Grammar.{PortsWithin, StreamletWithin, KindWithin, DeclsWithin, way_word, truth_word}
-use Rattle.til_parser.specs.Laws.{PlacesAreLeftOut}
-use Rattle.til_parser.specs.Same.{Alike, SameName, SameNames, SameType, SameParts, SamePort, SameSecond, SameEnd, SameStmt, SameBody, SamePorts, SameKind, SameDecl, SameNamespace}
+use Rattle.til_parser.specs.Laws.{AreAlike}
+use Rattle.til_parser.specs.Same.{Alike, SameName, SameNames, SameType, SameParts, SamePort, SameSecond, SameEnd, SameStmt, SameBody, SamePorts, SameKind, SameDecl, SameNamespace, SameTree}
 use Rattle.til_parser.specs.Tree.{Ltype, null, bits, group, union, stream, path, Parts, no_parts, part, depth, depth_of_parts, plain}
 use Rattle.til_parser.specs.Trees.{HasName, IsPath, IsDoc, IsQuote, AreSettings, IsType, AreParts, IsPort, IsSecond, IsEnd, IsStmt, IsBody, ArePorts, IsKind, IsDecl, IsNamespace}
 
@@ -53,15 +53,10 @@ name-kept : (one other : AstName) → SameName one other → Kept (λ name. name
 name-kept one other s = record { text = s; is = subst (λ l. IsTrue (is_name l)) s; within = λ w. w }
 
 path-kept : (ones others : List AstName) → SameNames ones others → Kept names_text IsPath NoBounds ones others
-path-kept [] [] s = record { text = refl; is = λ is. is; within = λ w. w }
-path-kept (one ∷ ones) (other ∷ others) s =
-    let more = each-kept (λ a b same. around (λ l. codes "::" ++ l) (name-kept a b same)) ones others s.1 in
-    record {
-      text = λ i. s.0 i ++ more.text i;
-      is = λ is. record { some = omega arith; each = ((name-kept one other s.0).is is.each.0, more.is is.each.1) };
-      within = λ w. w;
-    }
-path-kept _ _ s = absurd s
+path-kept ones others s =
+    let k = each-kept (λ a b same. around (λ l. codes "::" ++ l) (name-kept a b same)) ones others s in
+    let size = length-alike SameName ones others s in
+    record { text = ap but_first k.text; is = λ is. record { some = omega (arith, is.some); each = k.is is.each }; within = λ w. w }
 
 -- ---- types
 
@@ -72,7 +67,6 @@ record AreKept (one other : Ltype) : Type 0 where
   is : IsType one → IsType other
 
 record PartsAreKept (ones others : Parts) : Type 0 where
-  text : parts_text ones ≡ parts_text others
   more : more_parts_text ones ≡ more_parts_text others
   deep : depth_of_parts ones ≡ depth_of_parts others
   are : AreParts ones → AreParts others
@@ -82,9 +76,9 @@ mutual
   type-kept null null s = record { text = refl; deep = refl; is = λ i. i }
   type-kept (bits one) (bits other) s = record { text = ap (λ n. type_text (bits n)) s; deep = refl; is = subst (λ n. IsType (bits n)) s }
   type-kept (group ones) (group others) s =
-      let k = all_parts-kept ones others s in record { text = ap (λ l. codes "Group(" ⁀ l ⁀ codes ")") k.text; deep = ap suc k.deep; is = k.are }
+      let k = all_parts-kept ones others s in record { text = ap (λ l. codes "Group(" ⁀ but_first l ⁀ codes ")") k.more; deep = ap suc k.deep; is = k.are }
   type-kept (union ones) (union others) s =
-      let k = all_parts-kept ones others s in record { text = ap (λ l. codes "Union(" ⁀ l ⁀ codes ")") k.text; deep = ap suc k.deep; is = k.are }
+      let k = all_parts-kept ones others s in record { text = ap (λ l. codes "Union(" ⁀ but_first l ⁀ codes ")") k.more; deep = ap suc k.deep; is = k.are }
   type-kept (stream element user settings) (stream element' user' settings') s =
       let e = type-kept element element' s.0 in
       let u = type-kept user user' s.1 in
@@ -97,12 +91,11 @@ mutual
   type-kept _ _ s = absurd s
 
   all_parts-kept : (ones others : Parts) → SameParts ones others → PartsAreKept ones others
-  all_parts-kept no_parts no_parts s = record { text = refl; more = refl; deep = refl; are = λ i. i }
+  all_parts-kept no_parts no_parts s = record { more = refl; deep = refl; are = λ i. i }
   all_parts-kept (part name ltype more) (part name' ltype' more') s =
       let t = type-kept ltype ltype' s.1 in
       let m = all_parts-kept more more' s.2 in
       record {
-        text = λ i. (s.0 i ⁀ codes ": " ⁀ t.text i) ++ m.more i;
         more = λ i. (codes ", " ⁀ s.0 i ⁀ codes ": " ⁀ t.text i) ++ m.more i;
         deep = λ i. max (t.deep i) (m.deep i);
         are = λ i. ((name-kept name name' s.0).is i.0, t.is i.1, m.are i.2);
@@ -153,13 +146,8 @@ module _ (levels : ℕ) where
   ports-kept : (ones others : List AstPort) → Alike SamePort ones others → Kept ports_text (EachIs IsPort) (PortsWithin levels) ones others
   ports-kept [] [] s = record { text = refl; is = λ is. is; within = λ w. w }
   ports-kept (one ∷ ones) (other ∷ others) s =
-      let k = port-kept one other s.0 in
-      let more = each-kept (λ a b same. around (λ l. codes ", " ++ l) (port-kept a b same)) ones others s.1 in
-      record {
-        text = λ i. codes "(" ⁀ (k.text i ++ more.text i) ⁀ codes ")";
-        is = λ is. (k.is is.0, more.is is.1);
-        within = λ w. (k.within w.0, more.within w.1);
-      }
+      let k = each-kept (λ a b same. around (λ l. codes ", " ++ l) (port-kept a b same)) (one ∷ ones) (other ∷ others) s in
+      record { text = ap (λ l. codes "(" ⁀ but_first l ⁀ codes ")") k.text; is = k.is; within = k.within }
   ports-kept _ _ s = absurd s
 
   streamlet-kept : (one other : AstPorts) → SamePorts one other → Kept streamlet_text ArePorts (StreamletWithin levels) one other
@@ -214,8 +202,8 @@ module _ (levels : ℕ) where
         within = k.within;
       }
 
-pub trees-alike : PlacesAreLeftOut
-trees-alike one other s =
+pub trees_alike : (one other : Ast) → SameTree one other → AreAlike one other
+trees_alike one other s =
     let kept = λ (levels : ℕ). each-kept (namespace-kept levels) one.namespaces other.namespaces s in
     record {
       text = (kept 0).text;

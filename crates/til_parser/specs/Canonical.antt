@@ -1,5 +1,5 @@
 -- The canonical text of a tree, by recursion on the tree. This project's own.
-use Rattle.std.specs.Prelude.{ℕ, zero, suc, ◌+◌, ◌*◌, ◌/◌, ◌%◌, ◌==◌, List, [], ◌∷◌, ◌++◌, Option, Some, None}
+use Rattle.std.specs.Prelude.{ℕ, zero, suc, ◌+◌, ◌*◌, ◌/◌, ◌%◌, ◌==◌, List, [], ◌∷◌, ◌++◌, drop, Option, Some, None}
 use Rattle.std.specs.Prelude.{if◌then◌else◌, codes, decimal}
 use Rattle.std.specs.List.{flat_map}
 use Rattle.tydi_base.specs.Frac.{Fraction}
@@ -27,6 +27,10 @@ infixr 6 ◌⁀◌
 abbrev pub ◌⁀◌ : List ℕ → List ℕ → List ℕ
 one ⁀ other = one ++ other
 
+-- a text without its first two bytes: things with two bytes before each then have these between each two
+abbrev pub but_first : List ℕ → List ℕ
+but_first text = drop 2 text
+
 -- ---- numbers
 
 -- the digits behind the point of what is left of a division, at most so many: by long division, up to where nothing is left
@@ -52,8 +56,7 @@ number_text number = decimal (number.num / number.den) ++ behind_point (digits_o
 
 -- the names of a path, with `::` between each two
 abbrev pub names_text : List AstName → List ℕ
-names_text [] = []
-names_text (first ∷ more) = first.name ++ flat_map (λ (name : AstName). codes "::" ++ name.name) more
+names_text names = but_first (flat_map (λ (name : AstName). codes "::" ++ name.name) names)
 
 -- the arguments of a Stream that follow its data type, up to its user type, and what follows them
 abbrev pub settings_text : Settings → List ℕ → List ℕ
@@ -70,18 +73,13 @@ abbrev mutual
   pub type_text : Ltype → List ℕ
   type_text null = codes "Null"
   type_text (bits width) = codes "Bits(" ⁀ decimal width ⁀ codes ")"
-  type_text (group parts) = codes "Group(" ⁀ parts_text parts ⁀ codes ")"
-  type_text (union parts) = codes "Union(" ⁀ parts_text parts ⁀ codes ")"
+  type_text (group parts) = codes "Group(" ⁀ but_first (more_parts_text parts) ⁀ codes ")"
+  type_text (union parts) = codes "Union(" ⁀ but_first (more_parts_text parts) ⁀ codes ")"
   type_text (stream element user settings) = codes "Stream(data: "
       ⁀ (type_text element ⁀ settings_text settings (type_text user ⁀ codes ", keep: " ⁀ truth_word settings.keep)) ⁀ codes ")"
   type_text (path names) = names_text names
 
-  -- parts with a comma and a space between each two
-  pub parts_text : Parts → List ℕ
-  parts_text no_parts = []
-  parts_text (part name ltype more) = (name.name ⁀ codes ": " ⁀ type_text ltype) ++ more_parts_text more
-
-  -- parts that follow another
+  -- parts with a comma and a space before each
   pub more_parts_text : Parts → List ℕ
   more_parts_text no_parts = []
   more_parts_text (part name ltype more) = (codes ", " ⁀ name.name ⁀ codes ": " ⁀ type_text ltype) ++ more_parts_text more
@@ -96,8 +94,7 @@ next_part_text one = codes ", " ++ part_text one
 
 -- parts with a comma and a space between each two, as a list
 abbrev pub listed_text : List AstPart → List ℕ
-listed_text [] = []
-listed_text (first ∷ more) = part_text first ++ flat_map next_part_text more
+listed_text parts = but_first (flat_map next_part_text parts)
 
 -- a Stream
 abbrev pub stream_text : AstStream → List ℕ

@@ -24,12 +24,14 @@ pub fn trees_have_their_places()
 {}
 
 /// The law of places: trees that are the same, places aside, have one canonical text, and are spellable together.
+#[tactic(auto, using(crate::proofs::PlacesLemmas::trees_alike))]
 pub fn places_are_left_out()
     ensures { PlacesAreLeftOut }
 {}
 
 /// The law of printing: the canonical text of a tree that is, its places aside, the tree of some text, is a text of that tree again,
 /// places aside, and its types nest no deeper.
+#[tactic(auto, using(crate::proofs::printed::ReadAgain::read_as_printed))]
 pub fn trees_are_read_as_printed()
     ensures { TreesAreReadAsPrinted }
 {}

@@ -19,6 +19,7 @@ use tydi_base::{Each, List, Memory, Written, emit};
 
 /// The canonical text of a tree, or `Memory` where there is none for it. A Stream shows all its arguments, and no place is shown. Where
 /// the tree is, its places aside, that of some text (`IsSpellable`), the canonical text spells it again.
+#[tactic(auto, using(crate::proofs::printed::ReadAgain::spellable_read))]
 pub fn print(alloc: Global, ast: &Ast) -> Result<List<u8>, Memory>
     ensures text { IfOk result (λ text. text ≡ spec.canonical ast.now) }
     ensures again { IfOk result (λ text. IsSpellable ast.now → IsReadAgain text ast.now) }

@@ -6,8 +6,7 @@ use Rattle.std.proofs.Math.Seq.{drop-append_seam, take-append_seam}
 use Rattle.std.proofs.lemmas.List.{drop-map, take-map}
 use Rattle.std.proofs.lemmas.List.Folds.{list_all-append}
 use Rattle.tydi_base.specs.declared.place.Place.{Place}
-use Rattle.til_lexer.specs.Places.{place_past}
-use Rattle.til_lexer.specs.Spans.{is_space}
+use Rattle.til_lexer.specs.{Places.place_past, Spans.is_space}
 use Rattle.til_lexer.specs.Spelling.{AreSpelled, HasForm, IsApart, Spelled, runs_on, spelled_text}
 use Rattle.til_lexer.specs.declared.token.TokenKind.{TokenKind}
 use Rattle.til_lexer.specs.declared.token.TokenKind.TheVariants as kinds

@@ -1,18 +1,13 @@
 -- Names, paths, numbers, marked texts and lists are printed so that they are read again.
 use Rattle.std.proofs.Common.{◌≡◌, ℕ, ◌-◌, ◌^◌, ◌<◌, inl, true, List, [], ◌∷◌, ◌++◌, length, take, flat_map, Option, Some, None, decimal, codes}
 use Rattle.std.proofs.Common.{refl, sym, ap, subst, ◌∙◌, arith, length-append, append-nil}
-use Rattle.std.specs.Char.{is_ascii_digit}
-use Rattle.std.specs.List.{list_all}
+use Rattle.std.specs.{Char.is_ascii_digit, List.list_all}
 use Rattle.std.proofs.Math.Seq.{take-append_seam}
 use Rattle.std.proofs.lemmas.Bool.Decides.{nat_tests}
 use Rattle.std.proofs.lemmas.Fmt.{decimal_nonempty, digits_decimal, digits_value-decimal, length-decimal-le}
-use Rattle.tydi_base.specs.Decimal.{read_on}
-use Rattle.tydi_base.specs.Frac.{Fraction, IsReduced}
-use Rattle.tydi_base.specs.Level.{IsLevel}
-use Rattle.tydi_base.specs.Name.{is_name, has_name_form}
+use Rattle.tydi_base.specs.{Decimal.read_on, Frac.Fraction, Frac.IsReduced, Level.IsLevel, Name.is_name, Name.has_name_form}
 use Rattle.tydi_base.proofs.DecimalLaws.{own}
-use Rattle.til_lexer.specs.Spans.{is_space}
-use Rattle.til_lexer.specs.Spelling.{HasForm}
+use Rattle.til_lexer.specs.{Spans.is_space, Spelling.HasForm}
 use Rattle.til_lexer.specs.declared.token.TokenKind.{TokenKind}
 use Rattle.til_lexer.specs.declared.token.TokenKind.TheVariants as kinds
 use Rattle.til_parser.specs.declared.tree.AstName.{AstName}

@@ -15,7 +15,7 @@ use Rattle.til_parser.specs.declared.tree.AstBody.TheVariants as bodies
 use Rattle.til_parser.specs.declared.tree.AstKind.TheVariants as decls
 use Rattle.til_parser.specs.declared.tree.AstPorts.TheVariants as ports
 use Rattle.til_parser.specs.declared.tree.AstStmt.TheVariants as stmts
-use Rattle.til_parser.specs.Canonical.{type_text, parts_text, port_text, ports_text, end_text, stmt_text, spaced_text, body_text, streamlet_text, kind_text, doc_line}
+use Rattle.til_parser.specs.Canonical.{type_text, but_first, more_parts_text, port_text, ports_text, end_text, stmt_text, spaced_text, body_text, streamlet_text, kind_text, doc_line}
 use Rattle.til_parser.specs.Canonical.{decl_text, names_text, namespace_text}
 use Rattle.til_parser.specs.Grammar.{Form, Arguments, Bracketed, Doc, Name, Of, Path, Word, SpellsType, SpellsParts, SpellsPort, SpellsPorts, SpellsEnd, SpellsStmt}
 use Rattle.til_parser.specs.Grammar.{SpellsBody, SpellsStreamletPorts, SpellsKind, SpellsDecl, SpellsNamespace, direction_word, sync_word, truth_word, way_word}
@@ -63,7 +63,7 @@ abbrev PrintedType : Ltype → Type 0
 PrintedType one = PrintedAs (type_text one) SameType SpellsType one
 
 abbrev PrintedParts : Parts → Type 0
-PrintedParts ones = PrintedAs (parts_text ones) SameParts SpellsParts ones
+PrintedParts ones = PrintedAs (but_first (more_parts_text ones)) SameParts SpellsParts ones
 
 -- an argument with a comma after it, and then others
 argument : {F : Form} {A : Type 0} {P : A → Form} {last next : TokenKind} {value other : List ℕ} (spelling : List ℕ) → has_name_form spelling ≡ true

@@ -1,18 +1,16 @@
 -- The canonical text of a spellable tree is lexed to the tokens of which it is printed, and so it spells that tree again.
 use Rattle.std.proofs.Common.{◌≡◌, ℕ, List, [], ◌∷◌, ◌++◌, map, refl, sym, ap, subst, ◌∙◌, append-nil, IsUtf8, arith}
 use Rattle.std.proofs.lemmas.Str.{IsUtf8-append}
-use Rattle.til_lexer.specs.Places.{start, place_past}
-use Rattle.til_lexer.specs.Spelling.{own_text, spelled_text, tokens_spelled}
-use Rattle.til_lexer.specs.Tokens.{tokens_of}
+use Rattle.til_lexer.specs.{Places.start, Places.place_past, Spelling.own_text, Spelling.spelled_text, Spelling.tokens_spelled, Tokens.tokens_of}
 use Rattle.til_lexer.specs.declared.token.Token.{Token}
 use Rattle.til_lexer.proofs.SpelledTokens.{gap_utf8, map-tokens_spelled, opens, spelled_behind-read}
 use Rattle.til_parser.specs.declared.tree.Ast.{Ast}
 use Rattle.til_parser.specs.Canonical.{canonical}
-use Rattle.til_parser.specs.Laws.{IsReadAgain, TreesAreReadAsPrinted}
+use Rattle.til_parser.specs.Laws.{AreReadAsPrinted, IsReadAgain}
 use Rattle.til_parser.specs.Lexemes.{lexemes_of}
 use Rattle.til_parser.specs.Same.{SameNamespace}
 use Rattle.til_parser.specs.Trees.{IsSpellable}
-use Rattle.til_parser.proofs.PlacesLemmas.{length-alike, trees-alike}
+use Rattle.til_parser.proofs.PlacesLemmas.{length-alike, trees_alike}
 use Rattle.til_parser.proofs.printed.PrintedForms.{shown}
 use Rattle.til_parser.proofs.printed.PrintedTrees.{printed_namespaces}
 use Rattle.til_parser.proofs.LawLemmas.{spellable-of}
@@ -22,8 +20,8 @@ lexemes-shown text [] = refl
 lexemes-shown text (token ∷ tokens) = ap (λ l. (token.kind, own_text text token) ∷ l) (lexemes-shown text tokens)
 
 -- a spellable tree is read again
-pub spellable-read : (ast : Ast) → IsSpellable ast → IsReadAgain (canonical ast) ast
-spellable-read ast is =
+pub spellable_read : (ast : Ast) → IsSpellable ast → IsReadAgain (canonical ast) ast
+spellable_read ast is =
     let printed = printed_namespaces ast.namespaces is.each in
     let s = printed.before [] [] refl (record { gap = []; pieces = []; is = refl; space = refl; spelled = tt; made = λ place. refl }) in
     let text : canonical ast ≡ s.gap ++ spelled_text s.pieces = sym (append-nil (canonical ast)) ∙ s.is in
@@ -42,11 +40,11 @@ spellable-read ast is =
         spelled = record { some = omega (arith, is.some, length-alike SameNamespace ast.namespaces found.0.0 found.0.1); each = found.1 };
       };
       same = found.0.1;
-      within = (trees-alike ast again found.0.1).within;
+      within = (trees_alike ast again found.0.1).within;
     }
 
-pub trees_are-read_as_printed : TreesAreReadAsPrinted
-trees_are-read_as_printed ast = record {
-  spellable = spellable-read ast;
-  aside = λ text tree of same. spellable-read ast ((trees-alike tree ast same).spellable (spellable-of text tree of));
+pub read_as_printed : (ast : Ast) → AreReadAsPrinted ast
+read_as_printed ast = record {
+  spellable = spellable_read ast;
+  aside = λ text tree of same. spellable_read ast ((trees_alike tree ast same).spellable (spellable-of text tree of));
 }

@@ -1,11 +1,9 @@
 -- What spells a name, a path, a number or a marked text has its form.
 use Rattle.std.proofs.Common.{◌≡◌, ℕ, ◌^◌, ◌≤◌, true, List, [], ◌∷◌, length, Option, Some, None, All, IsUtf8, refl, sym, ap, subst, ◌∙◌, append-nil, arith}
-use Rattle.std.specs.Char.{is_ascii_digit}
-use Rattle.std.specs.List.{list_all}
+use Rattle.std.specs.{Char.is_ascii_digit, List.list_all}
 use Rattle.std.proofs.Math.Nat.{pow-le-pow_right}
 use Rattle.std.proofs.lemmas.List.Elements.{All-head}
-use Rattle.tydi_base.specs.Frac.{Fraction}
-use Rattle.tydi_base.specs.Pieces.{Lacks}
+use Rattle.tydi_base.specs.{Frac.Fraction, Pieces.Lacks}
 use Rattle.tydi_base.specs.declared.place.Place.{Place}
 use Rattle.til_lexer.specs.Spelling.{HasForm, IsBetween}
 use Rattle.til_lexer.specs.declared.token.TokenKind.{TokenKind}

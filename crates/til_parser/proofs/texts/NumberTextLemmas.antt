@@ -3,15 +3,13 @@ use Rattle.std.proofs.Common.{◌≡◌, ℕ, zero, suc, ◌+◌, ◌-◌, ◌*�
 use Rattle.std.proofs.Common.{refl, sym, ap, subst, ◌∙◌, arith, append-nil, length-append, pow-add, pow-suc, mod-lt, div-add-mod', div-lt_iff_lt-mul}
 use Rattle.std.proofs.Common.{lt_of_mul-lt-mul_right, mul-lt-mul_of_pos_right}
 use Prim.Native.Nat.{◌∣◌}
-use Rattle.std.specs.Char.{is_ascii_digit}
-use Rattle.std.specs.List.{list_all}
+use Rattle.std.specs.{Char.is_ascii_digit, List.list_all}
 use Rattle.std.proofs.Math.Nat.{div-add-mod, dvd-add_iff_right, dvd-mul_left, dvd-mul_left_of_dvd, dvd-mul_right, dvd-mul_right_of_dvd, one-dvd}
 use Rattle.std.proofs.lemmas.Bool.Decides.{nat_tests}
 use Rattle.std.proofs.lemmas.Fmt.{decimal_nonempty, digits_decimal, digits_value-decimal, length-decimal-le}
 use Rattle.std.proofs.lemmas.List.Folds.{list_all-append}
 use Rattle.std.proofs.lemmas.Nat.Gcd.{IsGcd-swap, le_of_dvd}
-use Rattle.tydi_base.specs.Decimal.{read_on}
-use Rattle.tydi_base.specs.Frac.{Fraction, IsLowest}
+use Rattle.tydi_base.specs.{Decimal.read_on, Frac.Fraction, Frac.IsLowest}
 use Rattle.tydi_base.proofs.DecimalLaws.{own}
 use Rattle.tydi_base.proofs.FracLaws.{coprime_divides}
 use Rattle.til_lexer.specs.Spelling.{AreDigits, HasForm}

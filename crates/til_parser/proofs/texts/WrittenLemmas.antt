@@ -3,7 +3,7 @@ use Rattle.std.proofs.Common.{◌≡◌, ◌⊎◌, inl, inr, ℕ, zero, suc, �
 use Rattle.std.proofs.Common.{refl, sym, ap, ◌∙◌, append_assoc, append-nil, length-append, take-take, take_all, take_at, arith, rules, codes}
 use Rattle.tydi_base.specs.Writing.{StandsInFront}
 use Rattle.til_parser.specs.declared.ltype.{AstPart.AstPart, AstStream.AstStream}
-use Rattle.til_parser.specs.Canonical.{behind_point, digits_of_rest, listed_text, more_parts_text, next_part_text, part_text, parts_text, settings_text, stream_text, type_text}
+use Rattle.til_parser.specs.Canonical.{behind_point, digits_of_rest, listed_text, more_parts_text, next_part_text, part_text, but_first, settings_text, stream_text, type_text}
 use Rattle.til_parser.specs.Grammar.{truth_word}
 use Rattle.til_parser.specs.Tree.{Settings, plain, settings_of}
 use Rattle.til_parser.proofs.PlainLemmas.{plain_parts}
@@ -69,9 +69,8 @@ more-listed : (parts : List AstPart) → flat_map next_part_text parts ≡ more_
 more-listed [] = refl
 more-listed (first ∷ more) = ap (λ text. next_part_text first ++ text) (more-listed more)
 
-pub listed : (parts : List AstPart) → listed_text parts ≡ parts_text (plain_parts parts)
-listed [] = refl
-listed (first ∷ more) = ap (λ text. part_text first ++ text) (more-listed more)
+pub listed : (parts : List AstPart) → listed_text parts ≡ but_first (more_parts_text (plain_parts parts))
+listed parts = ap but_first (more-listed parts)
 
 -- parts, one at least: the first, and then the others
 pub parts-written : (parts : List AstPart) (first : AstPart) (old word t1 t2 : List ℕ) (at : ℕ) → 1 ≤ length parts → first ≡ get_or parts 0 first
