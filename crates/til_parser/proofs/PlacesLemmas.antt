@@ -12,7 +12,8 @@ use Rattle.til_parser.specs.Canonical.{◌⁀◌, but_first, names_text, setting
 use Rattle.til_parser.specs.Canonical.{stmt_text, body_text, streamlet_text, quoted_text, kind_text, doc_line, decl_text, namespace_text}
 use Rattle.til_parser.specs.Grammar.{PortsWithin, StreamletWithin, KindWithin, DeclsWithin, way_word, truth_word}
 use Rattle.til_parser.specs.Laws.{AreAlike}
-use Rattle.til_parser.specs.Same.{Alike, SameName, SameNames, SameType, SameParts, SamePort, SameSecond, SameEnd, SameStmt, SameBody, SamePorts, SameKind, SameDecl, SameNamespace, SameTree}
+use Rattle.til_parser.specs.Same.{Alike, SameName, SameNames, SameType, SameParts, SamePort, SameSecond, SameEnd, SameStmt, SameBody, SamePorts, SameKind, SameDecl, SameNamespace}
+use Rattle.til_parser.specs.Same.{SameTree}
 use Rattle.til_parser.specs.Tree.{Ltype, null, bits, group, union, stream, path, Parts, no_parts, part, depth, depth_of_parts, plain}
 use Rattle.til_parser.specs.Trees.{HasName, IsPath, IsDoc, IsQuote, AreSettings, IsType, AreParts, IsPort, IsSecond, IsEnd, IsStmt, IsBody, ArePorts, IsKind, IsDecl, IsNamespace}
 

@@ -15,8 +15,8 @@ use Rattle.til_parser.specs.declared.tree.AstBody.TheVariants as bodies
 use Rattle.til_parser.specs.declared.tree.AstKind.TheVariants as decls
 use Rattle.til_parser.specs.declared.tree.AstPorts.TheVariants as ports
 use Rattle.til_parser.specs.declared.tree.AstStmt.TheVariants as stmts
-use Rattle.til_parser.specs.Canonical.{type_text, but_first, more_parts_text, port_text, ports_text, end_text, stmt_text, spaced_text, body_text, streamlet_text, kind_text, doc_line}
-use Rattle.til_parser.specs.Canonical.{decl_text, names_text, namespace_text}
+use Rattle.til_parser.specs.Canonical.{type_text, but_first, more_parts_text, port_text, ports_text, end_text, stmt_text, spaced_text, body_text, streamlet_text, kind_text}
+use Rattle.til_parser.specs.Canonical.{decl_text, doc_line, names_text, namespace_text}
 use Rattle.til_parser.specs.Grammar.{Form, Arguments, Bracketed, Doc, Name, Of, Path, Word, SpellsType, SpellsParts, SpellsPort, SpellsPorts, SpellsEnd, SpellsStmt}
 use Rattle.til_parser.specs.Grammar.{SpellsBody, SpellsStreamletPorts, SpellsKind, SpellsDecl, SpellsNamespace, direction_word, sync_word, truth_word, way_word}
 use Rattle.til_parser.specs.Lexemes.{Lexeme}
