@@ -1,10 +1,7 @@
 pub mod TokenRules
 pub mod LeafRules
-pub mod ListRules
 pub mod StreamFields
-pub mod StreamRules
 pub mod TypeRules
-pub mod BodyRules
 pub mod DeclRules
 pub mod ProjectRules
 pub mod ParseLemmas

@@ -110,7 +110,7 @@ impl<'a> Parser<'a> {
     }
 
     /// `path`
-    #[tactic(auto, unfolding(crate::specs::ReadTypes::path))]
+    #[tactic(auto, unfolding(crate::specs::ReadTypes::path, tydi_reading::specs::Lists::joined))]
     pub(crate) fn path(&mut self) -> Result<AstPath, Fault>
         ensures { Reads (spec.path self.old) result self.new }
     {

@@ -36,6 +36,7 @@ impl<'a> Parser<'a> {
     }
 
     /// `"{" { item } "}"`
+    #[tactic(auto, unfolding(crate::specs::ReadDecls::braced))]
     pub(crate) fn braced<A: Drop, P: Fn(&mut Parser<'a>) -> Result<A, Fault>>(
         &mut self,
         item: P,
@@ -73,6 +74,7 @@ impl<'a> Parser<'a> {
     }
 
     /// `"(" [ step { "," step } [ "," ] ] ")"`
+    #[tactic(auto, unfolding(crate::specs::ReadTypes::bracketed_steps))]
     pub(crate) fn bracketed<S: Drop, P: Fn(&mut Parser<'a>, S) -> Result<S, Fault>>(
         &mut self,
         start: S,

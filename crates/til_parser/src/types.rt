@@ -24,10 +24,19 @@ impl<'a> Parser<'a> {
         if levels == 0 {
             return Err(self.too_deep());
         }
+        self.type_with(levels - 1)
+    }
+
+    /// `type`, whose types inside have at most so many levels.
+    #[cycle(ltype)]
+    #[tactic(auto, unfolding(crate::specs::ReadTypes::type_with))]
+    fn type_with(&mut self, levels: usize) -> Result<AstType, Fault>
+        ensures { Reads (spec.type_with (spec.ltype levels) self.old) result self.new }
+    {
         match self.type_word() {
             Some(word) => {
                 self.skip();
-                self.type_after(word, levels - 1)
+                self.type_after(word, levels)
             }
             None => Ok(AstType::Path(self.path()?)),
         }

@@ -1,4 +1,4 @@
--- The rules of names, numbers, marked texts, documentation and paths.
+-- The rules of names, numbers, marked texts, documentation, paths, and lists in brackets and in braces.
 use Rattle.std.proofs.Common.{◌≡◌, ℕ, suc, ◌+◌, ◌^◌, ◌<◌, ◌≤◌, nat_lt, Bool, true, false, cond, ◌&&◌, ◌||◌, ◌⊎◌, List, [], ◌∷◌, ◌++◌, length}
 use Rattle.std.proofs.Common.{drop, Option, Some, None, inl, inr, refl, sym, ap, ◌∙◌, subst, bytes_eq, arith, codes, length-append}
 use Rattle.std.specs.Prelude.{not}
@@ -16,12 +16,17 @@ use Rattle.tydi_base.specs.Name.{is_name, name_of, has_name_form}
 use Rattle.tydi_base.specs.declared.place.Place.{Place}
 use Rattle.tydi_base.proofs.DecimalLaws.{own}
 use Rattle.tydi_reading.specs.Forms.{Never, Anything, ◌⋯◌}
-use Rattle.tydi_reading.specs.Reading.{Shrinks, tells, ◌>>◌}
+use Rattle.tydi_reading.specs.Reading.{Reader, Shrinks, tells, ◌>>◌}
 use Rattle.tydi_reading.specs.Rules.{IsRule}
+use Rattle.tydi_reading.specs.Lists.{Each, EachIs, separated}
+use Rattle.tydi_reading.proofs.RepeatedRule.{Repeats, repeated-rule}
+use Rattle.tydi_reading.proofs.SeparatedRule.{Between, separated-rule}
+use Rattle.til_parser.specs.Nesting.{BracketedTo, BracedTo}
+use Rattle.til_parser.specs.ReadDecls.{braced}
 use Rattle.tydi_reading.proofs.JoinedRule.{joined-rule}
 use Rattle.tydi_reading.proofs.FormLemmas.{front-tells, follows-front}
-use Rattle.tydi_reading.proofs.Rule.{as_rule, as_flat, of_flat, of_mark, skip, viewed, Made, either-rule, optional-rule, mark-tells, front-marked, shrinks}
-use Rattle.til_lexer.specs.Spelling.{HasForm, IsWholeNumber, IsPointNumber, IsBetween}
+use Rattle.tydi_reading.proofs.Rule.{as_rule, as_flat, of_flat, of_mark, skip, close, viewed, Made, either-rule, optional-rule, mark-tells, front-marked, shrinks}
+use Rattle.til_lexer.specs.Spelling.{HasForm, IsBetween}
 use Rattle.til_lexer.specs.Spans.{digits_at}
 use Rattle.til_lexer.specs.Places.{start}
 use Rattle.til_lexer.specs.declared.token.TokenKind.{TokenKind}
@@ -30,14 +35,14 @@ use Rattle.til_parser.specs.declared.ltype.AstSync.{AstSync}
 use Rattle.til_parser.specs.declared.ltype.AstSync.TheVariants as syncs
 use Rattle.til_parser.specs.declared.tree.AstName.{AstName}
 use Rattle.til_parser.specs.declared.tree.AstPath.{AstPath}
-use Rattle.til_parser.specs.Grammar.{Form, One, Of, Word, IsNamed, Name, IsWhole, Whole, IsNumber, Number, IsMarked, Quoted, Doc, Level, Path, sync_word}
+use Rattle.til_parser.specs.Grammar.{Form, One, Of, Word, Commas, Bracketed, Braced, IsNamed, Name, IsWhole, Whole, IsNumber, Number, IsMarked, Quoted, Doc, Level, Path, sync_word}
 use Rattle.til_parser.specs.Lexemes.{Lexeme, IsFormed, between_marks}
 use Rattle.til_parser.specs.Numbers.{whole_of, numerator_of, denominator_of, lowest}
-use Rattle.til_parser.specs.ReadTypes.{name_at, name, whole, number, level_of, level, marked, quoted, doc, path, either_word, sync}
-use Rattle.til_parser.specs.Reading.{is_kind, is_word, expect}
+use Rattle.til_parser.specs.ReadTypes.{bracketed, bracketed_steps, name_at, name, whole, number, level_of, level, marked, quoted, doc, path, either_word, sync}
+use Rattle.til_parser.specs.Reading.{same_kind, is_kind, is_word, expect}
 use Rattle.til_parser.specs.Words.{all_syncs, sync_of}
 use Rattle.til_parser.proofs.numbers.FractionLemmas.{IsReduced-lowest, lowest_from_IsReduced}
-use Rattle.til_parser.proofs.rules.TokenRules.{both, one, made, same_kind-is, begins_item, double_colon, word_mark, IsToken, token-rule, table-rule, Word-not_word}
+use Rattle.til_parser.proofs.rules.TokenRules.{both, one, made, meant_is, kind_is, kind-not, kind-mark, open_paren, close_paren, open_brace, close_brace, same_kind-is, begins_item, double_colon, word_mark, IsToken, token-rule, table-rule, Word-not_word}
 
 -- ---- names
 
@@ -70,14 +75,6 @@ name-begins x Second front rest =
 
 -- ---- whole numbers
 
-below_some : (limit n x : ℕ) → below limit (Some n) ≡ Some x → n ≡ x
-below_some limit n x same = (cond_some (nat_lt n limit) n x same).1
-
-whole_meant : (spelling : List ℕ) (b : Bool) (limit x : ℕ) → cond b (below limit (Some (read_on 0 spelling))) None ≡ Some x
-    → (b ≡ true) × (x ≡ read_on 0 spelling)
-whole_meant spelling true limit x same = (refl, sym (below_some limit (read_on 0 spelling) x same))
-whole_meant spelling false limit x same = absurd (none-some x same)
-
 -- digits, 19 at most, spell a number that fits 64 bits
 read_on-lt : (digits : List ℕ) → list_all is_ascii_digit digits ≡ true → length digits ≤ 19 → read_on 0 digits < 2 ^ 64
 read_on-lt digits each few =
@@ -86,28 +83,25 @@ read_on-lt digits each few =
     let most : 10 ^ length digits ≤ 10 ^ 19 = pow-le-pow_right {n = 10} (omega arith) {i = length digits} {j = 19} few in
     omega (arith, value, small, most)
 
-few_digits : (text : List ℕ) → IsWholeNumber text ⊎ IsPointNumber text → length text ≤ 19
+few_digits : (text : List ℕ) → HasForm kinds.Number text → length text ≤ 19
 few_digits text (inl whole) = omega (arith, whole.few)
 few_digits text (inr point) =
-    let parts : length text ≡ length point.before + suc (length point.behind) = ap length point.parts ∙ length-append point.before
-    (46 ∷ point.behind) in
+    let parts : length text ≡ length point.before + suc (length point.behind) = ap length point.parts ∙ length-append point.before (46 ∷ point.behind) in
     omega (arith, point.few, parts)
-
-number_few : (lexeme : Lexeme) → lexeme.kind ≡ kinds.Number → HasForm lexeme.kind lexeme.spelling → length lexeme.spelling ≤ 19
-number_few lexeme is formed = few_digits lexeme.spelling (subst (λ kind. HasForm kind lexeme.spelling) is formed)
 
 means_whole : (x : ℕ) (lexeme : Lexeme) → IsFormed lexeme → IsWhole x lexeme → whole_of lexeme.spelling ≡ Some x
 unfolding whole_of
 means_whole x lexeme formed is =
-    let small = read_on-lt lexeme.spelling is.digits (number_few lexeme is.kind formed) in
+    let small = read_on-lt lexeme.spelling is.digits (few_digits lexeme.spelling (subst (λ kind. HasForm kind lexeme.spelling) is.kind formed)) in
     let fits : nat_lt (read_on 0 lexeme.spelling) (2 ^ 64) ≡ true = grind (arith, nat_tests) in
     rw (is.digits, fits, is.value)
 
 is_whole : (x : ℕ) (lexeme : Lexeme) → lexeme.kind ≡ kinds.Number → whole_of lexeme.spelling ≡ Some x → IsWhole x lexeme
 unfolding whole_of
 is_whole x lexeme is means =
-    let parts = whole_meant lexeme.spelling (list_all is_ascii_digit lexeme.spelling) (2 ^ 64) x means in
-    record { kind = is; digits = parts.0; value = parts.1 }
+    let number = read_on 0 lexeme.spelling in
+    let parts = meant_is (list_all is_ascii_digit lexeme.spelling) (below (2 ^ 64) (Some number)) x means in
+    record { kind = is; digits = parts.0; value = sym (cond_some (nat_lt number (2 ^ 64)) number x parts.1).1 }
 
 whole_token : IsToken kinds.Number (λ place spelling. whole_of spelling) Whole
 whole_token = record {
@@ -116,11 +110,10 @@ whole_token = record {
 }
 
 -- the number 1, as a token
-one_token : Lexeme
+abbrev one_token : Lexeme
 one_token = made kinds.Number (codes "1")
 
 one_formed : IsFormed one_token
-unfolding one_token
 one_formed = inl (record { digits = record { some = omega arith; each = refl }; few = omega arith })
 
 one_whole : whole_of (codes "1") ≡ Some 1
@@ -128,7 +121,6 @@ unfolding whole_of
 one_whole = refl
 
 pub whole-rule : IsRule IsFormed whole Whole (λ _. Anything) (λ _. Unit {0}) Never
-unfolding one_token
 whole-rule = token-rule kinds.Number (λ place spelling. whole_of spelling) Whole whole_token one_token 1 one_formed refl one_whole
 
 -- ---- levels
@@ -138,15 +130,10 @@ level_within None x same = absurd (none-some x same)
 level_within (Some n) x same =
     let parts = cond_some (nat_lt 0 n && nat_lt n 9) n x same in
     let tests = both (nat_lt 0 n) (nat_lt n 9) parts.0 in
-    let low : 1 ≤ x = grind (arith, nat_tests, tests.0, parts.1) in
-    let high : x ≤ 8 = grind (arith, nat_tests, tests.1, parts.1) in
-    (ap Some parts.1, (low, high))
+    (ap Some parts.1, (grind (arith, nat_tests, tests.0, parts.1), grind (arith, nat_tests, tests.1, parts.1)))
 
 level_sees : (x : ℕ) → IsLevel x → level_of (Some x) ≡ Some x
-level_sees x is =
-    let low : nat_lt 0 x ≡ true = grind (arith, nat_tests, is.0) in
-    let high : nat_lt x 9 ≡ true = grind (arith, nat_tests, is.1) in
-    rw (low, high)
+level_sees x is = let test : (nat_lt 0 x && nat_lt x 9) ≡ true = grind (arith, nat_tests, is.0, is.1) in rw test refl
 
 level_token : IsToken kinds.Number (λ place spelling. level_of (whole_of spelling)) Level
 level_token = record {
@@ -162,7 +149,6 @@ level_token = record {
 }
 
 pub level-rule : IsRule IsFormed level Level (λ _. Anything) (λ _. Unit {0}) Never
-unfolding one_token
 level-rule = token-rule kinds.Number (λ place spelling. level_of (whole_of spelling)) Level level_token one_token 1 one_formed refl (ap level_of one_whole)
 
 -- ---- fractions
@@ -187,7 +173,6 @@ number_token = record {
 }
 
 pub number-rule : IsRule IsFormed number Number (λ _. Anything) (λ _. Unit {0}) Never
-unfolding one_token
 number-rule = token-rule kinds.Number (λ place spelling. Some (lowest (numerator_of spelling) (denominator_of spelling))) Number number_token one_token
     (lowest (numerator_of (codes "1")) (denominator_of (codes "1"))) one_formed refl refl
 
@@ -238,7 +223,7 @@ doc-begins (Some text) Second front rest second s =
 
 -- ---- one of two words, and of some
 
-module _ (word : Bool → List ℕ) (form : (b : Bool) → has_name_form (word b) ≡ true) (apart : bytes_eq (word false) (word true) ≡ false) where
+module _ (word : Bool → List ℕ) (one : has_name_form (word true) ≡ true) (other : has_name_form (word false) ≡ true) (apart : bytes_eq (word false) (word true) ≡ false) where
   which_word : (b : Bool) (ts : List Lexeme) → Word (word b) ts → Made (λ (u : Unit {0}). true) (λ _. Word (word true)) b ts ⊎ Made (λ (u : Unit {0}). false) (λ _. Word (word false)) b ts
   which_word true ts s = inl (tt, refl, s)
   which_word false ts s = inr (tt, refl, s)
@@ -246,7 +231,7 @@ module _ (word : Bool → List ℕ) (form : (b : Bool) → has_name_form (word b
   pub either_word-rule : IsRule IsFormed (either_word (word true) (word false)) (λ b. Word (word b)) (λ _. Anything) (λ _. Unit {0}) Never
   unfolding either_word
   either_word-rule =
-      either-rule (is_word (word true)) (λ _. true) (of_flat (of_mark (word_mark (word true) (form true)))) (λ _. false) (of_mark (word_mark (word false) (form false)))
+      either-rule (is_word (word true)) (λ _. true) (of_flat (of_mark (word_mark (word true) one))) (λ _. false) (of_mark (word_mark (word false) other))
       (λ b. Word (word b)) (λ _. Anything) (λ _. Unit {0})
       (record {
         one = λ u ts s. s;
@@ -254,7 +239,7 @@ module _ (word : Bool → List ℕ) (form : (b : Bool) → has_name_form (word b
         which = which_word;
         one_next = λ u rest next. tt;
         other_next = λ u rest next. tt;
-        one_begins = λ u. mark-tells (word_mark (word true) (form true));
+        one_begins = λ u. mark-tells (word_mark (word true) one);
         deep_begins = λ front rest d. absurd d;
         other_begins = λ u front rest s next. Word-not_word (word false) (word true) apart front rest s;
         within_one = λ u w. tt;
@@ -291,3 +276,46 @@ pub path-front : (P : List Lexeme → Type 0) → ((x : AstName) (t : Lexeme) (m
 path-front P named [] front rest s = absurd s
 path-front P named (x ∷ []) front rest s = rw s.all (named x s.lexeme rest s.is)
 path-front P named (x ∷ next ∷ names) front rest s = follows-front P (Name x) _ front rest (λ f r o. rw o.all (named x o.lexeme r o.is)) s
+
+-- ---- what may follow a path
+
+pub kind-path : (kind : TokenKind) → same_kind kind kinds.DoubleColon ≡ false → (rest : List Lexeme) → tells (is_kind kind) false rest ≡ true → PathNext rest
+kind-path kind apart [] is = refl
+kind-path kind apart (t ∷ rest) is = rw (kind_is t.kind kind is, apart) refl
+
+pub Of-path : (kind : TokenKind) → same_kind kind kinds.DoubleColon ≡ false → (back rest : List Lexeme) → Of kind back → PathNext (back ++ rest)
+Of-path kind apart back rest s = rw (s.all, s.is, apart) refl
+
+pub Word-path : (word : List ℕ) (back rest : List Lexeme) → Word word back → PathNext (back ++ rest)
+unfolding same_kind
+Word-path word back rest s = rw (s.all, s.is.kind) refl
+
+-- ---- lists
+
+module _ {A : Type 0} {item : Reader Lexeme A} {Item : A → Form} {Within : A → Type 0} {Deep : Form} where
+  -- in round brackets, with commas: an item does not begin with a closing bracket
+  module _ (repeats : Repeats (is_kind kinds.CloseParen) false Item Deep) (one : IsRule IsFormed item Item (λ _. PathNext) Within Deep) where
+    between : Between IsFormed (is_kind kinds.CloseParen) false (is_kind kinds.Comma) (Of kinds.Comma) Item PathNext Deep
+    unfolding same_kind
+    between = record {
+      mark = kind-mark kinds.Comma (codes ",") refl;
+      repeats = repeats;
+      before_end = λ rest is. kind-path kinds.CloseParen refl rest is;
+      before_separator = λ t rest is. kind-path kinds.Comma refl (t ∷ rest) is;
+      apart = λ rest is. kind-not kinds.CloseParen kinds.Comma refl rest is;
+    }
+
+    pub bracketed-rule : IsRule IsFormed (bracketed item) (λ items. Bracketed (Commas Item items)) (λ _. Anything) (EachIs Within) (BracketedTo Item Deep)
+    unfolding bracketed_steps separated
+    bracketed-rule =
+        (skip open_paren (close
+        (as_rule (separated-rule IsFormed (is_kind kinds.CloseParen) false (is_kind kinds.Comma) (Of kinds.Comma) item Item PathNext Within Deep between one))
+        close_paren (λ items. mark-tells close_paren))).is
+
+  -- in braces: an item does not begin with a closing brace
+  pub braced-rule : Repeats (is_kind kinds.CloseBrace) false Item Deep → IsRule IsFormed item Item (λ _. Anything) Within Deep
+      → IsRule IsFormed (braced item) (λ items. Braced (Each Item items)) (λ _. Anything) (EachIs Within) (BracedTo Item Deep)
+  unfolding braced
+  braced-rule repeats one =
+      (skip open_brace (close (as_rule (repeated-rule IsFormed (is_kind kinds.CloseBrace) false item Item Within Deep repeats one)) close_brace
+      (λ items. mark-tells close_brace))).is

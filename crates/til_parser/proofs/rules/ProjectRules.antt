@@ -27,8 +27,7 @@ use Rattle.til_parser.specs.ReadTypes.{name}
 use Rattle.til_parser.specs.ReadDecls.{keyword, kind_of, named_kind, decl, namespace, project_of, project}
 use Rattle.til_parser.specs.Words.{keyword_word}
 use Rattle.til_parser.proofs.rules.DeclRules.{kind_parts, kind_of_parts, KindForm, keyword-rule, kind-rule_of}
-use Rattle.til_parser.proofs.rules.LeafRules.{PathNext, NoDoc, name-rule, path-rule, doc-rule, doc-begins}
-use Rattle.til_parser.proofs.rules.ListRules.{braced-rule, Of-path}
+use Rattle.til_parser.proofs.rules.LeafRules.{PathNext, NoDoc, name-rule, path-rule, doc-rule, doc-begins, braced-rule, Of-path}
 use Rattle.til_parser.proofs.rules.TokenRules.{same_kind-is, word_mark, semicolon, begins_item, item-apart, kind-not}
 
 word-begins : (word : List ℕ) (Second : Form) (front rest : List Lexeme) → (Word word ⋯ Second) front → tells (is_kind kinds.Word) false (front ++ rest) ≡ true

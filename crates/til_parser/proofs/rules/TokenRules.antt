@@ -151,7 +151,7 @@ pub record IsToken {A : Type 0} (kind : TokenKind) (meaning : Place → List ℕ
   pub back : (x : A) (ts : List Lexeme) → Spelled x ts
       → (lexeme : Lexeme) × (ts ≡ lexeme ∷ []) × (lexeme.kind ≡ kind) × (IsFormed lexeme → meaning lexeme.place lexeme.spelling ≡ Some x)
 
-meant_is : {A : Type 0} (b : Bool) (o : Option A) (x : A) → cond b o None ≡ Some x → (b ≡ true) × (o ≡ Some x)
+pub meant_is : {A : Type 0} (b : Bool) (o : Option A) (x : A) → cond b o None ≡ Some x → (b ≡ true) × (o ≡ Some x)
 meant_is true o x is = (refl, is)
 meant_is false o x is = absurd (none-some x is)
 

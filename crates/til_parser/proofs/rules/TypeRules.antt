@@ -42,10 +42,8 @@ use Rattle.til_parser.specs.ReadTypes.{path, bits, part, one_more, bracketed, is
 use Rattle.til_parser.specs.Tree.{Ltype, null, plain, depth, depth_of_parts, settings_of}
 use Rattle.til_parser.specs.Tree as tree
 use Rattle.til_parser.proofs.PlainLemmas.{plain_parts, plain-Null, plain-Bits, plain-Group, plain-Union, plain-Stream, plain-Path, of_plain, of_parts, of_plain-plain}
-use Rattle.til_parser.proofs.rules.LeafRules.{PathNext, name-rule, name-begins, whole-rule, path-rule, path-front}
-use Rattle.til_parser.proofs.rules.ListRules.{bracketed-rule}
-use Rattle.til_parser.proofs.rules.StreamFields.{S, ArgumentsOf, lowest-whole}
-use Rattle.til_parser.proofs.rules.StreamRules.{stream-rule, values_within, argument-shrinks}
+use Rattle.til_parser.proofs.rules.LeafRules.{PathNext, name-rule, name-begins, whole-rule, path-rule, path-front, bracketed-rule}
+use Rattle.til_parser.proofs.rules.StreamFields.{S, ArgumentsOf, lowest-whole, stream-rule, values_within, argument-shrinks}
 use Rattle.til_parser.proofs.rules.TokenRules.{both, made, one, kind_is, same_kind-is, kind-apart, colon, open_paren, close_paren, word_at-word, word_at-back, word_at-rule}
 
 -- ---- the word with which a type begins
@@ -167,11 +165,7 @@ back y ts s = ⊎_elim
 
 depth-some : (t : Ltype) → 1 ≤ depth t
 depth-some null = omega arith
-depth-some (tree.bits width) = omega arith
-depth-some (tree.group parts) = omega arith
-depth-some (tree.union parts) = omega arith
-depth-some (tree.stream element user settings) = omega arith
-depth-some (tree.path names) = omega arith
+depth-some _ = omega arith
 
 -- a type nests no deeper than so many levels
 abbrev pub Fits : ℕ → AstType → Type 0

@@ -1,6 +1,5 @@
 use Rattle.std.proofs.Common.{◌≡◌, ℕ, zero, suc, ◌-◌, ◌<◌, List, sym, ap, ◌∙◌, subst, rules, arith}
 use Rattle.std.proofs.lemmas.Grind.{common_steps}
-use Rattle.til_parser.specs.declared.ltype.AstType.{the_lemmas}
 use Rattle.til_parser.specs.Lexemes.{Lexeme}
 use Rattle.til_parser.specs.ReadTypes.{is_given, value, ltype, one_more, part, type_with}
 use Rattle.til_parser.specs.Words.{argument_at}
@@ -18,23 +17,8 @@ unfolding ltype
 deeper zero ts some = absurd (omega arith)
 deeper (suc levels) ts some = let same : levels ≡ suc levels - 1 = omega arith in ap (λ (n : ℕ). type_with (ltype n) ts) same
 
-pub Parser::ltype-returns-in-Some : goal.Parser::ltype-returns-in-Some
-unfolding type_with
-Parser::ltype-returns-in-Some t c =
-    rw (deeper c.args.levels c.args.self.now (omega arith), sym c.type_word.ensures)
-    first_of (search rules, grind (arith, common_steps), search (rules, the_lemmas), grind (arith, the_lemmas))
-
-pub Parser::ltype-returns-in_err-path-in-None : goal.Parser::ltype-returns-in_err-path-in-None
-unfolding type_with
-Parser::ltype-returns-in_err-path-in-None t c =
-    rw (deeper c.args.levels c.args.self.now (omega arith), sym c.type_word.ensures)
-    first_of (search rules, grind (arith, common_steps), search (rules, the_lemmas), grind (arith, the_lemmas))
-
-pub Parser::ltype-returns-in_ok-path-in-None : goal.Parser::ltype-returns-in_ok-path-in-None
-unfolding type_with
-Parser::ltype-returns-in_ok-path-in-None t c =
-    rw (deeper c.args.levels c.args.self.now (omega arith), sym c.type_word.ensures)
-    first_of (search rules, grind (arith, common_steps), search (rules, the_lemmas), grind (arith, the_lemmas))
+pub Parser::ltype-returns : goal.Parser::ltype-returns
+Parser::ltype-returns t c = rw (deeper c.args.levels c.args.self.now (omega arith)) c.type_with.ensures
 
 -- ---- lists
 

@@ -6,10 +6,6 @@ use Rattle.til_parser.specs.Reading.{is_kind}
 use Rattle.tydi_reading.specs.Lists.{repeated}
 use Rattle.til_parser.proofs.parser.Parser.braced.Goals as goal
 
-pub returns-in_err-expect : goal.returns-in_err-expect
-unfolding braced
-returns-in_err-expect g c read reads shrinks = first_of (search rules, grind (arith, common_steps))
-
 pub returns-in_err-items : goal.returns-in_err-items
 unfolding braced repeated
 returns-in_err-items g c read reads shrinks =

@@ -3,10 +3,6 @@ use Rattle.std.proofs.lemmas.Grind.{common_steps}
 use Rattle.til_parser.specs.ReadTypes.{bracketed_steps}
 use Rattle.til_parser.proofs.parser.Parser.bracketed.Goals as goal
 
-pub returns-in_err-expect : goal.returns-in_err-expect
-unfolding bracketed_steps
-returns-in_err-expect g c read reads shrinks = first_of (search rules, grind (arith, common_steps))
-
 pub returns-in_err-end : goal.returns-in_err-end
 unfolding bracketed_steps
 returns-in_err-end g c read reads shrinks = let made = c.steps.ensures read reads shrinks in first_of (search rules, grind (arith, common_steps))

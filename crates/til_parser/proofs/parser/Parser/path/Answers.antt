@@ -10,10 +10,6 @@ use Rattle.tydi_reading.proofs.LoopLemmas.{reads-less}
 use Rattle.til_parser.proofs.rules.LeafRules.{Shrinks-next_name}
 use Rattle.til_parser.proofs.parser.Parser.path.Goals as goal
 
-pub returns-in_err-name : goal.returns-in_err-name
-unfolding path joined
-returns-in_err-name c = first_of (search rules, grind (arith, common_steps))
-
 pub repeated-requires : goal.repeated-requires
 repeated-requires c κs = (search rules, (search rules, (search rules, λ p q a k. reads-less {read = expect kinds.DoubleColon >> name} Shrinks-next_name p.now q.now a (search rules))))
 

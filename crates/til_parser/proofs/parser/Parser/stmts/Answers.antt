@@ -1,7 +1,7 @@
 use Rattle.std.proofs.Common.{rules}
 use Rattle.til_parser.specs.ReadDecls.{stmt}
 use Rattle.tydi_reading.proofs.LoopLemmas.{reads-less}
-use Rattle.til_parser.proofs.rules.BodyRules.{Shrinks-stmt}
+use Rattle.til_parser.proofs.rules.DeclRules.{Shrinks-stmt}
 use Rattle.til_parser.proofs.parser.Parser.stmts.Goals as goal
 
 pub braced-requires : goal.braced-requires
