@@ -2,12 +2,13 @@
 use Rattle.std.specs.Prelude.{ℕ, zero, suc, nat_lt, ◌&&◌, Bool, true, false, List, [], ◌∷◌, ◌++◌, Option, Some, None}
 use Rattle.std.specs.Prelude.{option_map, if◌then◌else◌, codes}
 use Rattle.std.specs.Option.{is_some, unwrap_or}
+use Rattle.std.specs.Str.{bytes_eq}
 use Rattle.tydi_base.specs.Name.{name_of}
 use Rattle.tydi_base.specs.Frac.{Fraction}
 use Rattle.tydi_base.specs.declared.place.Place.{Place}
 use Rattle.tydi_reading.specs.Lists.{steps, joined}
 use Rattle.tydi_reading.specs.Named.{named}
-use Rattle.tydi_reading.specs.Reading.{◌>>◌, ◌<$>◌, ◌<&>◌, ◌<<◌, pure, choose, checked, led, optional, too_deep}
+use Rattle.tydi_reading.specs.Reading.{◌>>◌, ◌<$>◌, ◌<&>◌, ◌<<◌, pure, checked, led, optional, too_deep}
 use Rattle.til_lexer.specs.declared.token.TokenKind.{TokenKind}
 use Rattle.til_lexer.specs.declared.token.TokenKind.TheVariants as kinds
 use Rattle.til_parser.specs.declared.arguments.Arguments.{Arguments}
@@ -26,7 +27,7 @@ use Rattle.til_parser.specs.declared.tree.AstPath.{AstPath}
 use Rattle.til_parser.specs.Lexemes.{between_marks}
 use Rattle.til_parser.specs.Numbers.{whole_of, numerator_of, denominator_of, lowest}
 use Rattle.til_parser.specs.Words.{sync_of, type_word_at, argument_at}
-use Rattle.til_parser.specs.Reading.{Reader, is_kind, is_word, begins_type, expect, expect_word, token}
+use Rattle.til_parser.specs.Reading.{Reader, is_kind, begins_type, expect, token}
 
 -- ---- names and numbers
 
@@ -92,9 +93,13 @@ bracketed item = bracketed_steps (one_more item) []
 abbrev pub sync : Reader AstSync
 sync = token kinds.Word (λ place spelling. sync_of spelling)
 
--- which of two words stands next: true for the first
-unfoldable pub either_word : List ℕ → List ℕ → Reader Bool
-either_word first second = choose (is_word first) false ((λ _. true) <$> expect_word first) ((λ _. false) <$> expect_word second)
+-- which of two words a word is: true for the first
+abbrev pub either_of : List ℕ → List ℕ → List ℕ → Option Bool
+either_of first second word = if bytes_eq word first then Some true else if bytes_eq word second then Some false else None
+
+-- which of two words stands next
+abbrev pub either_word : List ℕ → List ℕ → Reader Bool
+either_word first second = token kinds.Word (λ place spelling. either_of first second spelling)
 
 -- no argument is given yet
 abbrev pub none_given : Arguments

@@ -149,18 +149,6 @@ impl<'a> Parser<'a> {
         seen
     }
 
-    /// Takes the next token where it is this word, and says whether it was.
-    pub(crate) fn eat_word(&mut self, word: &str) -> bool
-        ensures seen { result ≡ tells (spec.is_word word.now) false self.old }
-        ensures taken { self.new ≡ (if result then rest_of self.old else self.old) }
-    {
-        let seen = self.sees_word(word);
-        if seen {
-            self.skip();
-        }
-        seen
-    }
-
     /// Takes the next token, which is to be of this kind.
     #[tactic(auto, unfolding(tydi_reading::specs::Lists::mark))]
     pub(crate) fn expect(&mut self, kind: TokenKind) -> Result<(), Fault>

@@ -198,15 +198,18 @@ impl<'a> Parser<'a> {
     }
 
     /// Which of two words stands next: true for the first.
-    #[tactic(auto, unfolding(crate::specs::ReadTypes::either_word, tydi_reading::specs::Lists::mark))]
+    #[tactic(auto, unfolding(crate::specs::Reading::token))]
     pub(crate) fn either_word(&mut self, first: &str, second: &str) -> Result<bool, Fault>
         ensures { ReadsAlways (spec.either_word first.now second.now self.old) result self.new }
     {
-        if self.eat_word(first) {
-            return Ok(true);
-        }
-        self.expect_word(second)?;
-        Ok(false)
+        let Some((_, spelling)) = self.next_of(TokenKind::Word) else {
+            return Err(Fault::Refused);
+        };
+        let Some(is_first) = either_of(first, second, spelling) else {
+            return Err(Fault::Refused);
+        };
+        self.skip();
+        Ok(is_first)
     }
 
     /// `"(" whole ")"`
@@ -218,5 +221,18 @@ impl<'a> Parser<'a> {
         let width = self.whole()?;
         self.expect(TokenKind::CloseParen)?;
         Ok(width)
+    }
+}
+
+/// Which of two words a word is: true for the first.
+fn either_of(first: &str, second: &str, word: &str) -> Option<bool>
+    ensures { result ≡ spec.either_of first.now second.now word.now }
+{
+    if word == first {
+        Some(true)
+    } else if word == second {
+        Some(false)
+    } else {
+        None
     }
 }

@@ -159,7 +159,7 @@ module _ (n : ℕ) where
       (λ (p : AstPort). (p.doc, (p.name, (p.inward, p.ltype))))
       (both (as_flat doc-rule)
       (parted (as_flat name-rule) colon
-      (both (as_flat (either_word-rule way_word refl refl refl)) (as_rule (ltype-rule n)) (λ b y back rest s next. tt) (λ b back rest d. tt)) (λ x front rest s. tt))
+      (both (as_flat (either_word-rule way_word refl refl)) (as_rule (ltype-rule n)) (λ b y back rest s next. tt) (λ b back rest d. tt)) (λ x front rest s. tt))
       (λ d z back rest s next. kind-not kinds.Word kinds.Doc refl (back ++ rest) (name-begins z.0 _ back rest s))
       (λ d back rest e. kind-not kinds.Word kinds.Doc refl (back ++ rest) (name-begins e.0 _ back rest e.1)))
       (λ x. refl) (λ y. refl)

@@ -1,5 +1,5 @@
 -- The rules of names, numbers, marked texts, documentation, paths, and lists in brackets and in braces.
-use Rattle.std.proofs.Common.{◌≡◌, ℕ, suc, ◌+◌, ◌^◌, ◌<◌, ◌≤◌, nat_lt, Bool, true, false, cond, ◌&&◌, ◌||◌, ◌⊎◌, List, [], ◌∷◌, ◌++◌, length}
+use Rattle.std.proofs.Common.{◌≡◌, ℕ, suc, ◌+◌, ◌^◌, ◌<◌, ◌≤◌, nat_lt, Bool, true, false, cond, ◌&&◌, ◌||◌, List, [], ◌∷◌, ◌++◌, length}
 use Rattle.std.proofs.Common.{drop, Option, Some, None, inl, inr, refl, sym, ap, ◌∙◌, subst, bytes_eq, arith, codes, length-append}
 use Rattle.std.specs.Prelude.{not}
 use Rattle.std.specs.Char.{is_ascii_digit}
@@ -18,6 +18,8 @@ use Rattle.tydi_base.proofs.DecimalLaws.{own}
 use Rattle.tydi_reading.specs.Forms.{Never, Anything, ◌⋯◌}
 use Rattle.tydi_reading.specs.Reading.{Reader, Shrinks, tells, ◌>>◌}
 use Rattle.tydi_reading.specs.Rules.{IsRule}
+use Rattle.tydi_reading.specs.Tables.{entry_of}
+use Rattle.std.proofs.lemmas.Slice.Eq.{bytes_eq-Decides}
 use Rattle.tydi_reading.specs.Lists.{Each, EachIs, separated}
 use Rattle.tydi_reading.proofs.RepeatedRule.{Repeats, repeated-rule}
 use Rattle.tydi_reading.proofs.SeparatedRule.{Between, separated-rule}
@@ -25,7 +27,7 @@ use Rattle.til_parser.specs.Nesting.{BracketedTo, BracedTo}
 use Rattle.til_parser.specs.ReadDecls.{braced}
 use Rattle.tydi_reading.proofs.JoinedRule.{joined-rule}
 use Rattle.tydi_reading.proofs.FormLemmas.{front-tells, follows-front}
-use Rattle.tydi_reading.proofs.Rule.{as_rule, as_flat, of_flat, of_mark, skip, close, viewed, Made, either-rule, optional-rule, mark-tells, front-marked, shrinks}
+use Rattle.tydi_reading.proofs.Rule.{as_rule, as_flat, skip, close, viewed, optional-rule, mark-tells, front-marked, shrinks}
 use Rattle.til_lexer.specs.Spelling.{HasForm, IsBetween}
 use Rattle.til_lexer.specs.Spans.{digits_at}
 use Rattle.til_lexer.specs.Places.{start}
@@ -39,10 +41,10 @@ use Rattle.til_parser.specs.Grammar.{Form, One, Of, Word, Commas, Bracketed, Bra
 use Rattle.til_parser.specs.Lexemes.{Lexeme, IsFormed, between_marks}
 use Rattle.til_parser.specs.Numbers.{whole_of, numerator_of, denominator_of, lowest}
 use Rattle.til_parser.specs.ReadTypes.{bracketed, bracketed_steps, name_at, name, whole, number, level_of, level, marked, quoted, doc, path, either_word, sync}
-use Rattle.til_parser.specs.Reading.{same_kind, is_kind, is_word, expect}
+use Rattle.til_parser.specs.Reading.{same_kind, is_kind, expect}
 use Rattle.til_parser.specs.Words.{all_syncs, sync_of}
 use Rattle.til_parser.proofs.numbers.FractionLemmas.{IsReduced-lowest, lowest_from_IsReduced}
-use Rattle.til_parser.proofs.rules.TokenRules.{both, one, made, meant_is, kind_is, kind-not, kind-mark, open_paren, close_paren, open_brace, close_brace, same_kind-is, begins_item, double_colon, word_mark, IsToken, token-rule, table-rule, Word-not_word}
+use Rattle.til_parser.proofs.rules.TokenRules.{both, one, made, meant_is, kind_is, kind-not, kind-mark, open_paren, close_paren, open_brace, close_brace, same_kind-is, begins_item, double_colon, IsToken, token-rule, table-rule}
 
 -- ---- names
 
@@ -223,29 +225,13 @@ doc-begins (Some text) Second front rest second s =
 
 -- ---- one of two words, and of some
 
-module _ (word : Bool → List ℕ) (one : has_name_form (word true) ≡ true) (other : has_name_form (word false) ≡ true) (apart : bytes_eq (word false) (word true) ≡ false) where
-  which_word : (b : Bool) (ts : List Lexeme) → Word (word b) ts → Made (λ (u : Unit {0}). true) (λ _. Word (word true)) b ts ⊎ Made (λ (u : Unit {0}). false) (λ _. Word (word false)) b ts
-  which_word true ts s = inl (tt, refl, s)
-  which_word false ts s = inr (tt, refl, s)
+module _ (word : Bool → List ℕ) (form : has_name_form (word true) ≡ true) (apart : bytes_eq (word false) (word true) ≡ false) where
+  each_word : (b : Bool) → entry_of word (true ∷ false ∷ []) (word b) ≡ Some b
+  each_word true = rw ((bytes_eq-Decides (word true) (word true)).1 refl) refl
+  each_word false = rw (apart, (bytes_eq-Decides (word false) (word false)).1 refl) refl
 
   pub either_word-rule : IsRule IsFormed (either_word (word true) (word false)) (λ b. Word (word b)) (λ _. Anything) (λ _. Unit {0}) Never
-  unfolding either_word
-  either_word-rule =
-      either-rule (is_word (word true)) (λ _. true) (of_flat (of_mark (word_mark (word true) one))) (λ _. false) (of_mark (word_mark (word false) other))
-      (λ b. Word (word b)) (λ _. Anything) (λ _. Unit {0})
-      (record {
-        one = λ u ts s. s;
-        other = λ u ts s. s;
-        which = which_word;
-        one_next = λ u rest next. tt;
-        other_next = λ u rest next. tt;
-        one_begins = λ u. mark-tells (word_mark (word true) one);
-        deep_begins = λ front rest d. absurd d;
-        other_begins = λ u front rest s next. Word-not_word (word false) (word true) apart front rest s;
-        within_one = λ u w. tt;
-        one_within = λ u w. tt;
-        other_within = λ u. tt;
-      })
+  either_word-rule = table-rule word (true ∷ false ∷ []) each_word true form
 
 each_sync : (x : AstSync) → sync_of (sync_word x) ≡ Some x
 each_sync syncs.Sync = refl

@@ -231,9 +231,9 @@ module _ (inner : Reader Lexeme AstType) (W : AstType → Type 0) (D : Form) (ru
   value-rule arguments.Dimensionality = no_type whole-rule
   value-rule arguments.Synchronicity = no_type sync-rule
   value-rule arguments.Complexity = no_type level-rule
-  value-rule arguments.Direction = no_type (either_word-rule direction_word refl refl refl)
+  value-rule arguments.Direction = no_type (either_word-rule direction_word refl refl)
   value-rule arguments.User = (skip colon (as_rule rule)).is
-  value-rule arguments.Keep = no_type (either_word-rule truth_word refl refl refl)
+  value-rule arguments.Keep = no_type (either_word-rule truth_word refl refl)
 
   added-is : (name : Argument) (given : Arguments) (ts : List Lexeme) → ((λ x. put name x given) <$> (expect kinds.Colon >> value_of inner name)) ts ≡ read.value inner name given ts
   added-is arguments.Data given ts = refl

@@ -118,13 +118,6 @@ close_paren = kind_mark kinds.CloseParen (codes ")") refl
 pub Of-not : (kind other : TokenKind) → same_kind kind other ≡ false → (front rest : List Lexeme) → Of kind front → tells (is_kind other) false (front ++ rest) ≡ false
 Of-not kind other apart front rest s = rw (s.all, s.is) apart
 
-and_false : (b : Bool) → (b && false) ≡ false
-and_false true = refl
-and_false false = refl
-
-pub Word-not_word : (word other : List ℕ) → bytes_eq word other ≡ false → (front rest : List Lexeme) → Word word front → tells (is_word other) false (front ++ rest) ≡ false
-Word-not_word word other apart front rest s = rw (s.all, s.is.kind, s.is.text, apart) (and_false (same_kind kinds.Word kinds.Word))
-
 -- a token of one kind is of no other
 pub kind-apart : (kind other : TokenKind) → same_kind kind other ≡ false → (t : Lexeme) → is_kind kind t ≡ true → is_kind other t ≡ false
 kind-apart kind other apart t is = rw (kind_is t.kind kind is) apart
