@@ -1,3 +1,4 @@
+pub mod Common
 pub mod TokenRules
 pub mod LeafRules
 pub mod StreamFields

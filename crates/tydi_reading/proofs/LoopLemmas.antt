@@ -38,7 +38,7 @@ loop_unfolds turn advances s ts =
 
 -- ---- lists
 
-took-both : {T A : Type 0} (x y : A) (ts rest : List T) → ◌≡◌ {A = Outcome T A} (took x ts) (took y rest) → (x ≡ y) × (ts ≡ rest)
+pub took-both : {T A : Type 0} (x y : A) (ts rest : List T) → ◌≡◌ {A = Outcome T A} (took x ts) (took y rest) → (x ≡ y) × (ts ≡ rest)
 took-both x y ts rest is = (cc, cc)
 
 no_again : {S : Type 0} (s next : S) (Goal : Type 0) → ◌≡◌ {A = Turn S} (done s) (again next) → Goal

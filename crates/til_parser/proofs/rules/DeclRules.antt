@@ -1,39 +1,25 @@
 -- The rules of bodies, ports, and what follows the keyword of a declaration.
-use Rattle.std.proofs.Common.{◌≡◌, ◌⊎◌, inl, inr, ⊎_elim, false, List, ◌++◌, Option, Some, None, refl, sym, subst, ℕ, Bool, [], ◌∷◌, codes}
-use Rattle.tydi_reading.specs.Forms.{Never, Anything, ◌⋯◌}
-use Rattle.tydi_reading.specs.Lists.{Each}
-use Rattle.tydi_reading.specs.Reading.{Shrinks, tells, choose}
-use Rattle.tydi_reading.specs.Rules.{IsRule}
-use Rattle.tydi_reading.proofs.RepeatedRule.{Begins, begins-repeats, each_unit}
-use Rattle.tydi_reading.proofs.FormLemmas.{front-tells, with_ends, regroup, ungroup}
-use Rattle.tydi_reading.proofs.Rule.{as_rule, as_flat, of_flat, flat, flat_skip, flat_close, both, flat_parted, viewed, Made, either-rule, optional-rule, front-marked, respelled, shrinks, skip, parted, made-rule}
-use Rattle.tydi_reading.proofs.StepRules.{Chained, chain-rule}
+use Rattle.til_parser.proofs.rules.Common.{◌≡◌, ◌⊎◌, inl, inr, ⊎_elim, false, List, ◌++◌, Option, Some, None, refl, sym, subst, ℕ, Bool, [], ◌∷◌, codes, Never, Anything, ◌⋯◌}
+use Rattle.til_parser.proofs.rules.Common.{Each, Shrinks, tells, choose, IsRule, Begins, begins-repeats, each_unit, front-tells, with_ends, regroup, ungroup, as_rule, as_flat}
+use Rattle.til_parser.proofs.rules.Common.{of_flat, flat, flat_skip, flat_close, both, flat_parted, viewed, Made, either-rule, optional-rule, front-marked, respelled, shrinks}
+use Rattle.til_parser.proofs.rules.Common.{skip, parted, made-rule, Chained, chain-rule, AstName, AstPath, Form, Of, Name, Path, Quoted, Braced, SpellsEnd, Second, SpellsStmt}
+use Rattle.til_parser.proofs.rules.Common.{SpellsBody, Word, SpellsPort, SpellsPorts, SpellsStreamletPorts, SpellsKind, StreamletWithin, PortsWithin, KindWithin, way_word}
+use Rattle.til_parser.proofs.rules.Common.{Lexeme, IsFormed, same_kind, is_kind, name, one_more, bracketed, second, end, link_from, instance_of, stmt, body, port}
+use Rattle.til_parser.proofs.rules.Common.{streamlet_ports, keyword, impl_kind, test_kind, kind_of, mapped-less, Keyword, AstType, AstKind, PortTo, PortsTo, RestTo}
+use Rattle.til_parser.proofs.rules.Common.{keyword_word, all_keywords, keyword_of}
 use Rattle.til_lexer.specs.declared.token.TokenKind.TheVariants as kinds
 use Rattle.til_parser.specs.declared.tree.AstBody.{AstBody}
 use Rattle.til_parser.specs.declared.tree.AstBody.TheVariants as bodies
 use Rattle.til_parser.specs.declared.tree.AstEnd.{AstEnd}
-use Rattle.til_parser.specs.declared.tree.AstName.{AstName}
-use Rattle.til_parser.specs.declared.tree.AstPath.{AstPath}
 use Rattle.til_parser.specs.declared.tree.AstStmt.{AstStmt}
 use Rattle.til_parser.specs.declared.tree.AstStmt.TheVariants as stmts
-use Rattle.til_parser.specs.Grammar.{Form, Of, Name, Path, Quoted, Braced, SpellsEnd, Second, SpellsStmt, SpellsBody, Word, SpellsPort, SpellsPorts, SpellsStreamletPorts, SpellsKind, StreamletWithin, PortsWithin, KindWithin, way_word}
-use Rattle.til_parser.specs.Lexemes.{Lexeme, IsFormed}
-use Rattle.til_parser.specs.Reading.{same_kind, is_kind}
-use Rattle.til_parser.specs.ReadTypes.{name, one_more, bracketed}
-use Rattle.til_parser.specs.ReadDecls.{second, end, link_from, instance_of, stmt, body, port, streamlet_ports, keyword, impl_kind, test_kind, kind_of}
 use Rattle.til_parser.proofs.rules.LeafRules.{name-begins, name-rule, path-rule, quoted-rule, braced-rule, Of-path, PathNext, path-front, doc-rule, doc-begins, either_word-rule, bracketed-rule, Word-path}
 use Rattle.til_parser.proofs.rules.TokenRules.{Of-not, same_kind-is, kind-apart, double_dash, equals, point, semicolon, word_mark, colon, open_paren, begins_item, item-apart, kind-not, table-rule}
-use Rattle.tydi_reading.proofs.LoopLemmas.{mapped-less}
-use Rattle.til_parser.specs.declared.keyword.Keyword.{Keyword}
 use Rattle.til_parser.specs.declared.keyword.Keyword.TheVariants as keywords
-use Rattle.til_parser.specs.declared.ltype.AstType.{AstType}
-use Rattle.til_parser.specs.declared.tree.AstKind.{AstKind}
 use Rattle.til_parser.specs.declared.tree.AstKind.TheVariants as decls
 use Rattle.til_parser.specs.declared.tree.AstPort.{AstPort}
 use Rattle.til_parser.specs.declared.tree.AstPorts.{AstPorts}
 use Rattle.til_parser.specs.declared.tree.AstPorts.TheVariants as ports
-use Rattle.til_parser.specs.Nesting.{PortTo, PortsTo, RestTo}
-use Rattle.til_parser.specs.Words.{keyword_word, all_keywords, keyword_of}
 use Rattle.til_parser.proofs.rules.StreamFields.{S}
 use Rattle.til_parser.proofs.rules.TypeRules.{Fits, ltype-rule}
 

@@ -1,50 +1,29 @@
 -- The rules of names, numbers, marked texts, documentation, paths, and lists in brackets and in braces.
-use Rattle.std.proofs.Common.{◌≡◌, ℕ, suc, ◌+◌, ◌^◌, ◌<◌, ◌≤◌, nat_lt, Bool, true, false, cond, ◌&&◌, ◌||◌, List, [], ◌∷◌, ◌++◌, length}
-use Rattle.std.proofs.Common.{drop, Option, Some, None, inl, inr, refl, sym, ap, ◌∙◌, subst, bytes_eq, arith, codes, length-append}
-use Rattle.std.specs.Prelude.{not}
+use Rattle.til_parser.proofs.rules.Common.{◌≡◌, ℕ, suc, ◌+◌, ◌^◌, ◌<◌, ◌≤◌, nat_lt, Bool, true, false, cond, ◌&&◌, ◌||◌, List, [], ◌∷◌, ◌++◌, length, drop, Option, Some, None}
+use Rattle.til_parser.proofs.rules.Common.{inl, inr, refl, sym, ap, ◌∙◌, subst, bytes_eq, arith, codes, length-append, not, list_all, none-some, same_Some, cond_some, is_name}
+use Rattle.til_parser.proofs.rules.Common.{name_of, has_name_form, Place, Never, Anything, ◌⋯◌, Reader, Shrinks, tells, ◌>>◌, IsRule, entry_of, bytes_eq-Decides, Each, EachIs}
+use Rattle.til_parser.proofs.rules.Common.{separated, Repeats, repeated-rule, BracketedTo, BracedTo, braced, front-tells, follows-front, as_rule, as_flat, skip, close, viewed}
+use Rattle.til_parser.proofs.rules.Common.{optional-rule, mark-tells, front-marked, shrinks, HasForm, IsBetween, start, TokenKind, AstName, AstPath, Form, One, Of, Word}
+use Rattle.til_parser.proofs.rules.Common.{Commas, Bracketed, Braced, IsNamed, Name, IsWhole, Whole, IsNumber, Number, IsMarked, Quoted, Doc, Level, Path, sync_word, Lexeme}
+use Rattle.til_parser.proofs.rules.Common.{IsFormed, between_marks, whole_of, numerator_of, denominator_of, lowest, bracketed, bracketed_steps, name_at, name, whole, number}
+use Rattle.til_parser.proofs.rules.Common.{level_of, level, marked, quoted, doc, path, either_word, sync, same_kind, is_kind, expect, all_syncs, sync_of}
 use Rattle.std.specs.Char.{is_ascii_digit}
-use Rattle.std.specs.List.{list_all}
 use Rattle.std.proofs.lemmas.Bool.Decides.{nat_tests}
-use Rattle.std.proofs.lemmas.Option.{none-some, same_Some, cond_some}
 use Rattle.std.proofs.lemmas.Str.{IsUtf8-nil}
 use Rattle.std.proofs.Math.Nat.{pow-le-pow_right}
 use Rattle.std.proofs.lemmas.Int.Digits.{digits_value-lt}
 use Rattle.tydi_base.specs.Decimal.{read_on, below}
 use Rattle.tydi_base.specs.Frac.{IsReduced}
 use Rattle.tydi_base.specs.Level.{IsLevel}
-use Rattle.tydi_base.specs.Name.{is_name, name_of, has_name_form}
-use Rattle.tydi_base.specs.declared.place.Place.{Place}
 use Rattle.tydi_base.proofs.DecimalLaws.{own}
-use Rattle.tydi_reading.specs.Forms.{Never, Anything, ◌⋯◌}
-use Rattle.tydi_reading.specs.Reading.{Reader, Shrinks, tells, ◌>>◌}
-use Rattle.tydi_reading.specs.Rules.{IsRule}
-use Rattle.tydi_reading.specs.Tables.{entry_of}
-use Rattle.std.proofs.lemmas.Slice.Eq.{bytes_eq-Decides}
-use Rattle.tydi_reading.specs.Lists.{Each, EachIs, separated}
-use Rattle.tydi_reading.proofs.RepeatedRule.{Repeats, repeated-rule}
 use Rattle.tydi_reading.proofs.SeparatedRule.{Between, separated-rule}
-use Rattle.til_parser.specs.Nesting.{BracketedTo, BracedTo}
-use Rattle.til_parser.specs.ReadDecls.{braced}
 use Rattle.tydi_reading.proofs.JoinedRule.{joined-rule}
-use Rattle.tydi_reading.proofs.FormLemmas.{front-tells, follows-front}
-use Rattle.tydi_reading.proofs.Rule.{as_rule, as_flat, skip, close, viewed, optional-rule, mark-tells, front-marked, shrinks}
-use Rattle.til_lexer.specs.Spelling.{HasForm, IsBetween}
 use Rattle.til_lexer.specs.Spans.{digits_at}
-use Rattle.til_lexer.specs.Places.{start}
-use Rattle.til_lexer.specs.declared.token.TokenKind.{TokenKind}
 use Rattle.til_lexer.specs.declared.token.TokenKind.TheVariants as kinds
 use Rattle.til_parser.specs.declared.ltype.AstSync.{AstSync}
 use Rattle.til_parser.specs.declared.ltype.AstSync.TheVariants as syncs
-use Rattle.til_parser.specs.declared.tree.AstName.{AstName}
-use Rattle.til_parser.specs.declared.tree.AstPath.{AstPath}
-use Rattle.til_parser.specs.Grammar.{Form, One, Of, Word, Commas, Bracketed, Braced, IsNamed, Name, IsWhole, Whole, IsNumber, Number, IsMarked, Quoted, Doc, Level, Path, sync_word}
-use Rattle.til_parser.specs.Lexemes.{Lexeme, IsFormed, between_marks}
-use Rattle.til_parser.specs.Numbers.{whole_of, numerator_of, denominator_of, lowest}
-use Rattle.til_parser.specs.ReadTypes.{bracketed, bracketed_steps, name_at, name, whole, number, level_of, level, marked, quoted, doc, path, either_word, sync}
-use Rattle.til_parser.specs.Reading.{same_kind, is_kind, expect}
-use Rattle.til_parser.specs.Words.{all_syncs, sync_of}
 use Rattle.til_parser.proofs.numbers.FractionLemmas.{IsReduced-lowest, lowest_from_IsReduced}
-use Rattle.til_parser.proofs.rules.TokenRules.{both, one, made, meant_is, kind_is, kind-not, kind-mark, open_paren, close_paren, open_brace, close_brace, same_kind-is, begins_item, double_colon, IsToken, token-rule, table-rule}
+use Rattle.til_parser.proofs.rules.TokenRules.{both, one, made, meant_is, kind_is, kind-not, comma, open_paren, close_paren, open_brace, close_brace, same_kind-is, begins_item, double_colon, IsToken, token-rule, table-rule}
 
 -- ---- names
 
@@ -284,7 +263,7 @@ module _ {A : Type 0} {item : Reader Lexeme A} {Item : A → Form} {Within : A �
     between : Between IsFormed (is_kind kinds.CloseParen) false (is_kind kinds.Comma) (Of kinds.Comma) Item PathNext Deep
     unfolding same_kind
     between = record {
-      mark = kind-mark kinds.Comma (codes ",") refl;
+      mark = comma.is;
       repeats = repeats;
       before_end = λ rest is. kind-path kinds.CloseParen refl rest is;
       before_separator = λ t rest is. kind-path kinds.Comma refl (t ∷ rest) is;

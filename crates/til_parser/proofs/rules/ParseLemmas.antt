@@ -1,25 +1,15 @@
 -- The reader of projects: what it reads, and why it stops.
-use Rattle.std.proofs.Common.{◌≡◌, ◌≢◌, ℕ, zero, suc, ◌<◌, ⊎_elim, inl, inr, true, false, List, [], ◌∷◌, All, length, Err, Ok, refl, sym, ap, ◌∙◌, subst}
+use Rattle.til_parser.proofs.rules.Common.{◌≡◌, ◌≢◌, ℕ, zero, suc, ◌<◌, ⊎_elim, inl, inr, true, false, List, [], ◌∷◌, All, length, Err, Ok, refl, sym, ap, ◌∙◌, subst, repeated}
+use Rattle.til_parser.proofs.rules.Common.{Outcome, took, stopped, and_then, meant, repeated-all, took-both, Ast, AstNamespace, Spells, IsWithin, Lexeme, IsFormed, ProjectTo}
+use Rattle.til_parser.proofs.rules.Common.{namespace, project_of, project}
 use Rattle.tydi_reading.specs.declared.fault.Fault.{Fault}
 use Rattle.tydi_reading.specs.declared.fault.Fault.TheVariants as reading
 use Rattle.tydi_reading.specs.Faults.{Stop, refused, cut_off, deep, IsStop, stop_at}
-use Rattle.tydi_reading.specs.Lists.{repeated}
-use Rattle.tydi_reading.specs.Reading.{Outcome, took, stopped, and_then, meant}
-use Rattle.tydi_reading.proofs.LoopLemmas.{repeated-all}
 use Rattle.tydi_reading.proofs.StopLemmas as all
 use Rattle.til_parser.specs.declared.fault.ParseFault.{ParseFault}
 use Rattle.til_parser.specs.declared.fault.ParseFault.TheVariants as faults
-use Rattle.til_parser.specs.declared.tree.Ast.{Ast}
-use Rattle.til_parser.specs.declared.tree.AstNamespace.{AstNamespace}
 use Rattle.til_parser.specs.Faults.{NamesToken, fault_at, IsFaultOf, IsTold, TreeOrFault}
-use Rattle.til_parser.specs.Grammar.{Spells, IsWithin}
-use Rattle.til_parser.specs.Lexemes.{Lexeme, IsFormed}
-use Rattle.til_parser.specs.Nesting.{ProjectTo}
-use Rattle.til_parser.specs.ReadDecls.{namespace, project_of, project}
 use Rattle.til_parser.proofs.rules.ProjectRules.{AtEnd, project-rule}
-
-took-both : {A : Type 0} (x y : A) (ts rest : List Lexeme) → ◌≡◌ {A = Outcome Lexeme A} (took x ts) (took y rest) → (x ≡ y) × (ts ≡ rest)
-took-both x y ts rest is = (cc, cc)
 
 -- ---- what is read
 

@@ -1,31 +1,13 @@
 -- The rules of declarations, namespaces and projects.
-use Rattle.std.proofs.Common.{◌≡◌, ℕ, ◌<◌, true, false, List, [], ◌∷◌, ◌++◌, length, Option, Some, None, refl, sym, ap, subst, arith, codes}
-use Rattle.std.proofs.lemmas.Option.{none-some, same_Some}
-use Rattle.std.proofs.lemmas.List.{append-nil}
-use Rattle.tydi_reading.specs.Forms.{Anything, ◌⋯◌, Past, GoesOn}
-use Rattle.tydi_reading.specs.Lists.{Each, EachIs, repeated}
-use Rattle.tydi_reading.specs.Reading.{Shrinks, tells, ◌<&>◌}
-use Rattle.tydi_reading.specs.Rules.{IsRule}
+use Rattle.til_parser.proofs.rules.Common.{◌≡◌, ℕ, ◌<◌, true, false, List, [], ◌∷◌, ◌++◌, length, Option, Some, None, refl, sym, ap, subst, arith, codes, none-some, same_Some}
+use Rattle.til_parser.proofs.rules.Common.{append-nil, Anything, ◌⋯◌, Past, GoesOn, Each, EachIs, repeated, Shrinks, tells, ◌<&>◌, IsRule, front-tells, follows-front, Begins}
+use Rattle.til_parser.proofs.rules.Common.{begins-filled, begins-repeats, repeated-rule, as_rule, as_flat, skip, close, both, viewed, respelled, shrinks, chain-rule, Keyword}
+use Rattle.til_parser.proofs.rules.Common.{Ast, AstKind, AstName, AstNamespace, AstPath, Form, Of, Word, Name, SpellsKind, SpellsDecl, SpellsNamespace, Spells, KindWithin}
+use Rattle.til_parser.proofs.rules.Common.{DeclsWithin, IsWithin, Lexeme, IsFormed, RestTo, KindTo, DeclTo, NamespaceTo, ProjectTo, same_kind, is_kind, name, keyword, kind_of}
+use Rattle.til_parser.proofs.rules.Common.{named_kind, decl, namespace, project_of, project, keyword_word}
 use Rattle.tydi_reading.proofs.CheckedRule.{Checks, checked-rule}
-use Rattle.tydi_reading.proofs.FormLemmas.{front-tells, follows-front}
-use Rattle.tydi_reading.proofs.RepeatedRule.{Begins, begins-filled, begins-repeats, repeated-rule}
-use Rattle.tydi_reading.proofs.Rule.{as_rule, as_flat, skip, close, both, viewed, respelled, shrinks}
-use Rattle.tydi_reading.proofs.StepRules.{chain-rule}
 use Rattle.til_lexer.specs.declared.token.TokenKind.TheVariants as kinds
-use Rattle.til_parser.specs.declared.keyword.Keyword.{Keyword}
-use Rattle.til_parser.specs.declared.tree.Ast.{Ast}
 use Rattle.til_parser.specs.declared.tree.AstDecl.{AstDecl}
-use Rattle.til_parser.specs.declared.tree.AstKind.{AstKind}
-use Rattle.til_parser.specs.declared.tree.AstName.{AstName}
-use Rattle.til_parser.specs.declared.tree.AstNamespace.{AstNamespace}
-use Rattle.til_parser.specs.declared.tree.AstPath.{AstPath}
-use Rattle.til_parser.specs.Grammar.{Form, Of, Word, Name, SpellsKind, SpellsDecl, SpellsNamespace, Spells, KindWithin, DeclsWithin, IsWithin}
-use Rattle.til_parser.specs.Lexemes.{Lexeme, IsFormed}
-use Rattle.til_parser.specs.Nesting.{RestTo, KindTo, DeclTo, NamespaceTo, ProjectTo}
-use Rattle.til_parser.specs.Reading.{same_kind, is_kind}
-use Rattle.til_parser.specs.ReadTypes.{name}
-use Rattle.til_parser.specs.ReadDecls.{keyword, kind_of, named_kind, decl, namespace, project_of, project}
-use Rattle.til_parser.specs.Words.{keyword_word}
 use Rattle.til_parser.proofs.rules.DeclRules.{kind_parts, kind_of_parts, KindForm, keyword-rule, kind-rule_of}
 use Rattle.til_parser.proofs.rules.LeafRules.{PathNext, NoDoc, name-rule, path-rule, doc-rule, doc-begins, braced-rule, Of-path}
 use Rattle.til_parser.proofs.rules.TokenRules.{same_kind-is, word_mark, semicolon, begins_item, item-apart, kind-not}

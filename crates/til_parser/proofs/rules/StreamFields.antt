@@ -1,39 +1,24 @@
 -- The arguments of a Stream: what is given of each, the Stream that is made of it, and their rule.
-use Rattle.std.proofs.Common.{◌≡◌, ◌⊎◌, inl, inr, true, false, Option, Some, None, option_map, refl, sym, ap, ◌∙◌, ⊎_elim, List, ◌∷◌, subst, codes}
-use Rattle.std.proofs.lemmas.Option.{none-some, same_Some}
-use Rattle.std.specs.List.{Contains}
-use Rattle.std.specs.Option.{is_some, unwrap_or}
-use Rattle.tydi_reading.specs.Named.{AreApart, argument}
-use Rattle.tydi_reading.proofs.ContainsLemmas.{same_or_not, has-Contains, are_apart-apart, has}
+use Rattle.til_parser.proofs.rules.Common.{◌≡◌, ◌⊎◌, inl, inr, true, false, Option, Some, None, option_map, refl, sym, ap, ◌∙◌, ⊎_elim, List, ◌∷◌, subst, none-some}
+use Rattle.til_parser.proofs.rules.Common.{same_Some, Contains, is_some, unwrap_or, AreApart, argument, same_or_not, has-Contains, are_apart-apart, has, Fields, step-shrinks}
+use Rattle.til_parser.proofs.rules.Common.{Arguments, Argument, AstType, AstStream, roll-AstStream, Form, IsDefault, SpellsType, Of, Word, Whole, Number, Level, Bracketed}
+use Rattle.til_parser.proofs.rules.Common.{argument_word, sync_word, direction_word, truth_word, lowest, divisor_from, Value, field, put, is_given, none_given, filled}
+use Rattle.til_parser.proofs.rules.Common.{stream_of, value_of, stream, plain, settings_of, all_arguments, argument_of, argument_at, Never, Anything, ◌⋯◌, Reader, Shrinks}
+use Rattle.til_parser.proofs.rules.Common.{◌>>◌, ◌<$>◌, IsRule, as_rule, as_flat, of_flat, fewer, skip, flat_skip, close, mark-tells, Lexeme, IsFormed, ValueTo, SpellsArgument}
+use Rattle.til_parser.proofs.rules.Common.{ArgumentsTo, same_kind, is_kind, expect}
 use Rattle.til_parser.specs.contracts.keyword.Argument.{the_type}
-use Rattle.tydi_reading.proofs.NamedSteps.{Fields, Between, step-shrinks}
-use Rattle.til_parser.specs.declared.arguments.Arguments.{Arguments}
-use Rattle.til_parser.specs.declared.keyword.Argument.{Argument}
+use Rattle.tydi_reading.proofs.NamedSteps.{Between}
 use Rattle.til_parser.specs.declared.keyword.Argument.TheVariants as arguments
-use Rattle.til_parser.specs.declared.ltype.AstType.{AstType}
 use Rattle.til_parser.specs.declared.ltype.AstType.TheVariants as types
-use Rattle.til_parser.specs.declared.ltype.AstStream.{AstStream, roll-AstStream}
 use Rattle.til_parser.specs.declared.ltype.AstSync.TheVariants as syncs
-use Rattle.til_parser.specs.Grammar.{Form, IsDefault, SpellsType, Of, Word, Whole, Number, Level, Bracketed, argument_word, sync_word, direction_word, truth_word}
 use Rattle.til_parser.specs.Grammar as grammar
-use Rattle.til_parser.specs.Numbers.{lowest, divisor_from}
-use Rattle.til_parser.specs.ReadTypes.{Value, field, put, is_given, none_given, filled, stream_of, value_of, stream}
-use Rattle.til_parser.specs.Tree.{plain, settings_of}
-use Rattle.til_parser.specs.Words.{all_arguments, argument_of, argument_at}
 use Rattle.til_parser.proofs.PlainLemmas.{plain-Null, plain-injective}
-use Rattle.tydi_reading.specs.Forms.{Never, Anything, ◌⋯◌}
-use Rattle.tydi_reading.specs.Reading.{Reader, Shrinks, ◌>>◌, ◌<$>◌}
-use Rattle.tydi_reading.specs.Rules.{IsRule}
 use Rattle.tydi_reading.proofs.NamedRule.{Defaults, named-rule}
 use Rattle.tydi_reading.proofs.NamedSteps as steps
-use Rattle.tydi_reading.proofs.Rule.{as_rule, as_flat, of_flat, fewer, skip, flat_skip, close, mark-tells}
 use Rattle.til_lexer.specs.declared.token.TokenKind.TheVariants as kinds
-use Rattle.til_parser.specs.Lexemes.{Lexeme, IsFormed}
-use Rattle.til_parser.specs.Nesting.{ValueTo, SpellsArgument, ArgumentsTo}
-use Rattle.til_parser.specs.Reading.{same_kind, is_kind, expect}
 use Rattle.til_parser.specs.ReadTypes as read
 use Rattle.til_parser.proofs.rules.LeafRules.{PathNext, number-rule, whole-rule, level-rule, sync-rule, either_word-rule, kind-path}
-use Rattle.til_parser.proofs.rules.TokenRules.{made, kind-not, colon, open_paren, close_paren, kind-mark, word_at-word, word_at-made, word_at-there, word_at-back}
+use Rattle.til_parser.proofs.rules.TokenRules.{made, kind-not, colon, open_paren, close_paren, comma, word_at-word, word_at-made, word_at-there, word_at-back}
 
 -- ---- the names
 
@@ -264,7 +249,7 @@ module _ (inner : Reader Lexeme AstType) (W : AstType → Type 0) (D : Form) (ru
   between : Between IsFormed (is_kind kinds.CloseParen) false (is_kind kinds.Comma) (Of kinds.Comma) argument_at PathNext
   unfolding same_kind
   between = record {
-    mark = kind-mark kinds.Comma (codes ",") refl;
+    mark = comma.is;
     starts = λ name t is. rw ((word_at-word argument_word all_arguments each_argument t name is).kind) refl;
     before_end = λ rest is. kind-path kinds.CloseParen refl rest is;
     before_separator = λ t rest is. kind-path kinds.Comma refl (t ∷ rest) is;

@@ -1,29 +1,12 @@
 -- The rules of one token: of a kind, a word, or a token of a kind with a meaning.
-use Rattle.std.proofs.Common.{◌≡◌, ℕ, Bool, true, false, cond, ◌&&◌, ◌||◌, List, [], ◌∷◌, ◌++◌, All, Option, Some, None, option_and_then, refl, sym, ap, ◌∙◌, subst, bytes_eq, codes, T}
-use Rattle.std.proofs.lemmas.Option.{none-some}
-use Rattle.std.proofs.lemmas.Slice.Eq.{bytes_eq-Decides}
-use Rattle.std.proofs.lemmas.List.Elements.{All-head}
+use Rattle.til_parser.proofs.rules.Common.{◌≡◌, ℕ, Bool, true, false, cond, ◌&&◌, ◌||◌, List, [], ◌∷◌, ◌++◌, All, Option, Some, None, option_and_then, refl, sym, ap, ◌∙◌}
+use Rattle.til_parser.proofs.rules.Common.{subst, bytes_eq, codes, none-some, bytes_eq-Decides, All-head, Place, Never, Anything, meant, leaf, tells, IsRule, entry_of}
+use Rattle.til_parser.proofs.rules.Common.{entry-word, word_at, begins-apart, Mark, leaf-rule, read-rule, TokenKind, start, HasForm, has_name_form, Form, One, Of, IsWord, Word}
+use Rattle.til_parser.proofs.rules.Common.{Lexeme, IsFormed, same_kind, is_kind, is_word, token}
 use denote.Enum.Bare.{same_true, true_same}
-use Rattle.tydi_base.specs.declared.place.Place.{Place}
-use Rattle.tydi_reading.specs.Forms.{Never, Anything}
-use Rattle.tydi_reading.specs.Reading.{meant, leaf, tells}
-use Rattle.tydi_reading.specs.Rules.{IsRule}
-use Rattle.tydi_reading.specs.Tables.{entry_of}
-use Rattle.tydi_reading.proofs.TableLemmas.{entry-word}
-use Rattle.til_parser.specs.Words.{word_at}
 use Rattle.tydi_reading.proofs.MarkLemmas.{IsMark}
-use Rattle.tydi_reading.proofs.RepeatedRule.{begins-apart}
-use Rattle.tydi_reading.proofs.Rule.{Mark}
-use Rattle.tydi_reading.proofs.StepRules.{leaf-rule, read-rule}
 use Rattle.til_lexer.specs.contracts.token.TokenKind.{the_type}
-use Rattle.til_lexer.specs.declared.token.TokenKind.{TokenKind}
 use Rattle.til_lexer.specs.declared.token.TokenKind.TheVariants as kinds
-use Rattle.til_lexer.specs.Places.{start}
-use Rattle.til_lexer.specs.Spelling.{HasForm}
-use Rattle.tydi_base.specs.Name.{has_name_form}
-use Rattle.til_parser.specs.Grammar.{Form, One, Of, IsWord, Word}
-use Rattle.til_parser.specs.Lexemes.{Lexeme, IsFormed}
-use Rattle.til_parser.specs.Reading.{same_kind, is_kind, is_word, token}
 
 -- ---- kinds and words
 
@@ -37,10 +20,7 @@ same_kind-is one other is = true_same the_type one other is
 
 pub both : (b c : Bool) → (b && c) ≡ true → (b ≡ true) × (c ≡ true)
 both true c e = (refl, e)
-both false c e = absurd (no_true e)
-  where
-    no_true : false ≡ true → ⊥
-    no_true e = subst T (sym e) tt
+both false c e = absurd cc
 
 pub word_is : (word : List ℕ) (lexeme : Lexeme) → is_word word lexeme ≡ true → IsWord word lexeme
 word_is word lexeme same =
@@ -57,30 +37,33 @@ one Is lexeme is = record { lexeme = lexeme; all = refl; is = is }
 abbrev pub made : TokenKind → List ℕ → Lexeme
 made kind spelling = record { kind = kind; spelling = spelling; place = start }
 
-pub kind-mark : (kind : TokenKind) (spelling : List ℕ) → HasForm kind spelling → IsMark IsFormed (is_kind kind) (Of kind)
-kind-mark kind spelling form = record {
-  thing = made kind spelling;
-  good = form;
-  holds = same_kind-is kind kind refl;
-  there = λ t is. one (λ lexeme. lexeme.kind ≡ kind) t (kind_is t.kind kind is);
-  back = λ ts s. (s.lexeme, s.all, same_kind-is s.lexeme.kind kind s.is);
-}
-
-pub word-mark : (word : List ℕ) → has_name_form word ≡ true → IsMark IsFormed (is_word word) (Word word)
-word-mark word form = record {
-  thing = made kinds.Word word;
-  good = form;
-  holds = is_word-is word (made kinds.Word word) (record { kind = refl; text = refl });
-  there = λ t is. one (IsWord word) t (word_is word t is);
-  back = λ ts s. (s.lexeme, s.all, is_word-is word s.lexeme s.is);
+pub token-mark : (test : Lexeme → Bool) (Is : Lexeme → Type 0) → ((t : Lexeme) → test t ≡ true → Is t) → ((t : Lexeme) → Is t → test t ≡ true)
+    → (thing : Lexeme) → IsFormed thing → Is thing → IsMark IsFormed test (One Is)
+token-mark test Is to from thing good is = record {
+  thing = thing;
+  good = good;
+  holds = from thing is;
+  there = λ t holds. one Is t (to t holds);
+  back = λ ts s. (s.lexeme, s.all, from s.lexeme s.is);
 }
 
 -- a token of this kind, and this word
 abbrev pub kind_mark : (kind : TokenKind) (spelling : List ℕ) → HasForm kind spelling → Mark IsFormed
-kind_mark kind spelling form = record { test = is_kind kind; Spelled = Of kind; is = kind-mark kind spelling form }
+kind_mark kind spelling form = record {
+  test = is_kind kind;
+  Spelled = Of kind;
+  is = token-mark (is_kind kind) (λ t. t.kind ≡ kind) (λ t. kind_is t.kind kind) (λ t. same_kind-is t.kind kind) (made kind spelling) form refl;
+}
 
 abbrev pub word_mark : (word : List ℕ) → has_name_form word ≡ true → Mark IsFormed
-word_mark word form = record { test = is_word word; Spelled = Word word; is = word-mark word form }
+word_mark word form = record {
+  test = is_word word;
+  Spelled = Word word;
+  is = token-mark (is_word word) (IsWord word) (word_is word) (is_word-is word) (made kinds.Word word) form (record { kind = refl; text = refl });
+}
+
+abbrev pub comma : Mark IsFormed
+comma = kind_mark kinds.Comma (codes ",") refl
 
 abbrev pub colon : Mark IsFormed
 colon = kind_mark kinds.Colon (codes ":") refl

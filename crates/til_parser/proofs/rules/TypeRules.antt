@@ -1,45 +1,21 @@
 -- The rules of types: the word with which one begins, its parts, a type by the types inside it, and types of so many levels.
-use Rattle.std.proofs.Common.{◌≡◌, ◌↔◌, ℕ, zero, suc, ◌≤◌, ◌⊎◌, inl, inr, ⊎_elim, true, false, List, [], ◌∷◌, ◌++◌, All, Option, Some, None, refl, sym, ap, ◌∙◌, subst, arith, codes, true≢false}
-use Rattle.std.specs.List.{Contains}
-use Rattle.std.specs.Option.{is_some}
-use Rattle.std.proofs.lemmas.List.{append-nil}
-use Rattle.std.proofs.lemmas.List.Elements.{All-nil, All-cons, All-head, All-append}
-use Rattle.tydi_base.specs.Name.{is_name, has_name_form}
-use Rattle.tydi_reading.specs.Forms.{Never, Anything, Nothing, ◌⋯◌, GoesOn}
-use Rattle.tydi_reading.specs.Lists.{EachIs}
-use Rattle.tydi_reading.specs.Named.{argument}
-use Rattle.tydi_reading.specs.Reading.{Reader, Shrinks, tells, led, too_deep, ◌<$>◌}
-use Rattle.tydi_reading.specs.Rules.{IsRule}
+use Rattle.til_parser.proofs.rules.Common.{◌≡◌, ◌↔◌, ℕ, zero, suc, ◌≤◌, ◌⊎◌, inl, inr, ⊎_elim, true, false, List, [], ◌∷◌, ◌++◌, All, Option, Some, None, refl, sym, ap, ◌∙◌}
+use Rattle.til_parser.proofs.rules.Common.{subst, arith, codes, true≢false, Contains, is_some, append-nil, All-nil, All-cons, All-head, All-append, is_name, has_name_form}
+use Rattle.til_parser.proofs.rules.Common.{Never, Anything, Nothing, ◌⋯◌, GoesOn, EachIs, argument, Reader, Shrinks, tells, led, too_deep, ◌<$>◌, IsRule, Contains-none}
+use Rattle.til_parser.proofs.rules.Common.{Contains-first, with_ends, joins, front-tells, mapped-less, Begins, begins-repeats, as_rule, as_flat, flat_skip, flat_close, parted}
+use Rattle.til_parser.proofs.rules.Common.{viewed, Made, made-rule, shrinks, Only, All-one, pure-rule, same-rule, entry-none, entry-word, HasForm, TokenKind, Arguments}
+use Rattle.til_parser.proofs.rules.Common.{Argument, AstStream, AstType, AstName, AstPath, Form, Of, IsWord, Word, IsNamed, Whole, Path, Commas, Bracketed, IsDefault}
+use Rattle.til_parser.proofs.rules.Common.{SpellsType, SpellsParts, Lexeme, IsFormed, SpellsPart, BracketedTo, PartTo, AfterTo, InsideTo, TypeTo, same_kind, is_kind}
+use Rattle.til_parser.proofs.rules.Common.{begins_type, type_word, all_type_words, type_word_of, type_word_at, argument_at, path, bits, part, one_more, bracketed, is_given}
+use Rattle.til_parser.proofs.rules.Common.{value, filled, none_given, type_after, type_with, ltype, Ltype, null, plain, depth, depth_of_parts, settings_of}
 use Rattle.tydi_reading.proofs.ChoiceRules.{too_deep-rule}
-use Rattle.tydi_reading.proofs.ContainsLemmas.{Contains-none, Contains-first}
-use Rattle.tydi_reading.proofs.FormLemmas.{with_ends, joins, front-tells}
 use Rattle.tydi_reading.proofs.LedRule.{led-rule}
-use Rattle.tydi_reading.proofs.LoopLemmas.{mapped-less}
-use Rattle.tydi_reading.proofs.RepeatedRule.{Begins, begins-repeats}
-use Rattle.tydi_reading.proofs.Rule.{as_rule, as_flat, flat_skip, flat_close, parted, viewed, Made, made-rule, shrinks}
-use Rattle.tydi_reading.proofs.StepRules.{Only, All-one, pure-rule, same-rule}
-use Rattle.tydi_reading.proofs.TableLemmas.{entry-none, entry-word}
-use Rattle.til_lexer.specs.Spelling.{HasForm}
-use Rattle.til_lexer.specs.declared.token.TokenKind.{TokenKind}
 use Rattle.til_lexer.specs.declared.token.TokenKind.TheVariants as kinds
-use Rattle.til_parser.specs.declared.arguments.Arguments.{Arguments}
-use Rattle.til_parser.specs.declared.keyword.Argument.{Argument}
 use Rattle.til_parser.specs.declared.keyword.Argument.TheVariants as arguments
 use Rattle.til_parser.specs.declared.keyword.TypeWord.{TypeWord}
 use Rattle.til_parser.specs.declared.keyword.TypeWord.TheVariants as words
 use Rattle.til_parser.specs.declared.ltype.AstPart.{AstPart, roll-AstPart}
-use Rattle.til_parser.specs.declared.ltype.AstStream.{AstStream}
-use Rattle.til_parser.specs.declared.ltype.AstType.{AstType}
 use Rattle.til_parser.specs.declared.ltype.AstType.TheVariants as types
-use Rattle.til_parser.specs.declared.tree.AstName.{AstName}
-use Rattle.til_parser.specs.declared.tree.AstPath.{AstPath}
-use Rattle.til_parser.specs.Grammar.{Form, Of, IsWord, Word, IsNamed, Whole, Path, Commas, Bracketed, IsDefault, SpellsType, SpellsParts}
-use Rattle.til_parser.specs.Lexemes.{Lexeme, IsFormed}
-use Rattle.til_parser.specs.Nesting.{SpellsPart, BracketedTo, PartTo, AfterTo, InsideTo, TypeTo}
-use Rattle.til_parser.specs.Reading.{same_kind, is_kind, begins_type}
-use Rattle.til_parser.specs.Words.{type_word, all_type_words, type_word_of, type_word_at, argument_at}
-use Rattle.til_parser.specs.ReadTypes.{path, bits, part, one_more, bracketed, is_given, value, filled, none_given, type_after, type_with, ltype}
-use Rattle.til_parser.specs.Tree.{Ltype, null, plain, depth, depth_of_parts, settings_of}
 use Rattle.til_parser.specs.Tree as tree
 use Rattle.til_parser.proofs.PlainLemmas.{plain_parts, plain-Null, plain-Bits, plain-Group, plain-Union, plain-Stream, plain-Path, of_plain, of_parts, of_plain-plain}
 use Rattle.til_parser.proofs.rules.LeafRules.{PathNext, name-rule, name-begins, whole-rule, path-rule, path-front, bracketed-rule}

@@ -1,12 +1,5 @@
-use Rattle.std.proofs.Common.{◌≡◌, ℕ, zero, suc, ◌-◌, ◌<◌, List, sym, ap, ◌∙◌, subst, rules, arith}
-use Rattle.std.proofs.lemmas.Grind.{common_steps}
-use Rattle.til_parser.specs.Lexemes.{Lexeme}
-use Rattle.til_parser.specs.ReadTypes.{is_given, value, ltype, one_more, part, type_with}
-use Rattle.til_parser.specs.Words.{argument_at}
-use Rattle.tydi_reading.specs.Named.{argument, named}
-use Rattle.tydi_reading.proofs.NamedSteps.{argument-none, argument-given, argument-taken}
-use Rattle.tydi_reading.specs.Reading.{Reads}
-use Rattle.tydi_reading.proofs.LoopLemmas.{reads-less}
+use Rattle.til_parser.proofs.rules.Common.{◌≡◌, ℕ, zero, suc, ◌-◌, ◌<◌, List, sym, ap, ◌∙◌, subst, rules, arith, common_steps, Lexeme, is_given, value, ltype, one_more, part}
+use Rattle.til_parser.proofs.rules.Common.{type_with, argument_at, argument, named, argument-none, argument-given, argument-taken, Reads, reads-less}
 use Rattle.til_parser.proofs.rules.TypeRules.{Shrinks-part, Shrinks-argument}
 use Rattle.til_parser.proofs.parser.+ltype.Goals as goal
 

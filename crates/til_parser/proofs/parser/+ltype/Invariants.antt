@@ -1,4 +1,4 @@
-use Rattle.std.proofs.Common.{◌+◌, ◌*◌}
+use Rattle.til_parser.proofs.rules.Common.{◌+◌, ◌*◌}
 use Rattle.til_parser.proofs.parser.+ltype.Given as goal
 
 -- a type asks for what follows its word with one level less, this for parts and a Stream of as many, and these for a type of as many

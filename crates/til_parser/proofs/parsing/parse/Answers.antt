@@ -1,6 +1,4 @@
-use Rattle.std.proofs.Common.{length, sym, ap, ◌∙◌}
-use Rattle.til_parser.specs.Lexemes.{lexemes_of}
-use Rattle.til_parser.specs.ReadDecls.{project}
+use Rattle.til_parser.proofs.rules.Common.{length, sym, ap, ◌∙◌, lexemes_of, project}
 use Rattle.til_parser.proofs.LawLemmas.{formed_of}
 use Rattle.til_parser.proofs.LexemeLemmas.{length-lexemes}
 use Rattle.til_parser.proofs.rules.ParseLemmas.{project_sound, tree_or_fault, said, named, told, untold}

@@ -1,9 +1,5 @@
-use Rattle.std.proofs.Common.{false, rules, arith}
-use Rattle.std.proofs.lemmas.Grind.{common_steps}
+use Rattle.til_parser.proofs.rules.Common.{false, rules, arith, common_steps, braced, is_kind, repeated}
 use Rattle.til_lexer.specs.declared.token.TokenKind.TheVariants as kinds
-use Rattle.til_parser.specs.ReadDecls.{braced}
-use Rattle.til_parser.specs.Reading.{is_kind}
-use Rattle.tydi_reading.specs.Lists.{repeated}
 use Rattle.til_parser.proofs.parser.Parser.braced.Goals as goal
 
 pub returns-in_err-items : goal.returns-in_err-items

@@ -1,6 +1,4 @@
-use Rattle.std.proofs.Common.{rules, arith}
-use Rattle.std.proofs.lemmas.Grind.{common_steps}
-use Rattle.til_parser.specs.ReadTypes.{bracketed_steps}
+use Rattle.til_parser.proofs.rules.Common.{rules, arith, common_steps, bracketed_steps}
 use Rattle.til_parser.proofs.parser.Parser.bracketed.Goals as goal
 
 pub returns-in_err-end : goal.returns-in_err-end

@@ -1,6 +1,4 @@
-use Rattle.std.proofs.Common.{rules}
-use Rattle.til_parser.specs.ReadDecls.{decl}
-use Rattle.tydi_reading.proofs.LoopLemmas.{reads-less}
+use Rattle.til_parser.proofs.rules.Common.{rules, decl, reads-less}
 use Rattle.til_parser.proofs.rules.ProjectRules.{Shrinks-decl}
 use Rattle.til_parser.proofs.parser.Parser.decls.Goals as goal
 

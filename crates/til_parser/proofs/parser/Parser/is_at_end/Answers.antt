@@ -1,5 +1,4 @@
-use Rattle.std.proofs.Common.{true, false, ◌∙◌, sym, ap}
-use Rattle.tydi_reading.specs.Reading.{tells}
+use Rattle.til_parser.proofs.rules.Common.{true, false, ◌∙◌, sym, ap, tells}
 use Rattle.til_parser.proofs.LexemeLemmas.{at_end-lexemes}
 use Rattle.til_parser.proofs.parser.Parser.is_at_end.Goals as goal
 

@@ -1,4 +1,4 @@
-use Rattle.std.proofs.Common.{length, ◌∙◌, sym, ap}
+use Rattle.til_parser.proofs.rules.Common.{length, ◌∙◌, sym, ap}
 use Rattle.til_parser.proofs.LexemeLemmas.{length-lexemes}
 use Rattle.til_parser.proofs.parser.Parser.left.Goals as goal
 

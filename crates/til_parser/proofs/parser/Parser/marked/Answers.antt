@@ -1,5 +1,4 @@
-use Rattle.std.proofs.Common.{inl, inr, ⊎_elim, subst, rules}
-use Rattle.til_lexer.specs.Spelling.{HasForm}
+use Rattle.til_parser.proofs.rules.Common.{inl, inr, ⊎_elim, subst, rules, HasForm}
 use Rattle.til_parser.proofs.parser.Parser.marked.Goals as goal
 
 pub inside-requires : goal.inside-requires

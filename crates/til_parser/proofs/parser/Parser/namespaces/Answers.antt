@@ -1,8 +1,4 @@
-use Rattle.std.proofs.Common.{false, true, rules, arith}
-use Rattle.std.proofs.lemmas.Grind.{common_steps}
-use Rattle.til_parser.specs.ReadDecls.{namespace}
-use Rattle.tydi_reading.specs.Lists.{repeated}
-use Rattle.tydi_reading.proofs.LoopLemmas.{reads-less}
+use Rattle.til_parser.proofs.rules.Common.{false, true, rules, arith, common_steps, namespace, repeated, reads-less}
 use Rattle.til_parser.proofs.rules.ProjectRules.{Shrinks-namespace}
 use Rattle.til_parser.proofs.parser.Parser.namespaces.Goals as goal
 

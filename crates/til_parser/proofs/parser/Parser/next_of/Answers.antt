@@ -1,4 +1,4 @@
-use Rattle.std.proofs.Common.{◌∙◌, sym}
+use Rattle.til_parser.proofs.rules.Common.{◌∙◌, sym}
 use Rattle.til_parser.proofs.LexemeLemmas.{HasForm-first}
 use Rattle.til_parser.proofs.parser.Parser.next_of.Goals as goal
 

@@ -1,12 +1,5 @@
-use Rattle.std.proofs.Common.{true, rules, arith}
-use Rattle.std.specs.Prelude.{not}
-use Rattle.std.proofs.lemmas.Grind.{common_steps}
+use Rattle.til_parser.proofs.rules.Common.{true, rules, arith, not, common_steps, is_kind, expect, name, path, joined, ◌>>◌, reads-less}
 use Rattle.til_lexer.specs.declared.token.TokenKind.TheVariants as kinds
-use Rattle.til_parser.specs.Reading.{is_kind, expect}
-use Rattle.til_parser.specs.ReadTypes.{name, path}
-use Rattle.tydi_reading.specs.Lists.{joined}
-use Rattle.tydi_reading.specs.Reading.{◌>>◌}
-use Rattle.tydi_reading.proofs.LoopLemmas.{reads-less}
 use Rattle.til_parser.proofs.rules.LeafRules.{Shrinks-next_name}
 use Rattle.til_parser.proofs.parser.Parser.path.Goals as goal
 

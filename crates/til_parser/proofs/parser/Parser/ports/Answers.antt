@@ -1,8 +1,4 @@
-use Rattle.std.proofs.Common.{rules, arith}
-use Rattle.std.proofs.lemmas.Grind.{common_steps}
-use Rattle.til_parser.specs.ReadDecls.{port}
-use Rattle.til_parser.specs.ReadTypes.{one_more}
-use Rattle.tydi_reading.proofs.LoopLemmas.{reads-less}
+use Rattle.til_parser.proofs.rules.Common.{rules, arith, common_steps, port, one_more, reads-less}
 use Rattle.til_parser.proofs.rules.DeclRules.{Shrinks-port}
 use Rattle.til_parser.proofs.parser.Parser.ports.Goals as goal
 

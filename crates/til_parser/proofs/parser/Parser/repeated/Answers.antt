@@ -1,7 +1,4 @@
-use Rattle.std.proofs.Common.{rules, arith}
-use Rattle.std.proofs.lemmas.Grind.{common_steps}
-use Rattle.tydi_reading.specs.Lists.{repeated_turn}
-use Rattle.tydi_reading.proofs.LoopLemmas.{loop_unfolds, repeated_turn-advances}
+use Rattle.til_parser.proofs.rules.Common.{rules, arith, common_steps, repeated_turn, loop_unfolds, repeated_turn-advances}
 use Rattle.til_parser.proofs.parser.Parser.repeated.Goals as goal
 
 pub returns-in_err-item : goal.returns-in_err-item

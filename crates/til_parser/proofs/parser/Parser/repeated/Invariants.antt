@@ -1,8 +1,4 @@
-use Rattle.std.proofs.Common.{◌≡◌, Bool, length}
-use Rattle.til_parser.specs.Lexemes.{Lexeme}
-use Rattle.tydi_reading.specs.Calls.{DoesRead, DoesTell}
-use Rattle.tydi_reading.specs.Lists.{repeated_turn}
-use Rattle.tydi_reading.specs.Reading.{Reader, Shrinks, loop}
+use Rattle.til_parser.proofs.rules.Common.{◌≡◌, Bool, length, Lexeme, DoesRead, DoesTell, repeated_turn, Reader, Shrinks, loop}
 use Rattle.til_parser.proofs.parser.Parser.repeated.Given as goal
 
 -- the items so far go on as all items do

@@ -1,9 +1,5 @@
-use Rattle.std.proofs.Common.{false, rules, arith}
-use Rattle.std.proofs.lemmas.Grind.{common_steps}
+use Rattle.til_parser.proofs.rules.Common.{false, rules, arith, common_steps, is_kind, steps, steps_turn, separator_turn, mark, loop_unfolds, steps_turn-advances, eaten-least}
 use Rattle.til_lexer.specs.declared.token.TokenKind.TheVariants as kinds
-use Rattle.til_parser.specs.Reading.{is_kind}
-use Rattle.tydi_reading.specs.Lists.{steps, steps_turn, separator_turn, mark}
-use Rattle.tydi_reading.proofs.LoopLemmas.{loop_unfolds, steps_turn-advances, eaten-least}
 use Rattle.til_parser.proofs.parser.Parser.steps.Goals as goal
 
 pub returns-in_err-state : goal.returns-in_err-state

@@ -1,10 +1,5 @@
-use Rattle.std.proofs.Common.{◌≡◌, false, length}
+use Rattle.til_parser.proofs.rules.Common.{◌≡◌, false, length, Lexeme, is_kind, DoesStep, steps_turn, Reader, Shrinks, loop}
 use Rattle.til_lexer.specs.declared.token.TokenKind.TheVariants as kinds
-use Rattle.til_parser.specs.Lexemes.{Lexeme}
-use Rattle.til_parser.specs.Reading.{is_kind}
-use Rattle.tydi_reading.specs.Calls.{DoesStep}
-use Rattle.tydi_reading.specs.Lists.{steps_turn}
-use Rattle.tydi_reading.specs.Reading.{Reader, Shrinks, loop}
 use Rattle.til_parser.proofs.parser.Parser.steps.Given as goal
 
 -- the steps from this state go on as all steps do

@@ -1,6 +1,4 @@
-use Rattle.std.proofs.Common.{rules}
-use Rattle.til_parser.specs.ReadDecls.{stmt}
-use Rattle.tydi_reading.proofs.LoopLemmas.{reads-less}
+use Rattle.til_parser.proofs.rules.Common.{rules, stmt, reads-less}
 use Rattle.til_parser.proofs.rules.DeclRules.{Shrinks-stmt}
 use Rattle.til_parser.proofs.parser.Parser.stmts.Goals as goal
 

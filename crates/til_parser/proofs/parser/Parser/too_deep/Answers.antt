@@ -1,9 +1,5 @@
-use Rattle.std.proofs.Common.{◌≡◌, List, ◌∙◌, sym, subst}
+use Rattle.til_parser.proofs.rules.Common.{◌≡◌, List, ◌∙◌, sym, subst, Outcome, stopped, too_deep, AstType, Lexeme, begins_type}
 use Rattle.tydi_reading.specs.declared.fault.Fault.TheVariants as reading
-use Rattle.tydi_reading.specs.Reading.{Outcome, stopped, too_deep}
-use Rattle.til_parser.specs.declared.ltype.AstType.{AstType}
-use Rattle.til_parser.specs.Lexemes.{Lexeme}
-use Rattle.til_parser.specs.Reading.{begins_type}
 use Rattle.til_parser.proofs.LexemeLemmas.{TooDeep-first}
 use Rattle.til_parser.proofs.parser.Parser.too_deep.Goals as goal
 
