@@ -72,26 +72,18 @@ impl<'a> Parser<'a> {
         )
     }
 
-    /// One part more, behind those that are found.
-    #[cycle(ltype)]
-    fn next_part(&mut self, found: List<AstPart>, levels: usize) -> Result<List<AstPart>, Fault>
-        ensures { Reads (spec.one_more (spec.part (spec.ltype levels)) found self.old) result self.new }
-    {
-        let mut parts = found;
-        parts.push(self.part(levels)?)?;
-        Ok(parts)
-    }
-
-    /// `part`, of a type of at most so many levels.
+    /// `part`, of a type of at most so many levels, behind the parts that are found.
     #[cycle(ltype)]
     #[tactic(auto, unfolding(crate::specs::ReadTypes::part))]
-    fn part(&mut self, levels: usize) -> Result<AstPart, Fault>
-        ensures { Reads (spec.part (spec.ltype levels) self.old) result self.new }
+    fn next_part(&mut self, found: List<AstPart>, levels: usize) -> Result<List<AstPart>, Fault>
+        ensures { Reads (spec.one_more (spec.part (spec.ltype levels)) found self.old) result self.new }
     {
         let name = self.name()?;
         self.expect(TokenKind::Colon)?;
         let ltype = self.ltype(levels)?;
-        Ok(AstPart { name, ltype })
+        let mut parts = found;
+        parts.push(AstPart { name, ltype })?;
+        Ok(parts)
     }
 
     /// `"(" arg { "," arg } [ "," ] ")"`, of types of at most so many levels.

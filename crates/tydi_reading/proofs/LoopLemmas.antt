@@ -55,7 +55,7 @@ mapped-less {T} {A} {B} f read shrinks = record { less = λ ts rest y is. of_mad
         let same = ap length both.1 in
         omega arith
 
-pub repeated_turn-advances : {T A : Type 0} (test : T → Bool) (last : Bool) (item : Reader T A) → Shrinks item → Advances (repeated_turn test last item)
+repeated_turn-advances : {T A : Type 0} (test : T → Bool) (last : Bool) (item : Reader T A) → Shrinks item → Advances (repeated_turn test last item)
 unfolding repeated_turn
 repeated_turn-advances {T} {A} test last item shrinks = record { less = λ found ts rest next is. of_test found ts rest next (tells test last ts) is }
   where
@@ -79,7 +79,7 @@ separator-least {T} {S} separates s (u ∷ ts) rest t is = of_test (separates u)
     of_test true is = of_mark (separates u) is
     of_test false is = let both = took-both (done s) t (u ∷ ts) rest is in let same = ap length both.1 in omega arith
 
-pub steps_turn-advances : {T S : Type 0} (test : T → Bool) (last : Bool) (separates : T → Bool) (step : S → Reader T S) → ((s : S) → Shrinks (step s))
+steps_turn-advances : {T S : Type 0} (test : T → Bool) (last : Bool) (separates : T → Bool) (step : S → Reader T S) → ((s : S) → Shrinks (step s))
     → Advances (steps_turn test last separates step)
 unfolding steps_turn
 steps_turn-advances {T} {S} test last separates step shrinks = record { less = λ s ts rest next is. of_test s ts rest next (tells test last ts) is }
@@ -96,10 +96,20 @@ steps_turn-advances {T} {S} test last separates step shrinks = record { less = �
     of_test s ts rest next true is = no_again s next (length rest < length ts) (took-both (done s) (again next) ts rest is).0
     of_test s ts rest next false is = of_made s ts rest next (step s ts) refl is
 
-pub separated_turn-advances : {T A : Type 0} (test : T → Bool) (last : Bool) (separates : T → Bool) (item : Reader T A) → Shrinks item
-    → Advances (steps_turn test last separates (λ found. (λ x. found ++ x ∷ []) <$> item))
-separated_turn-advances test last separates item shrinks =
-    steps_turn-advances test last separates (λ found. (λ x. found ++ x ∷ []) <$> item) (λ found. mapped-less (λ x. found ++ x ∷ []) item shrinks)
+-- a turn of a list, or of steps, and what follows it
+pub repeated-unfold : {T A : Type 0} (test : T → Bool) (last : Bool) (item : Reader T A) → Shrinks item → (found : List A) (ts : List T)
+    → loop (repeated_turn test last item) found ts ≡ and_then (repeated_turn test last item found ts) (turned (loop (repeated_turn test last item)))
+repeated-unfold test last item shrinks = loop_unfolds (repeated_turn test last item) (repeated_turn-advances test last item shrinks)
+
+pub steps-unfold : {T S : Type 0} (test : T → Bool) (last : Bool) (separates : T → Bool) (step : S → Reader T S) → ((s : S) → Shrinks (step s)) → (s : S) (ts : List T)
+    → loop (steps_turn test last separates step) s ts ≡ and_then (steps_turn test last separates step s ts) (turned (loop (steps_turn test last separates step)))
+steps-unfold test last separates step shrinks = loop_unfolds (steps_turn test last separates step) (steps_turn-advances test last separates step shrinks)
+
+pub separated-unfold : {T A : Type 0} (test : T → Bool) (last : Bool) (separates : T → Bool) (item : Reader T A) → Shrinks item → (found : List A) (ts : List T)
+    → loop (steps_turn test last separates (λ found. (λ x. found ++ x ∷ []) <$> item)) found ts
+    ≡ and_then (steps_turn test last separates (λ found. (λ x. found ++ x ∷ []) <$> item) found ts) (turned (loop (steps_turn test last separates (λ found. (λ x. found ++ x ∷ []) <$> item))))
+separated-unfold test last separates item shrinks =
+    steps-unfold test last separates (λ found. (λ x. found ++ x ∷ []) <$> item) (λ found. mapped-less (λ x. found ++ x ∷ []) item shrinks)
 
 -- a call that did what a reader does that takes a thing
 pub reads-less : {T A : Type 0} {read : Reader T A} → Shrinks read → (ts rest : List T) (made : Result A Fault) → Reads (read ts) made rest

@@ -48,7 +48,7 @@ pub use Rattle.tydi_base.specs.Name.{is_name, name_of, has_name_form}
 pub use Rattle.tydi_base.specs.declared.place.Place.{Place}
 pub use Rattle.tydi_reading.proofs.ContainsLemmas.{same_or_not, has-Contains, are_apart-apart, has, Contains-none, Contains-first}
 pub use Rattle.tydi_reading.proofs.FormLemmas.{front-tells, with_ends, regroup, ungroup, follows-front, joins}
-pub use Rattle.tydi_reading.proofs.LoopLemmas.{mapped-less, repeated-all, took-both, reads-less, loop_unfolds, repeated_turn-advances, steps_turn-advances, eaten-least}
+pub use Rattle.tydi_reading.proofs.LoopLemmas.{mapped-less, repeated-all, took-both, reads-less, repeated-unfold, steps-unfold, eaten-least}
 pub use Rattle.tydi_reading.proofs.NamedSteps.{Fields, step-shrinks, argument-none, argument-given, argument-taken}
 pub use Rattle.tydi_reading.proofs.RepeatedRule.{Begins, begins-repeats, each_unit, Repeats, repeated-rule, begins-filled, begins-apart}
 pub use Rattle.tydi_reading.proofs.Rule.{as_rule, as_flat, of_flat, flat, flat_skip, flat_close, both, flat_parted, viewed, Made, either-rule, optional-rule, front-marked}

@@ -178,10 +178,6 @@ quoted-rule = marked-rule kinds.Quoted 34 (empty_between 34)
 
 -- ---- documentation
 
-or_true : (b : Bool) → (b || true) ≡ true
-or_true true = refl
-or_true false = refl
-
 -- no documentation may follow
 abbrev pub NoDoc : Form
 NoDoc rest = tells (is_kind kinds.Doc) false rest ≡ false
@@ -189,18 +185,20 @@ NoDoc rest = tells (is_kind kinds.Doc) false rest ≡ false
 pub doc-rule : IsRule IsFormed doc Doc (λ _. NoDoc) (λ _. Unit {0}) Never
 unfolding doc
 doc-rule =
-    optional-rule (is_kind kinds.Doc) (as_flat (marked-rule kinds.Doc 35 (empty_between 35))) (λ text front rest s. rw (s.all) (same_kind-is s.lexeme.kind kinds.Doc s.is.kind_is)) (λ text rest. tt)
+    optional-rule (is_kind kinds.Doc) (as_flat (marked-rule kinds.Doc 35 (empty_between 35)))
+    (λ text front rest s. rw (s.all) (same_kind-is s.lexeme.kind kinds.Doc s.is.kind_is)) (λ text rest. tt)
 
 -- what has documentation begins with it, or with a word as what follows
 pub doc-begins : (d : Option (List ℕ)) (Second : Form) (front rest : List Lexeme)
     → ((back rest : List Lexeme) → Second back → tells (is_kind kinds.Word) false (back ++ rest) ≡ true) → (Doc d ⋯ Second) front → tells begins_item false (front ++ rest) ≡ true
-doc-begins None Second front rest second s = rw (s.all, s.begins) (word_begins (s.back ++ rest) (second s.back rest s.ends))
+unfolding same_kind
+doc-begins None Second front rest second s = rw (s.all, s.begins) (of_word (s.back ++ rest) (second s.back rest s.ends))
   where
-    word_begins : (ts : List Lexeme) → tells (is_kind kinds.Word) false ts ≡ true → tells begins_item false ts ≡ true
-    word_begins [] is = is
-    word_begins (t ∷ ts) is = rw is (or_true (is_kind kinds.Doc t))
+    of_word : (ts : List Lexeme) → tells (is_kind kinds.Word) false ts ≡ true → tells begins_item false ts ≡ true
+    of_word [] is = is
+    of_word (t ∷ ts) is = rw is refl
 doc-begins (Some text) Second front rest second s =
-    front-tells begins_item true (Doc (Some text)) Second front rest (λ f r o. rw (o.all, same_kind-is o.lexeme.kind kinds.Doc o.is.kind_is) refl) s
+    front-tells begins_item true (Doc (Some text)) Second front rest (λ f r o. rw (o.all, o.is.kind_is) refl) s
 
 -- ---- one of two words, and of some
 

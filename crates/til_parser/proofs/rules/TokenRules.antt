@@ -108,16 +108,16 @@ kind-apart kind other apart t is = rw (kind_is t.kind kind is) apart
 pub kind-not : (kind other : TokenKind) → same_kind kind other ≡ false → (rest : List Lexeme) → tells (is_kind kind) false rest ≡ true → tells (is_kind other) false rest ≡ false
 kind-not kind other apart = begins-apart (is_kind kind) (is_kind other) false (kind-apart kind other apart)
 
--- what begins with documentation, or with a word
+-- what begins with a word, or with documentation
 abbrev pub begins_item : Lexeme → Bool
-begins_item t = is_kind kinds.Doc t || is_kind kinds.Word t
+begins_item t = is_kind kinds.Word t || is_kind kinds.Doc t
 
-pub item-apart : (kind : TokenKind) → same_kind kinds.Doc kind ≡ false → same_kind kinds.Word kind ≡ false → (t : Lexeme) → begins_item t ≡ true → is_kind kind t ≡ false
-item-apart kind doc word t is = of_doc (is_kind kinds.Doc t) refl
+pub item-apart : (kind : TokenKind) → same_kind kinds.Word kind ≡ false → same_kind kinds.Doc kind ≡ false → (t : Lexeme) → begins_item t ≡ true → is_kind kind t ≡ false
+item-apart kind word doc t is = of_word (is_kind kinds.Word t) refl
   where
-    of_doc : (b : Bool) → is_kind kinds.Doc t ≡ b → is_kind kind t ≡ false
-    of_doc true test = kind-apart kinds.Doc kind doc t test
-    of_doc false test = kind-apart kinds.Word kind word t (sym (ap (λ c. c || is_kind kinds.Word t) test) ∙ is)
+    of_word : (b : Bool) → is_kind kinds.Word t ≡ b → is_kind kind t ≡ false
+    of_word true test = kind-apart kinds.Word kind word t test
+    of_word false test = kind-apart kinds.Doc kind doc t (sym (ap (λ c. c || is_kind kinds.Doc t) test) ∙ is)
 
 -- ---- a token with a meaning
 

@@ -20,9 +20,6 @@ decreases-Parser::stream l = 8 * l.levels + 5
 abbrev pub decreases-Parser::arguments : goal.decreases-Parser::arguments
 decreases-Parser::arguments l = 8 * l.levels + 4
 
-abbrev pub decreases-Parser::part : goal.decreases-Parser::part
-decreases-Parser::part l = 8 * l.levels + 1
-
 abbrev pub decreases-Parser::next_part : goal.decreases-Parser::next_part
 decreases-Parser::next_part l = 8 * l.levels + 2
 

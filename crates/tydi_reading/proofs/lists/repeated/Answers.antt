@@ -1,13 +1,13 @@
 use Rattle.std.proofs.Common.{rules, arith, true}
 use Rattle.std.proofs.lemmas.Grind.{common_steps}
 use Rattle.tydi_reading.specs.Lists.{repeated, repeated_turn}
-use Rattle.tydi_reading.proofs.LoopLemmas.{loop_unfolds, repeated_turn-advances}
+use Rattle.tydi_reading.proofs.LoopLemmas.{repeated-unfold}
 use Rattle.tydi_reading.proofs.lists.repeated.Goals as goal
 
 pub returns-in_err-item : goal.returns-in_err-item
 unfolding repeated repeated_turn
 returns-in_err-item g c read end reads shrinks d =
-    let turn = loop_unfolds (repeated_turn end true read) (repeated_turn-advances end true read shrinks) c.items.items c.items.cursor in
+    let turn = repeated-unfold end true read shrinks c.items.items c.items.cursor in
     let so_far = c.items.invariant read end reads shrinks d in
     let stop = c.stops.ensures end d in
     let made = reads _ _ _ c.item.ensures in
@@ -16,7 +16,7 @@ returns-in_err-item g c read end reads shrinks d =
 pub items-preserved : goal.items-preserved
 unfolding repeated_turn
 items-preserved g c read end reads shrinks d =
-    let turn = loop_unfolds (repeated_turn end true read) (repeated_turn-advances end true read shrinks) c.items.items c.items.cursor in
+    let turn = repeated-unfold end true read shrinks c.items.items c.items.cursor in
     let so_far = c.items.invariant read end reads shrinks d in
     let stop = c.stops.ensures end d in
     let made = reads _ _ _ c.item.ensures in
@@ -25,7 +25,7 @@ items-preserved g c read end reads shrinks d =
 pub returns : goal.returns
 unfolding repeated repeated_turn
 returns g c read end reads shrinks d =
-    let turn = loop_unfolds (repeated_turn end true read) (repeated_turn-advances end true read shrinks) c.items.items c.items.cursor in
+    let turn = repeated-unfold end true read shrinks c.items.items c.items.cursor in
     let so_far = c.items.invariant read end reads shrinks d in
     let stop = c.stops.ensures end d in
     first_of (search rules, grind (arith, common_steps))
