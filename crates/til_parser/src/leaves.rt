@@ -6,7 +6,7 @@ ghost use Rattle.std.specs.List.{list_all};
 ghost use Rattle.til_lexer.specs.Spelling.{HasForm};
 ghost use Rattle.til_lexer.specs.declared.token.TokenKind.TheVariants as kinds;
 ghost use Rattle.til_parser.specs.Lexemes.{between_marks};
-ghost use Rattle.til_parser.specs.Numbers.{whole_of, numerator_of, denominator_of, lowest};
+ghost use Rattle.til_parser.specs.Numbers.{whole_of, digits_before, digits_behind, numerator_of, denominator_of, lowest};
 ghost use Rattle.til_parser.specs.ReadTypes as spec;
 ghost use Rattle.tydi_reading.specs.Reading.{Reads, ReadsAlways};
 ghost use Rattle.tydi_base.specs.Decimal.{read_on};
@@ -178,12 +178,20 @@ fn fraction_of(spelling: &str) -> Frac
     requires { HasForm kinds.Number spelling.now }
     ensures { result ≡ lowest (numerator_of spelling.now) (denominator_of spelling.now) }
 {
-    let bytes = spelling.as_bytes();
-    let point = digits_at(bytes);
-    let whole = with_digits(0, &bytes[..point]);
-    let behind = &bytes[(point + 1).min(bytes.len())..];
+    let (before, behind) = around_point(spelling);
+    let whole = with_digits(0, before);
     let numerator = with_digits(whole, behind);
     Frac::new(numerator, 10u64.pow(behind.len() as u32)).unwrap()
+}
+
+/// The digits of a number before its point, and those behind it.
+fn around_point(spelling: &str) -> (&[u8], &[u8])
+    ensures before { result.0.now ≡ digits_before spelling.now }
+    ensures behind { result.1.now ≡ digits_behind spelling.now }
+{
+    let bytes = spelling.as_bytes();
+    let point = digits_at(bytes);
+    (&bytes[..point], &bytes[(point + 1).min(bytes.len())..])
 }
 
 /// The number that these digits spell after those of a number, where all that many digits spell fits.

@@ -218,14 +218,16 @@ KindForm keywords.Streamlet = Made decls.Streamlet (λ x. Of kinds.Equals ⋯ Sp
 KindForm keywords.Impl = Made impl_of ImplForm
 KindForm keywords.Test = Made test_of TestForm
 
-pub kind_parts : (called : AstName) (kind : AstKind) (ts : List Lexeme) → SpellsKind called kind ts → (begun : Keyword) × ((Word (keyword_word begun) ⋯ (Name called ⋯ KindForm begun kind)) ts)
+pub kind_parts : (called : AstName) (kind : AstKind) (ts : List Lexeme) → SpellsKind called kind ts
+    → (begun : Keyword) × ((Word (keyword_word begun) ⋯ (Name called ⋯ KindForm begun kind)) ts)
 kind_parts called (decls.Alias x) ts s = (keywords.Type, with_ends s (with_ends s.ends (x, refl, s.ends.ends)))
 kind_parts called (decls.Interface all) ts s = (keywords.Interface, with_ends s (with_ends s.ends (all, refl, s.ends.ends)))
 kind_parts called (decls.Streamlet all) ts s = (keywords.Streamlet, with_ends s (with_ends s.ends (all, refl, s.ends.ends)))
 kind_parts called (decls.Impl target inside) ts s = (keywords.Impl, with_ends s (with_ends s.ends ((target, inside), refl, s.ends.ends)))
 kind_parts called (decls.Test target port value plan) ts s = (keywords.Test, with_ends s (with_ends s.ends ((target, (port, (value, plan))), refl, s.ends.ends)))
 
-pub kind_of_parts : (begun : Keyword) (called : AstName) (kind : AstKind) (ts : List Lexeme) → (Word (keyword_word begun) ⋯ (Name called ⋯ KindForm begun kind)) ts → SpellsKind called kind ts
+pub kind_of_parts : (begun : Keyword) (called : AstName) (kind : AstKind) (ts : List Lexeme) → (Word (keyword_word begun) ⋯ (Name called ⋯ KindForm begun kind)) ts
+    → SpellsKind called kind ts
 kind_of_parts keywords.Type called kind ts s = let m = s.ends.ends in subst (λ k. SpellsKind called k ts) (sym m.1) (with_ends s (with_ends s.ends m.2))
 kind_of_parts _ called kind ts s = let m = s.ends.ends in subst (λ k. SpellsKind called k ts) (sym m.1) (with_ends s (with_ends s.ends m.2))
 

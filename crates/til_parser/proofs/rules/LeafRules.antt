@@ -1,5 +1,5 @@
 -- The rules of names, numbers, marked texts, documentation, paths, and lists in brackets and in braces.
-use Rattle.til_parser.proofs.rules.Common.{◌≡◌, ℕ, suc, ◌+◌, ◌^◌, ◌<◌, ◌≤◌, nat_lt, Bool, true, false, cond, ◌&&◌, ◌||◌, List, [], ◌∷◌, ◌++◌, length, drop, Option, Some, None}
+use Rattle.til_parser.proofs.rules.Common.{◌≡◌, ℕ, suc, ◌+◌, ◌^◌, ◌<◌, ◌≤◌, nat_lt, Bool, true, false, cond, ◌&&◌, List, [], ◌∷◌, ◌++◌, length, drop, Option, Some, None}
 use Rattle.til_parser.proofs.rules.Common.{inl, inr, refl, sym, ap, ◌∙◌, subst, bytes_eq, arith, codes, length-append, not, list_all, none-some, same_Some, cond_some, is_name}
 use Rattle.til_parser.proofs.rules.Common.{name_of, has_name_form, Place, Never, Anything, ◌⋯◌, Reader, Shrinks, tells, ◌>>◌, IsRule, entry_of, bytes_eq-Decides, Each, EachIs}
 use Rattle.til_parser.proofs.rules.Common.{separated, Repeats, repeated-rule, BracketedTo, BracedTo, braced, front-tells, follows-front, as_rule, as_flat, skip, close, viewed}

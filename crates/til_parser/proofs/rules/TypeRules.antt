@@ -186,8 +186,17 @@ module _ (n : ℕ) (inner : Reader Lexeme AstType) (D : Form) (one : IsRule IsFo
   type-rule : IsRule IsFormed (type_with inner) S (λ _. PathNext) (Fits (suc n)) (InsideTo D)
   unfolding type_with
   type-rule =
-      same-rule IsFormed (led type_word_at (type_after inner) (types.Path <$> path)) Spelling (λ _. PathNext) (Fits (suc n)) (λ ts. InsideTo D ts ⊎ Never ts) S (λ _. PathNext) (Fits (suc n)) (InsideTo D)
-      (record { there = there; back = back; follow = λ x rest next. next; within = λ x w. w; apart = λ x w. w; first = λ ts. ⊎_elim (λ d. d) (λ d. absurd d); deep = λ ts d. inl d })
+      same-rule IsFormed (led type_word_at (type_after inner) (types.Path <$> path)) Spelling (λ _. PathNext) (Fits (suc n)) (λ ts. InsideTo D ts ⊎ Never ts)
+      S (λ _. PathNext) (Fits (suc n)) (InsideTo D)
+      (record {
+        there = there;
+        back = back;
+        follow = λ x rest next. next;
+        within = λ x w. w;
+        apart = λ x w. w;
+        first = λ ts. ⊎_elim (λ d. d) (λ d. absurd d);
+        deep = λ ts d. inl d;
+      })
       (led-rule IsFormed type_word_at (type_after inner) (types.Path <$> path) Lead After (Made types.Path (λ x. Path x.names)) (λ _. PathNext) (Fits (suc n)) (AfterTo D) Never
       (word_at-back type_word all_type_words each_type_word) (λ y front rest s. path-apart s.0.names front rest s.2) (λ front rest d. absurd d)
       (word_at-rule type_word all_type_words each_type_word words.Null refl) after-rule path_type-rule)

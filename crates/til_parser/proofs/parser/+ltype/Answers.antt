@@ -27,7 +27,8 @@ Parser::parts-bracketed-requires t c κs = (
 
 pub Parser::parts-returns : goal.Parser::parts-returns
 Parser::parts-returns t c =
-    let made = c.bracketed.ensures (one_more (part (ltype c.args.levels))) (λ p q found a k. search rules) (Shrinks-part c.args.levels) in first_of (search rules, grind (arith, common_steps))
+    let made = c.bracketed.ensures (one_more (part (ltype c.args.levels))) (λ p q found a k. search rules) (Shrinks-part c.args.levels) in
+    first_of (search rules, grind (arith, common_steps))
 
 pub Parser::arguments-steps-requires : goal.Parser::arguments-steps-requires
 Parser::arguments-steps-requires t c κs = (
@@ -42,7 +43,8 @@ Parser::arguments-steps-requires t c κs = (
 pub Parser::arguments-returns : goal.Parser::arguments-returns
 unfolding named
 Parser::arguments-returns t c =
-    let made = c.steps.ensures (argument argument_at is_given (value (ltype c.args.levels))) (λ p q s a k. search rules) (Shrinks-argument c.args.levels) in first_of (search rules, grind (arith, common_steps))
+    let made = c.steps.ensures (argument argument_at is_given (value (ltype c.args.levels))) (λ p q s a k. search rules) (Shrinks-argument c.args.levels) in
+    first_of (search rules, grind (arith, common_steps))
 
 -- ---- an argument
 
