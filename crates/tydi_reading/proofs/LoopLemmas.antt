@@ -105,12 +105,6 @@ pub steps-unfold : {T S : Type 0} (test : T → Bool) (last : Bool) (separates :
     → loop (steps_turn test last separates step) s ts ≡ and_then (steps_turn test last separates step s ts) (turned (loop (steps_turn test last separates step)))
 steps-unfold test last separates step shrinks = loop_unfolds (steps_turn test last separates step) (steps_turn-advances test last separates step shrinks)
 
-pub separated-unfold : {T A : Type 0} (test : T → Bool) (last : Bool) (separates : T → Bool) (item : Reader T A) → Shrinks item → (found : List A) (ts : List T)
-    → loop (steps_turn test last separates (λ found. (λ x. found ++ x ∷ []) <$> item)) found ts
-    ≡ and_then (steps_turn test last separates (λ found. (λ x. found ++ x ∷ []) <$> item) found ts) (turned (loop (steps_turn test last separates (λ found. (λ x. found ++ x ∷ []) <$> item))))
-separated-unfold test last separates item shrinks =
-    steps-unfold test last separates (λ found. (λ x. found ++ x ∷ []) <$> item) (λ found. mapped-less (λ x. found ++ x ∷ []) item shrinks)
-
 -- a call that did what a reader does that takes a thing
 pub reads-less : {T A : Type 0} {read : Reader T A} → Shrinks read → (ts rest : List T) (made : Result A Fault) → Reads (read ts) made rest
     → OnOk made (length rest < length ts)

@@ -1,15 +1,17 @@
 -- Named arguments: what is given of them, the rules of their values, and that one argument more is a rule.
 use Rattle.std.proofs.Common.{◌≡◌, ◌⊎◌, inl, inr, ⊎_elim, ◌<◌, ◌≤◌, Bool, true, false, cond, List, [], ◌∷◌, ◌++◌, length, Option, Some, None, option_and_then, refl, sym, ap, ◌∙◌, subst, arith, append_assoc}
+use Rattle.std.proofs.lemmas.List.{length-append}
 use Rattle.std.specs.List.{Contains}
 use Rattle.std.specs.Option.{is_some}
 use Rattle.std.proofs.lemmas.Option.{none-some, same_Some}
 use Rattle.tydi_reading.specs.declared.fault.Fault.TheVariants as faults
 use Rattle.tydi_reading.specs.Forms.{Form, ◌⋯◌, Never, Anything, Loop, LoopTo}
 use Rattle.tydi_reading.specs.Named.{awaited, argument, named, NeverGrows}
-use Rattle.tydi_reading.specs.Reading.{Outcome, Reader, Shrinks, Turn, took, stopped, and_then, meant, leaf, tells, told_by, rest_of, ◌<$>◌}
+use Rattle.tydi_reading.specs.Reading.{Outcome, Reader, Shrinks, Turn, took, stopped, and_then, meant, leaf, tells, told_by, rest_of, pure, ◌<$>◌}
 use Rattle.tydi_reading.specs.Rules.{IsRule}
 use Rattle.tydi_reading.proofs.ContainsLemmas.{Contains-none, Contains-cases}
-use Rattle.tydi_reading.proofs.FilledLemmas.{filled-first, shrinks-rule}
+use Rattle.tydi_reading.proofs.FilledLemmas.{filled-first}
+use Rattle.tydi_reading.proofs.LoopLemmas.{took-both}
 use Rattle.tydi_reading.proofs.MarkLemmas.{IsMark}
 use Rattle.tydi_reading.proofs.Rule.{Made, as_rule, made-rule}
 use Rattle.tydi_reading.proofs.StepRules.{IsLeaf, leaf-rule, then-rule, read-rule}
@@ -224,6 +226,19 @@ module _ {T K G S : Type 0} (Good : T → Type 0) (f : Fields K G S) (a : Argume
   abbrev pub AreIn : G → Type 0
   AreIn given = (k : K) → In k (f.field k given)
 
+  -- a value leaves no more things than there were
+  pub added-grows : NeverGrows a.added
+  added-grows = record { least = λ k given ts rest next is. of_made k given ts rest next (a.read k ts) refl (a.added-is k given ts ∙ is) }
+    where
+      of_made : (k : K) (given : G) (ts rest : List T) (next : G) (made : Outcome T (f.Value k)) → a.read k ts ≡ made
+          → and_then made (λ x. pure (f.put k x given)) ≡ took next rest → length rest ≤ length ts
+      of_made k given ts rest next (stopped e middle) made is = absurd cc
+      of_made k given ts rest next (took x middle) made is =
+          let found = (a.rule k).sound ts middle x made in
+          let whole = ap length found.split ∙ length-append found.front middle in
+          let same = ap length (took-both (f.put k x given) next middle rest is).1 in
+          omega arith
+
   step_within : (given next : G) (ts : List T) → Step given next ts → StepWithin given next → AreIn given → AreIn next
   step_within given next ts s within each k = elim (f.one_or_two s.name k) [
     | inl e ↦ within k (subst (λ i. f.field i given ≡ None) e s.absent)
@@ -260,16 +275,6 @@ module _ {T K G S : Type 0} (Good : T → Type 0) (f : Fields K G S) (a : Argume
         starts_front : (First Second : Form T) (front rest : List T) → ((front rest : List T) → First front → tells test last (front ++ rest) ≡ false)
             → (First ⋯ Second) front → tells test last (front ++ rest) ≡ false
         starts_front First Second front rest first s = rw (s.all, append_assoc s.front s.back rest) (first s.front (s.back ++ rest) s.begins)
-
-    -- one argument more takes a thing at least
-    pub step-shrinks : (given : G) → Shrinks (step given)
-    step-shrinks given = ⊎_elim
-        (λ r. shrinks-rule Good (step given) (Step given) (λ _. a.Next) (StepWithin given) (StepDeep given) (separates-arguments.filled given) r)
-        (λ stuck. record { less = λ ts rest x is. absurd (never ts rest x (sym (stuck.refuses ts) ∙ is)) })
-        (step-rule given)
-      where
-        never : (ts rest : List T) (x : G) → ◌≡◌ {A = Outcome T G} (stopped faults.Refused ts) (took x rest) → ⊥
-        never ts rest x is = cc
 
     abbrev pub Turning : G → Turn G → Form T
     Turning = TurnOf Good test last separates Separator step Step (λ _. a.Next) StepWithin StepDeep AreIn separates-arguments step-rule

@@ -59,9 +59,13 @@ steps_turn test last separates step s = choose test last (pure (done s)) (step s
 unfoldable pub steps : {T S : Type 0} → (T → Bool) → Bool → (T → Bool) → (S → Reader T S) → S → Reader T S
 steps test last separates step = loop (steps_turn test last separates step)
 
+-- one item more, behind those that are found
+abbrev pub one_more : {T A : Type 0} → Reader T A → List A → Reader T (List A)
+one_more item found = (λ x. found ++ x ∷ []) <$> item
+
 -- items with separators up to where a test of the next thing holds
 unfoldable pub separated : {T A : Type 0} → (T → Bool) → Bool → (T → Bool) → Reader T A → Reader T (List A)
-separated test last separates item = steps test last separates (λ found. (λ x. found ++ x ∷ []) <$> item) []
+separated test last separates item = steps test last separates (one_more item) []
 
 -- ---- joined: one at least, with a joint between each two
 

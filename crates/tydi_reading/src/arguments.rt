@@ -1,84 +1,76 @@
 //! Named arguments in any order, each at most once.
 
-ghost use Rattle.std.specs.Prelude.{◌≡◌, ◌<◌, Bool, true, length, Option, OnOk};
-ghost use Rattle.tydi_reading.specs.Calls.{Decides, DecidesPair, DoesAdd, DoesNotGrow, Means};
+ghost use Rattle.std.specs.Prelude.{◌≡◌, ◌<◌, Bool, false, length, Option, OnOk};
+ghost use Rattle.tydi_reading.specs.Calls.{AddsAtMost, DecidesPair, DoesAdd, DoesMean, DoesTell};
 ghost use Rattle.tydi_reading.specs.Named as spec;
 ghost use Rattle.tydi_reading.specs.Named.{NeverGrows};
 ghost use Rattle.tydi_reading.specs.Reading.{Reads, Reader};
 
-use crate::cursor::Cursor;
 use crate::fault::Fault;
+use crate::lists::steps;
+use crate::source::Source;
 
 /// One argument more: its name, which is not given yet, and its value, which is added to what is given.
 #[tactic(auto, unfolding(crate::specs::Named::argument))]
 pub fn argument<
-    'a,
-    T,
+    S: Source,
     K: Drop,
-    G: Drop,
-    N: Fn(&T) -> Option<K>,
-    H: Fn(&K, &G) -> bool,
-    V: Fn(&mut Cursor<'a, T>, K, G) -> Result<G, Fault>,
->(cursor: &mut Cursor<'a, T>, given: G, name: &N, is_given: &H, value: &V) -> Result<G, Fault>
+    X: Drop,
+    N: Fn(&S) -> Option<K>,
+    H: Fn(&K, &X) -> bool,
+    V: Fn(&mut S, K, X) -> Result<X, Fault>,
+>(source: &mut S, given: X, name: &N, is_given: &H, value: &V) -> Result<X, Fault>
     requires names { N.IsAlwaysCallable name.now }
     requires tests { H.IsAlwaysCallable is_given.now }
     requires calls { V.IsAlwaysCallable value.now }
-    requires least { DoesNotGrow V.Fn value.now }
-    ensures reads { (n : T → Option K) (g : K → G → Bool) (v : K → G → Reader T G) → Means N.Fn name.now n → DecidesPair H.Fn is_given.now g
-        → DoesAdd V.Fn value.now v → Reads (spec.argument n g v given cursor.old) result cursor.new }
-    ensures less { OnOk result (length cursor.new < length cursor.old) }
+    requires named { (named : S.Thing → Option K) × DoesMean S.left N.Fn name.now named }
+    requires least { AddsAtMost S.left V.Fn value.now }
+    ensures reads { (n : S.Thing → Option K) (g : K → X → Bool) (v : K → X → Reader S.Thing X) → DoesMean S.left N.Fn name.now n → DecidesPair H.Fn is_given.now g
+        → DoesAdd S.left V.Fn value.now v → Reads (spec.argument n g v given (S.left source.old)) result (S.left source.new) }
+    ensures less { OnOk result (length (S.left source.new) < length (S.left source.old)) }
 {
-    let Some(next) = cursor.peek() else {
-        return Err(Fault::Refused);
-    };
-    let Some(found) = name(next) else {
+    let Some(found) = name(source) else {
         return Err(Fault::Refused);
     };
     if is_given(&found, &given) {
         return Err(Fault::Refused);
     }
-    cursor.skip();
-    value(cursor, found, given)
+    source.skip();
+    value(source, found, given)
 }
 
-/// Named arguments beside those that are given, each at most once, with a separator between each two, and a last one or none, up to such
-/// a thing or to the end. A default is what stands where an argument is not given.
+/// Named arguments beside those that are given, each at most once, with a separator between each two, and a last one or none, up to
+/// where a test of what is left holds. A default is what stands where an argument is not given.
 pub fn named<
-    'a,
-    T,
+    S: Source,
     K: Drop,
-    G: Drop,
-    N: Fn(&T) -> Option<K>,
-    H: Fn(&K, &G) -> bool,
-    V: Fn(&mut Cursor<'a, T>, K, G) -> Result<G, Fault>,
-    F: Fn(&T) -> bool,
-    S: Fn(&T) -> bool,
+    X: Drop,
+    F: Fn(&S) -> bool,
+    G: Fn(&S) -> bool,
+    N: Fn(&S) -> Option<K>,
+    H: Fn(&K, &X) -> bool,
+    V: Fn(&mut S, K, X) -> Result<X, Fault>,
 >(
-    cursor: &mut Cursor<'a, T>,
-    none: G,
+    source: &mut S,
+    none: X,
+    is_end: F,
+    separates: G,
     name: N,
     is_given: H,
     value: V,
-    is_end: F,
-    separates: S,
-) -> Result<G, Fault>
+) -> Result<X, Fault>
+    requires ends { F.IsAlwaysCallable is_end }
+    requires between { G.IsAlwaysCallable separates }
     requires names { N.IsAlwaysCallable name }
     requires tests { H.IsAlwaysCallable is_given }
     requires calls { V.IsAlwaysCallable value }
-    requires ends { F.IsAlwaysCallable is_end }
-    requires between { S.IsAlwaysCallable separates }
-    requires least { DoesNotGrow V.Fn value }
-    ensures { (n : T → Option K) (g : K → G → Bool) (v : K → G → Reader T G) (end separator : T → Bool) → Means N.Fn name n → DecidesPair H.Fn is_given g
-        → DoesAdd V.Fn value v → NeverGrows v → Decides F.Fn is_end end → Decides S.Fn separates separator
-        → Reads (spec.named end true separator n g v none cursor.old) result cursor.new }
+    requires named { (named : S.Thing → Option K) × DoesMean S.left N.Fn name named }
+    requires least { AddsAtMost S.left V.Fn value }
+    ensures { (n : S.Thing → Option K) (g : K → X → Bool) (v : K → X → Reader S.Thing X) (end separator : S.Thing → Bool) (last : Bool) → DoesMean S.left N.Fn name n
+        → DecidesPair H.Fn is_given g → DoesAdd S.left V.Fn value v → NeverGrows v → DoesTell S.left F.Fn is_end end last → DoesTell S.left G.Fn separates separator false
+        → Reads (spec.named end last separator n g v none (S.left source.old)) result (S.left source.new) }
 {
-    let mut given = none;
-    'arguments: while !cursor.stops(&is_end) {
-        given = argument(cursor, given, &name, &is_given, &value)?;
-        if !cursor.sees(&separates) {
-            return Ok(given);
-        }
-        cursor.skip();
-    }
-    Ok(given)
+    steps(source, none, is_end, separates, |rest: &mut S, given: X| {
+        argument(rest, given, &name, &is_given, &value)
+    })
 }

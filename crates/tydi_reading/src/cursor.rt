@@ -4,6 +4,7 @@ ghost use Rattle.std.specs.Prelude.{◌≡◌, Bool, length, option_map};
 ghost use Rattle.tydi_reading.specs.Calls.{Decides};
 ghost use Rattle.tydi_reading.specs.Reading as spec;
 
+use crate::source::Source;
 use std::marker::Model;
 
 /// The things that are not taken yet. Contracts see their list.
@@ -18,6 +19,18 @@ impl<'a, T> Model for Cursor<'a, T> {
     ghost Value = { List T };
 
     ghost view = { λ cursor. cursor.rest.now };
+}
+
+impl<'a, T> Source for Cursor<'a, T> {
+    ghost Thing = { T };
+
+    ghost left = { λ things. things };
+
+    fn skip(&mut self) {
+        if let [_, rest @ ..] = self.rest {
+            self.rest = rest;
+        }
+    }
 }
 
 impl<'a, T> Cursor<'a, T> {
@@ -49,15 +62,6 @@ impl<'a, T> Cursor<'a, T> {
         match self.rest {
             [next, ..] => Some(next),
             [] => None,
-        }
-    }
-
-    /// Takes the next thing, where there is one.
-    pub fn skip(&mut self)
-        ensures { self.new ≡ spec.rest_of self.old }
-    {
-        if let [_, rest @ ..] = self.rest {
-            self.rest = rest;
         }
     }
 

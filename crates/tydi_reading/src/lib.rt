@@ -7,8 +7,10 @@ mod arguments;
 mod cursor;
 mod fault;
 mod lists;
+mod source;
 
 pub use arguments::{argument, named};
 pub use cursor::Cursor;
 pub use fault::Fault;
-pub use lists::{repeated, separated};
+pub use lists::{one_more, repeated, separated, steps};
+pub use source::Source;

@@ -1,64 +1,98 @@
-//! Lists of things of one form.
+//! The loops: items one after another, and steps with a separator between each two.
 
-ghost use Rattle.std.specs.Prelude.{◌≡◌, Bool, true};
-ghost use Rattle.tydi_reading.specs.Calls.{Decides, DoesRead, DoesShrink};
+ghost use Rattle.std.specs.Prelude.{◌≡◌, ◌<◌, Bool, false, length, OnOk};
+ghost use Rattle.tydi_reading.specs.Calls.{DoesRead, DoesShrink, DoesStep, DoesTell, StepsShrink};
 ghost use Rattle.tydi_reading.specs.Lists as spec;
-ghost use Rattle.tydi_reading.specs.Reading.{Reads, Reader, Shrinks};
+ghost use Rattle.tydi_reading.specs.Lists.{repeated_turn};
+ghost use Rattle.tydi_reading.specs.Reading.{Reads, Reader, Shrinks, loop};
 
-use crate::cursor::Cursor;
 use crate::fault::Fault;
+use crate::source::Source;
 use std::alloc::Global;
 use tydi_base::List;
 
-/// Items one after another, up to such a thing or to the end.
-pub fn repeated<'a, T, A: Drop, P: Fn(&mut Cursor<'a, T>) -> Result<A, Fault>, F: Fn(&T) -> bool>(
-    cursor: &mut Cursor<'a, T>,
-    alloc: Global,
-    item: P,
+/// Items one after another, behind those that are found, up to where a test of what is left holds.
+pub fn repeated<S: Source, A: Drop, F: Fn(&S) -> bool, P: Fn(&mut S) -> Result<A, Fault>>(
+    source: &mut S,
+    found: List<A>,
     is_end: F,
+    item: P,
 ) -> Result<List<A>, Fault>
-    requires calls { P.IsAlwaysCallable item }
     requires ends { F.IsAlwaysCallable is_end }
-    requires less { DoesShrink P.Fn item }
-    ensures { (read : Reader T A) (end : T → Bool) → DoesRead P.Fn item read → Shrinks read → Decides F.Fn is_end end
-        → Reads (spec.repeated end true read cursor.old) result cursor.new }
+    requires calls { P.IsAlwaysCallable item }
+    requires less { DoesShrink S.left P.Fn item }
+    ensures { (read : Reader S.Thing A) (end : S.Thing → Bool) (last : Bool) → DoesTell S.left F.Fn is_end end last → DoesRead S.left P.Fn item read → Shrinks read
+        → Reads (loop (repeated_turn end last read) found (S.left source.old)) result (S.left source.new) }
 {
-    let mut items = List::new(alloc);
-    'items: while !cursor.stops(&is_end) {
-        items.push(item(cursor)?)?;
+    let mut items = found;
+    'items: while !is_end(source) {
+        items.push(item(source)?)?;
     }
     Ok(items)
 }
 
-/// Items with a separator between each two, and a last one or none, up to such a thing or to the end.
-pub fn separated<
-    'a,
-    T,
-    A: Drop,
-    P: Fn(&mut Cursor<'a, T>) -> Result<A, Fault>,
-    F: Fn(&T) -> bool,
-    G: Fn(&T) -> bool,
->(
-    cursor: &mut Cursor<'a, T>,
-    alloc: Global,
-    item: P,
-    is_end: F,
-    separates: G,
-) -> Result<List<A>, Fault>
-    requires calls { P.IsAlwaysCallable item }
+/// Steps from one state to the next with a separator between each two, and a last one or none, up to where a test of what is left holds.
+pub fn steps<
+    S: Source,
+    X: Drop,
+    F: Fn(&S) -> bool,
+    G: Fn(&S) -> bool,
+    P: Fn(&mut S, X) -> Result<X, Fault>,
+>(source: &mut S, start: X, is_end: F, separates: G, step: P) -> Result<X, Fault>
     requires ends { F.IsAlwaysCallable is_end }
     requires between { G.IsAlwaysCallable separates }
-    requires less { DoesShrink P.Fn item }
-    ensures { (read : Reader T A) (end separator : T → Bool) → DoesRead P.Fn item read → Shrinks read → Decides F.Fn is_end end
-        → Decides G.Fn separates separator → Reads (spec.separated end true separator read cursor.old) result cursor.new }
+    requires calls { P.IsAlwaysCallable step }
+    requires less { StepsShrink S.left P.Fn step }
+    ensures { (read : X → Reader S.Thing X) (end separator : S.Thing → Bool) (last : Bool) → DoesTell S.left F.Fn is_end end last → DoesTell S.left G.Fn separates separator false
+        → DoesStep S.left P.Fn step read → ((x : X) → Shrinks (read x)) → Reads (spec.steps end last separator read start (S.left source.old)) result (S.left source.new) }
 {
-    let mut items = List::new(alloc);
-    'items: while !cursor.stops(&is_end) {
-        items.push(item(cursor)?)?;
-        if !cursor.sees(&separates) {
-            return Ok(items);
+    let mut state = start;
+    'steps: while !is_end(source) {
+        state = step(source, state)?;
+        if !separates(source) {
+            return Ok(state);
         }
-        cursor.skip();
+        source.skip();
     }
+    Ok(state)
+}
+
+/// Items with a separator between each two, and a last one or none, up to where a test of what is left holds.
+pub fn separated<
+    S: Source,
+    A: Drop,
+    F: Fn(&S) -> bool,
+    G: Fn(&S) -> bool,
+    P: Fn(&mut S) -> Result<A, Fault>,
+>(source: &mut S, alloc: Global, is_end: F, separates: G, item: P) -> Result<List<A>, Fault>
+    requires ends { F.IsAlwaysCallable is_end }
+    requires between { G.IsAlwaysCallable separates }
+    requires calls { P.IsAlwaysCallable item }
+    requires less { DoesShrink S.left P.Fn item }
+    ensures { (read : Reader S.Thing A) (end separator : S.Thing → Bool) (last : Bool) → DoesTell S.left F.Fn is_end end last → DoesTell S.left G.Fn separates separator false
+        → DoesRead S.left P.Fn item read → Shrinks read → Reads (spec.separated end last separator read (S.left source.old)) result (S.left source.new) }
+{
+    steps(
+        source,
+        List::new(alloc),
+        is_end,
+        separates,
+        |rest: &mut S, found: List<A>| one_more(rest, found, &item),
+    )
+}
+
+/// One item more, behind those that are found.
+pub fn one_more<S: Source, A: Drop, P: Fn(&mut S) -> Result<A, Fault>>(
+    source: &mut S,
+    found: List<A>,
+    item: &P,
+) -> Result<List<A>, Fault>
+    requires calls { P.IsAlwaysCallable item.now }
+    requires less { DoesShrink S.left P.Fn item.now }
+    ensures reads { (read : Reader S.Thing A) → DoesRead S.left P.Fn item.now read → Reads (spec.one_more read found (S.left source.old)) result (S.left source.new) }
+    ensures less { OnOk result (length (S.left source.new) < length (S.left source.old)) }
+{
+    let mut items = found;
+    items.push(item(source)?)?;
     Ok(items)
 }
