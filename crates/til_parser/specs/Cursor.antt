@@ -12,3 +12,7 @@ tokens_left parser = lexemes_of parser.text.now parser.rest.now
 pub record IsReady (parser : Inside) : Type 0 where
   pub each : All (IsTokenOf parser.text.now) parser.rest.now
   pub formed : All (HasFormIn parser.text.now) parser.rest.now
+
+-- as a source: what it stands for is what is left
+abbrev pub tokens : List Lexeme → List Lexeme
+tokens left = left

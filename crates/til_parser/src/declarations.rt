@@ -3,7 +3,7 @@
 ghost use Rattle.std.specs.Prelude.{◌≡◌, true, false};
 ghost use Rattle.til_parser.specs.ReadDecls as spec;
 ghost use Rattle.til_parser.specs.ReadTypes.{bracketed, one_more};
-ghost use Rattle.tydi_reading.specs.Lists.{repeated};
+ghost use Rattle.tydi_reading.specs.Lists as lists;
 ghost use Rattle.tydi_reading.specs.Reading.{Reads, ReadsAlways};
 
 use crate::keyword::{Keyword, keyword_of};
@@ -13,7 +13,7 @@ use crate::tree::{
 };
 use til_lexer::TokenKind;
 use tydi_base::{Boxed, List};
-use tydi_reading::Fault;
+use tydi_reading::{Fault, Source, repeated};
 
 impl<'a> Parser<'a> {
     /// `project`, whose types have at most so many levels.
@@ -30,10 +30,15 @@ impl<'a> Parser<'a> {
 
     /// `{ namespace }`, up to the end, whose types have at most so many levels.
     fn namespaces(&mut self, levels: usize) -> Result<List<AstNamespace>, Fault>
-        ensures { Reads (repeated (λ _. false) true (spec.namespace levels) self.old) result self.new }
+        ensures { Reads (lists.repeated (λ _. false) true (spec.namespace levels) self.old) result self.new }
     {
         let none = List::new(self.alloc());
-        self.repeated(none, |rest| rest.is_at_end(), |rest| rest.namespace(levels))
+        repeated(
+            self,
+            none,
+            |rest| rest.is_at_end(),
+            |rest| rest.namespace(levels),
+        )
     }
 
     /// `namespace`

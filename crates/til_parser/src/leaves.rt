@@ -16,7 +16,7 @@ use crate::tree::{AstName, AstPath};
 use std::alloc::Global;
 use til_lexer::{TokenKind, digits_at};
 use tydi_base::{Frac, Level, List, Memory, Name, Text, number_of_digits};
-use tydi_reading::Fault;
+use tydi_reading::{Fault, Source, repeated};
 
 impl<'a> Parser<'a> {
     /// `name`
@@ -116,7 +116,8 @@ impl<'a> Parser<'a> {
     {
         let mut names = room_for_one(self.alloc())?;
         names.push(self.name()?)?;
-        let all = self.repeated(
+        let all = repeated(
+            self,
             names,
             |rest| !rest.sees(TokenKind::DoubleColon),
             |rest| {

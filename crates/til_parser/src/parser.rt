@@ -14,7 +14,7 @@ use std::alloc::Global;
 use std::marker::Model;
 use til_lexer::{Token, TokenKind};
 use tydi_base::Place;
-use tydi_reading::Fault;
+use tydi_reading::{Fault, Source};
 
 /// The tokens of a text that are not taken yet. Contracts see these.
 #[derive(Drop)]
@@ -35,6 +35,21 @@ impl<'a> Model for Parser<'a> {
     ghost view = { tokens_left };
 
     ghost invariant = { IsReady };
+}
+
+impl<'a> Source for Parser<'a> {
+    ghost use Rattle.til_parser.specs.Cursor.{tokens};
+    ghost use Rattle.til_parser.specs.Lexemes.{Lexeme};
+
+    ghost Thing = { Lexeme };
+
+    ghost left = { tokens };
+
+    fn skip(&mut self) {
+        if let [_, rest @ ..] = self.rest {
+            self.rest = rest;
+        }
+    }
 }
 
 impl<'a> Parser<'a> {
@@ -125,15 +140,6 @@ impl<'a> Parser<'a> {
                 argument_of(spelling(self.text, next))
             }
             _ => None,
-        }
-    }
-
-    /// Takes the next token, where there is one.
-    pub(crate) fn skip(&mut self)
-        ensures { self.new ≡ rest_of self.old }
-    {
-        if let [_, rest @ ..] = self.rest {
-            self.rest = rest;
         }
     }
 

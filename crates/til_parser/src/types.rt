@@ -2,8 +2,6 @@
 
 ghost use Rattle.std.specs.Prelude.{◌≡◌};
 ghost use Rattle.til_parser.specs.ReadTypes as spec;
-ghost use Rattle.til_parser.specs.Words.{argument_at};
-ghost use Rattle.tydi_reading.specs.Named.{argument};
 ghost use Rattle.tydi_reading.specs.Reading.{Reads, ReadsAlways};
 
 use crate::arguments::Arguments;
@@ -12,7 +10,7 @@ use crate::ltype::{AstPart, AstStream, AstSync, AstType};
 use crate::parser::Parser;
 use til_lexer::TokenKind;
 use tydi_base::{Boxed, List};
-use tydi_reading::Fault;
+use tydi_reading::{Fault, Source, named};
 
 impl<'a> Parser<'a> {
     /// `type`, of at most so many levels.
@@ -106,27 +104,17 @@ impl<'a> Parser<'a> {
     fn arguments(&mut self, levels: usize) -> Result<Arguments, Fault>
         ensures { Reads (spec.arguments_from (spec.ltype levels) spec.none_given self.old) result self.new }
     {
-        self.steps(
+        named(
+            self,
             Arguments::none(),
-            |rest, given| -> Result<Arguments, Fault>
-                ensures { Reads (argument argument_at spec.is_given (spec.value (spec.ltype levels)) given rest.old) result rest.new }
-            { rest.argument(given, levels) },
+            |rest| rest.sees(TokenKind::CloseParen),
+            |rest| rest.sees(TokenKind::Comma),
+            |rest| rest.argument_name(),
+            |name, given| given.has(*name),
+            |rest, name, given| -> Result<Arguments, Fault>
+                ensures { Reads (spec.value (spec.ltype levels) name given rest.old) result rest.new }
+            { rest.value(name, given, levels) },
         )
-    }
-
-    /// An argument that is not given yet, whose value may hold a type of at most so many levels.
-    #[cycle(ltype)]
-    fn argument(&mut self, given: Arguments, levels: usize) -> Result<Arguments, Fault>
-        ensures { Reads (argument argument_at spec.is_given (spec.value (spec.ltype levels)) given self.old) result self.new }
-    {
-        let Some(name) = self.argument_name() else {
-            return Err(Fault::Refused);
-        };
-        if given.has(name) {
-            return Err(Fault::Refused);
-        }
-        self.skip();
-        self.value(name, given, levels)
     }
 
     /// A colon and the value of an argument, beside those that are given.
