@@ -1,24 +1,19 @@
 -- The rules of declarations, namespaces and projects.
-use Rattle.til_parser.proofs.rules.Common.{◌≡◌, ℕ, ◌<◌, true, false, List, [], ◌∷◌, ◌++◌, length, Option, Some, None, refl, sym, ap, subst, arith, codes, none-some, same_Some}
-use Rattle.til_parser.proofs.rules.Common.{append-nil, Anything, ◌⋯◌, Past, GoesOn, Each, EachIs, repeated, Shrinks, tells, ◌<&>◌, IsRule, front-tells, follows-front, Begins}
-use Rattle.til_parser.proofs.rules.Common.{begins-filled, begins-repeats, repeated-rule, as_rule, as_flat, skip, close, both, viewed, respelled, shrinks, chain-rule, Keyword}
-use Rattle.til_parser.proofs.rules.Common.{Ast, AstKind, AstName, AstNamespace, AstPath, Form, Of, Word, Name, SpellsKind, SpellsDecl, SpellsNamespace, Spells, KindWithin}
-use Rattle.til_parser.proofs.rules.Common.{DeclsWithin, IsWithin, Lexeme, IsFormed, RestTo, KindTo, DeclTo, NamespaceTo, ProjectTo, same_kind, is_kind, name, keyword, kind_of}
-use Rattle.til_parser.proofs.rules.Common.{named_kind, decl, namespace, project_of, project, keyword_word}
+use Rattle.til_parser.proofs.rules.Common.{◌≡◌, ℕ, ◌<◌, true, false, List, [], ◌∷◌, ◌++◌, length, Option, Some, None, refl, sym, ap, subst, arith, codes, none-some}
+use Rattle.til_parser.proofs.rules.Common.{same_Some, append-nil, Anything, ◌⋯◌, Past, GoesOn, Each, EachIs, Shrinks, tells, ◌<&>◌, IsRule, front-tells, Begins}
+use Rattle.til_parser.proofs.rules.Common.{begins-filled, begins-repeats, repeated-rule, as_rule, as_flat, skip, close, both, viewed, respelled, shrinks, chain-rule, Ast}
+use Rattle.til_parser.proofs.rules.Common.{AstKind, AstName, AstNamespace, AstPath, Form, Of, Word, Name, SpellsKind, SpellsDecl, SpellsNamespace, Spells, KindWithin}
+use Rattle.til_parser.proofs.rules.Common.{DeclsWithin, IsWithin, Lexeme, IsFormed, RestTo, KindTo, DeclTo, NamespaceTo, ProjectTo, same_kind, is_kind, name, keyword}
+use Rattle.til_parser.proofs.rules.Common.{kind_of, named_kind, decl, namespace, project_of, project, keyword_word}
 use Rattle.tydi_reading.proofs.CheckedRule.{Checks, checked-rule}
 use Rattle.til_lexer.specs.declared.token.TokenKind.TheVariants as kinds
 use Rattle.til_parser.specs.declared.tree.AstDecl.{AstDecl}
 use Rattle.til_parser.proofs.rules.DeclRules.{kind_parts, kind_of_parts, KindForm, keyword-rule, kind-rule_of}
-use Rattle.til_parser.proofs.rules.LeafRules.{PathNext, NoDoc, name-rule, path-rule, doc-rule, doc-begins, braced-rule, Of-path}
-use Rattle.til_parser.proofs.rules.TokenRules.{same_kind-is, word_mark, semicolon, begins_item, item-apart, kind-not}
+use Rattle.til_parser.proofs.rules.LeafRules.{PathNext, name-rule, path-rule, documented, doc-begins, braced-rule}
+use Rattle.til_parser.proofs.rules.TokenRules.{same_kind-is, word_mark, semicolon, begins_item, item-apart, Of-not, front-not}
 
 word-begins : (word : List ℕ) (Second : Form) (front rest : List Lexeme) → (Word word ⋯ Second) front → tells (is_kind kinds.Word) false (front ++ rest) ≡ true
 word-begins word Second front rest = front-tells (is_kind kinds.Word) true (Word word) Second front rest (λ f r s. rw (s.all) (same_kind-is s.lexeme.kind kinds.Word s.is.kind))
-
--- where a word follows, no documentation does
-no_doc : (ts : List Lexeme) → tells (is_kind kinds.Word) false ts ≡ true → NoDoc ts
-unfolding same_kind
-no_doc = kind-not kinds.Word kinds.Doc refl
 
 -- nothing is left
 abbrev pub AtEnd : Form
@@ -27,14 +22,11 @@ AtEnd rest = tells {T = Lexeme} (λ _. false) true rest ≡ true
 module _ (n : ℕ) where
   -- ---- a keyword, a name, and what follows
 
-  abbrev NamedForm : Keyword → AstName × AstKind → Form
-  NamedForm begun z = Name z.0 ⋯ KindForm begun z.1
-
   named-rule : IsRule IsFormed (named_kind n) (λ z. SpellsKind z.0 z.1) (λ _. PathNext) (λ z. KindWithin n z.1) (KindTo n)
   unfolding named_kind
   named-rule = respelled (as_rule
-      (chain-rule (λ begun. Word (keyword_word begun)) NamedForm IsFormed keyword (λ begun. name <&> kind_of n begun) (λ _. Anything) (λ _. PathNext) (λ z. KindWithin n z.1)
-      (λ begun. Past Name (RestTo n begun)) (λ begun z back rest s next. tt) (λ begun back rest d. tt)
+      (chain-rule (λ begun. Word (keyword_word begun)) (λ begun z. Name z.0 ⋯ KindForm begun z.1) IsFormed keyword (λ begun. name <&> kind_of n begun)
+      (λ _. Anything) (λ _. PathNext) (λ z. KindWithin n z.1) (λ begun. Past Name (RestTo n begun)) (λ begun z back rest s next. tt) (λ begun back rest d. tt)
       keyword-rule (λ begun. (both (as_flat name-rule) (as_rule (kind-rule_of n begun)) (λ x y back rest s next. tt) (λ x back rest d. tt)).is)))
       (λ z. SpellsKind z.0 z.1) (λ z ts c. kind_of_parts c.0 z.0 z.1 ts c.1) (λ z ts s. kind_parts z.0 z.1 ts s)
 
@@ -44,8 +36,8 @@ module _ (n : ℕ) where
     deep = λ front rest d. word-begins (keyword_word d.0) _ front rest d.1;
   }
 
-  ended-begins : (z : AstName × AstKind) (front rest : List Lexeme) → (SpellsKind z.0 z.1 ⋯ Of kinds.Semicolon) front → tells (is_kind kinds.Word) false (front ++ rest) ≡ true
-  ended-begins z front rest = front-tells (is_kind kinds.Word) true (SpellsKind z.0 z.1) (Of kinds.Semicolon) front rest (kind-begins.item z)
+  ended-begins : Begins (is_kind kinds.Word) (λ (z : AstName × AstKind). SpellsKind z.0 z.1 ⋯ Of kinds.Semicolon) (KindTo n)
+  ended-begins = record { item = λ z front rest. front-tells (is_kind kinds.Word) true (SpellsKind z.0 z.1) _ front rest (kind-begins.item z); deep = kind-begins.deep }
 
   -- ---- declarations
 
@@ -53,14 +45,10 @@ module _ (n : ℕ) where
   unfolding decl same_kind
   decl-rule =
       viewed (λ (d : Option (List ℕ) × (AstName × AstKind)). record { doc = d.0; name = d.1.0; kind = d.1.1 }) (λ (d : AstDecl). (d.doc, (d.name, d.kind)))
-      (both (as_flat doc-rule) (close (as_rule named-rule) semicolon (λ z. Of-path kinds.Semicolon refl))
-      (λ x y back rest s next. no_doc (back ++ rest) (ended-begins y back rest s)) (λ x back rest d. no_doc (back ++ rest) (kind-begins.deep back rest d))) (λ x. refl) (λ y. refl)
+      (documented (close (as_rule named-rule) semicolon (λ z. Of-not kinds.Semicolon kinds.DoubleColon refl)) ended-begins) (λ x. refl) (λ y. refl)
 
   decl-begins : Begins begins_item SpellsDecl (DeclTo n)
-  decl-begins = record {
-    item = λ d front rest. doc-begins d.doc _ front rest (ended-begins (d.name, d.kind));
-    deep = λ front rest d. doc-begins d.0 _ front rest kind-begins.deep d.1;
-  }
+  decl-begins = record { item = λ d. doc-begins _ (ended-begins.item (d.name, d.kind)) d.doc; deep = λ front rest d. doc-begins _ ended-begins.deep d.0 front rest d.1 }
 
   pub decl-filled : (d : AstDecl) (ts : List Lexeme) → SpellsDecl d ts → 0 < length ts
   decl-filled d ts s = begins-filled begins_item ts (decl-begins.item d ts [] s)
@@ -77,19 +65,15 @@ module _ (n : ℕ) where
   unfolding namespace same_kind
   namespace-rule =
       viewed (λ (x : Option (List ℕ) × (AstPath × List AstDecl)). record { doc = x.0; path = x.1.0; decls = x.1.1 }) (λ (x : AstNamespace). (x.doc, (x.path, x.decls)))
-      (both (as_flat doc-rule)
-      (skip (word_mark (codes "namespace") refl)
+      (documented (skip (word_mark (codes "namespace") refl)
       (both (as_flat path-rule) (as_rule (braced-rule (begins-repeats (item-apart kinds.CloseBrace refl refl) decl-begins) decl-rule))
-      (λ p all back rest s next. follows-front PathNext (Of kinds.OpenBrace) _ back rest (Of-path kinds.OpenBrace refl) s)
-      (λ p back rest d. follows-front PathNext (Of kinds.OpenBrace) _ back rest (Of-path kinds.OpenBrace refl) d)))
-      (λ x z back rest s next. no_doc (back ++ rest) (word-begins (codes "namespace") _ back rest s))
-      (λ x back rest d. no_doc (back ++ rest) (word-begins (codes "namespace") _ back rest d)))
-      (λ x. refl) (λ y. refl)
+      (λ p all back rest s next. front-not kinds.OpenBrace kinds.DoubleColon refl back rest s) (λ p. front-not kinds.OpenBrace kinds.DoubleColon refl)))
+      (record { item = λ z. word-begins (codes "namespace") _; deep = word-begins (codes "namespace") _ })) (λ x. refl) (λ y. refl)
 
   namespace-begins : Begins begins_item SpellsNamespace (NamespaceTo n)
   namespace-begins = record {
-    item = λ x front rest. doc-begins x.doc _ front rest (word-begins (codes "namespace") _);
-    deep = λ front rest d. doc-begins d.0 _ front rest (word-begins (codes "namespace") _) d.1;
+    item = λ x. doc-begins _ (word-begins (codes "namespace") _) x.doc;
+    deep = λ front rest d. doc-begins _ (word-begins (codes "namespace") _) d.0 front rest d.1;
   }
 
   pub Shrinks-namespace : Shrinks (namespace n)
@@ -106,19 +90,13 @@ module _ (n : ℕ) where
   some_project [] some = absurd (omega arith)
   some_project (x ∷ all) some = refl
 
-  one_namespace : GoesOn IsFormed SpellsNamespace [] → GoesOn IsFormed Spells []
-  one_namespace g = record {
+  project_mends : (all : List AstNamespace) (ts : List Lexeme) → project_of all ≡ None → Each SpellsNamespace all ts → GoesOn IsFormed Spells ts
+  project_mends [] ts is s = let g = namespace-rule.example in subst (GoesOn IsFormed Spells) (sym s) (record {
     value = record { namespaces = g.value ∷ [] };
     more = g.more;
     good = g.good;
-    spelled = record {
-      some = omega arith;
-      each = record { front = g.more; back = []; all = sym (append-nil g.more); begins = g.spelled; ends = refl };
-    };
-  }
-
-  project_mends : (all : List AstNamespace) (ts : List Lexeme) → project_of all ≡ None → Each SpellsNamespace all ts → GoesOn IsFormed Spells ts
-  project_mends [] ts is s = subst (GoesOn IsFormed Spells) (sym s) (one_namespace namespace-rule.example)
+    spelled = record { some = omega arith; each = record { front = g.more; back = []; all = sym (append-nil g.more); begins = g.spelled; ends = refl } };
+  })
   project_mends (x ∷ all) ts is s = absurd (none-some _ (sym is))
 
   project-checks : Checks IsFormed project_of (Each SpellsNamespace) (λ _. AtEnd) (EachIs NamespaceWithin) Spells (λ _. AtEnd) (IsWithin n)
@@ -134,7 +112,6 @@ module _ (n : ℕ) where
   pub project-rule : IsRule IsFormed (project n) Spells (λ _. AtEnd) (IsWithin n) (ProjectTo n)
   unfolding project
   project-rule =
-      checked-rule IsFormed project_of (repeated (λ _. false) true (namespace n)) (Each SpellsNamespace) (λ _. AtEnd) (EachIs NamespaceWithin) (ProjectTo n) Spells (λ _. AtEnd) (IsWithin n)
-      project-checks
+      checked-rule IsFormed project_of _ _ _ _ _ Spells (λ _. AtEnd) (IsWithin n) project-checks
       (repeated-rule IsFormed (λ _. false) true (namespace n) SpellsNamespace NamespaceWithin (NamespaceTo n)
       (begins-repeats (λ t is. refl) namespace-begins) namespace-rule)

@@ -17,7 +17,7 @@ use Rattle.tydi_reading.proofs.NamedRule.{Defaults, named-rule}
 use Rattle.tydi_reading.proofs.NamedSteps as steps
 use Rattle.til_lexer.specs.declared.token.TokenKind.TheVariants as kinds
 use Rattle.til_parser.specs.ReadTypes as read
-use Rattle.til_parser.proofs.rules.LeafRules.{PathNext, number-rule, whole-rule, level-rule, sync-rule, either_word-rule, kind-path}
+use Rattle.til_parser.proofs.rules.LeafRules.{PathNext, number-rule, whole-rule, level-rule, sync-rule, either_word-rule}
 use Rattle.til_parser.proofs.rules.TokenRules.{made, kind-not, colon, open_paren, close_paren, comma, word_at-word, word_at-made, word_at-there, word_at-back}
 
 -- ---- the names
@@ -251,8 +251,8 @@ module _ (inner : Reader Lexeme AstType) (W : AstType → Type 0) (D : Form) (ru
   between = record {
     mark = comma.is;
     starts = λ name t is. rw ((word_at-word argument_word all_arguments each_argument t name is).kind) refl;
-    before_end = λ rest is. kind-path kinds.CloseParen refl rest is;
-    before_separator = λ t rest is. kind-path kinds.Comma refl (t ∷ rest) is;
+    before_end = λ rest is. kind-not kinds.CloseParen kinds.DoubleColon refl rest is;
+    before_separator = λ t rest is. kind-not kinds.Comma kinds.DoubleColon refl (t ∷ rest) is;
     apart = λ rest is. kind-not kinds.CloseParen kinds.Comma refl rest is;
   }
 

@@ -1,10 +1,13 @@
 -- The rules of one token: of a kind, a word, or a token of a kind with a meaning.
-use Rattle.til_parser.proofs.rules.Common.{◌≡◌, ℕ, Bool, true, false, cond, ◌&&◌, ◌||◌, List, [], ◌∷◌, ◌++◌, All, Option, Some, None, option_and_then, refl, sym, ap, ◌∙◌}
-use Rattle.til_parser.proofs.rules.Common.{subst, bytes_eq, codes, none-some, bytes_eq-Decides, All-head, Place, Never, Anything, meant, leaf, tells, IsRule, entry_of}
-use Rattle.til_parser.proofs.rules.Common.{entry-word, word_at, begins-apart, Mark, leaf-rule, read-rule, TokenKind, start, HasForm, has_name_form, Form, One, Of, IsWord, Word}
-use Rattle.til_parser.proofs.rules.Common.{Lexeme, IsFormed, same_kind, is_kind, is_word, token}
+use Rattle.til_parser.proofs.rules.Common.{◌≡◌, ℕ, Bool, true, false, cond, ◌||◌, List, [], ◌∷◌, ◌++◌, All, Option, Some, None, option_and_then, refl, ap, ◌∙◌, subst}
+use Rattle.til_parser.proofs.rules.Common.{codes, none-some, bytes_eq-Decides, All-head, Place, Never, Anything, meant, leaf, tells, IsRule, entry_of, entry-word}
+use Rattle.til_parser.proofs.rules.Common.{word_at, begins-apart, Mark, leaf-rule, read-rule, TokenKind, start, HasForm, has_name_form, Form, One, Of, IsWord, Word}
+use Rattle.til_parser.proofs.rules.Common.{Lexeme, IsFormed, same_kind, is_kind, is_word, token, ⊎_elim, front-tells, ◌⋯◌}
 use denote.Enum.Bare.{same_true, true_same}
-use Rattle.tydi_reading.proofs.MarkLemmas.{IsMark}
+use Rattle.std.specs.Bool.{Decides}
+use Rattle.std.proofs.lemmas.Bool.{or_cases}
+use Rattle.std.proofs.lemmas.Bool.Decides.{Decides-and, Decides-like}
+pub use Rattle.std.proofs.lemmas.Bool.{and_parts as both}
 use Rattle.til_lexer.specs.contracts.token.TokenKind.{the_type}
 use Rattle.til_lexer.specs.declared.token.TokenKind.TheVariants as kinds
 
@@ -18,17 +21,9 @@ pub same_kind-is : (one other : TokenKind) → one ≡ other → same_kind one o
 unfolding same_kind
 same_kind-is one other is = true_same the_type one other is
 
-pub both : (b c : Bool) → (b && c) ≡ true → (b ≡ true) × (c ≡ true)
-both true c e = (refl, e)
-both false c e = absurd cc
-
-pub word_is : (word : List ℕ) (lexeme : Lexeme) → is_word word lexeme ≡ true → IsWord word lexeme
-word_is word lexeme same =
-    let parts = both (same_kind lexeme.kind kinds.Word) (bytes_eq lexeme.spelling word) same in
-    record { kind = kind_is lexeme.kind kinds.Word parts.0; text = (bytes_eq-Decides lexeme.spelling word).0 parts.1 }
-
-pub is_word-is : (word : List ℕ) (lexeme : Lexeme) → IsWord word lexeme → is_word word lexeme ≡ true
-is_word-is word lexeme is = rw (same_kind-is lexeme.kind kinds.Word is.kind) ((bytes_eq-Decides lexeme.spelling word).1 is.text)
+pub is_word-Decides : (word : List ℕ) (t : Lexeme) → Decides (is_word word t) (IsWord word t)
+is_word-Decides word t = Decides-like (is_word word t) (λ parts. record { kind = parts.0; text = parts.1 }) (λ is. (is.kind, is.text))
+    (Decides-and _ _ (kind_is t.kind kinds.Word, same_kind-is t.kind kinds.Word) (bytes_eq-Decides t.spelling word))
 
 pub one : (Is : Lexeme → Type 0) (lexeme : Lexeme) → Is lexeme → One Is (lexeme ∷ [])
 one Is lexeme is = record { lexeme = lexeme; all = refl; is = is }
@@ -37,30 +32,26 @@ one Is lexeme is = record { lexeme = lexeme; all = refl; is = is }
 abbrev pub made : TokenKind → List ℕ → Lexeme
 made kind spelling = record { kind = kind; spelling = spelling; place = start }
 
-pub token-mark : (test : Lexeme → Bool) (Is : Lexeme → Type 0) → ((t : Lexeme) → test t ≡ true → Is t) → ((t : Lexeme) → Is t → test t ≡ true)
-    → (thing : Lexeme) → IsFormed thing → Is thing → IsMark IsFormed test (One Is)
-token-mark test Is to from thing good is = record {
-  thing = thing;
-  good = good;
-  holds = from thing is;
-  there = λ t holds. one Is t (to t holds);
-  back = λ ts s. (s.lexeme, s.all, from s.lexeme s.is);
+-- a token of which a test tells, as this one
+abbrev token_mark : (test : Lexeme → Bool) (Is : Lexeme → Type 0) → ((t : Lexeme) → Decides (test t) (Is t)) → (thing : Lexeme) → IsFormed thing → Is thing → Mark IsFormed
+token_mark test Is decides thing good is = record {
+  test = test;
+  Spelled = One Is;
+  is = record {
+    thing = thing;
+    good = good;
+    holds = (decides thing).1 is;
+    there = λ t holds. one Is t ((decides t).0 holds);
+    back = λ ts s. (s.lexeme, s.all, (decides s.lexeme).1 s.is);
+  };
 }
 
 -- a token of this kind, and this word
 abbrev pub kind_mark : (kind : TokenKind) (spelling : List ℕ) → HasForm kind spelling → Mark IsFormed
-kind_mark kind spelling form = record {
-  test = is_kind kind;
-  Spelled = Of kind;
-  is = token-mark (is_kind kind) (λ t. t.kind ≡ kind) (λ t. kind_is t.kind kind) (λ t. same_kind-is t.kind kind) (made kind spelling) form refl;
-}
+kind_mark kind spelling form = token_mark (is_kind kind) (λ t. t.kind ≡ kind) (λ t. (kind_is t.kind kind, same_kind-is t.kind kind)) (made kind spelling) form refl
 
 abbrev pub word_mark : (word : List ℕ) → has_name_form word ≡ true → Mark IsFormed
-word_mark word form = record {
-  test = is_word word;
-  Spelled = Word word;
-  is = token-mark (is_word word) (IsWord word) (word_is word) (is_word-is word) (made kinds.Word word) form (record { kind = refl; text = refl });
-}
+word_mark word form = token_mark (is_word word) (IsWord word) (is_word-Decides word) (made kinds.Word word) form (record { kind = refl; text = refl })
 
 abbrev pub comma : Mark IsFormed
 comma = kind_mark kinds.Comma (codes ",") refl
@@ -97,15 +88,22 @@ close_paren = kind_mark kinds.CloseParen (codes ")") refl
 
 -- ---- what a token is not
 
+-- no token of this kind stands next
+abbrev pub NoneNext : TokenKind → Form
+NoneNext kind rest = tells (is_kind kind) false rest ≡ false
+
 -- after such a token a test for another kind or word tells no
-pub Of-not : (kind other : TokenKind) → same_kind kind other ≡ false → (front rest : List Lexeme) → Of kind front → tells (is_kind other) false (front ++ rest) ≡ false
+pub Of-not : (kind other : TokenKind) → same_kind kind other ≡ false → (front rest : List Lexeme) → Of kind front → NoneNext other (front ++ rest)
 Of-not kind other apart front rest s = rw (s.all, s.is) apart
+
+pub front-not : (kind other : TokenKind) → same_kind kind other ≡ false → {Second : Form} (front rest : List Lexeme) → (Of kind ⋯ Second) front → NoneNext other (front ++ rest)
+front-not kind other apart {Second} front rest = front-tells (is_kind other) false (Of kind) Second front rest (Of-not kind other apart)
 
 -- a token of one kind is of no other
 pub kind-apart : (kind other : TokenKind) → same_kind kind other ≡ false → (t : Lexeme) → is_kind kind t ≡ true → is_kind other t ≡ false
 kind-apart kind other apart t is = rw (kind_is t.kind kind is) apart
 
-pub kind-not : (kind other : TokenKind) → same_kind kind other ≡ false → (rest : List Lexeme) → tells (is_kind kind) false rest ≡ true → tells (is_kind other) false rest ≡ false
+pub kind-not : (kind other : TokenKind) → same_kind kind other ≡ false → (rest : List Lexeme) → tells (is_kind kind) false rest ≡ true → NoneNext other rest
 kind-not kind other apart = begins-apart (is_kind kind) (is_kind other) false (kind-apart kind other apart)
 
 -- what begins with a word, or with documentation
@@ -113,53 +111,44 @@ abbrev pub begins_item : Lexeme → Bool
 begins_item t = is_kind kinds.Word t || is_kind kinds.Doc t
 
 pub item-apart : (kind : TokenKind) → same_kind kinds.Word kind ≡ false → same_kind kinds.Doc kind ≡ false → (t : Lexeme) → begins_item t ≡ true → is_kind kind t ≡ false
-item-apart kind word doc t is = of_word (is_kind kinds.Word t) refl
-  where
-    of_word : (b : Bool) → is_kind kinds.Word t ≡ b → is_kind kind t ≡ false
-    of_word true test = kind-apart kinds.Word kind word t test
-    of_word false test = kind-apart kinds.Doc kind doc t (sym (ap (λ c. c || is_kind kinds.Doc t) test) ∙ is)
+item-apart kind word doc t is = ⊎_elim (kind-apart kinds.Word kind word t) (kind-apart kinds.Doc kind doc t) (or_cases (is_kind kinds.Word t) (is_kind kinds.Doc t) is)
 
 -- ---- a token with a meaning
 
--- a form is that of one token of this kind with a meaning
-pub record IsToken {A : Type 0} (kind : TokenKind) (meaning : Place → List ℕ → Option A) (Spelled : A → Form) : Type 0 where
-  pub there : (x : A) (lexeme : Lexeme) → lexeme.kind ≡ kind → meaning lexeme.place lexeme.spelling ≡ Some x → Spelled x (lexeme ∷ [])
-  pub back : (x : A) (ts : List Lexeme) → Spelled x ts
-      → (lexeme : Lexeme) × (ts ≡ lexeme ∷ []) × (lexeme.kind ≡ kind) × (IsFormed lexeme → meaning lexeme.place lexeme.spelling ≡ Some x)
+-- a token of this kind whose text has a meaning is such a one
+pub record IsToken {A : Type 0} (kind : TokenKind) (meaning : Place → List ℕ → Option A) (Is : A → Lexeme → Type 0) : Type 0 where
+  pub there : (x : A) (t : Lexeme) → t.kind ≡ kind → meaning t.place t.spelling ≡ Some x → Is x t
+  pub of_kind : (x : A) (t : Lexeme) → Is x t → t.kind ≡ kind
+  pub back : (x : A) (t : Lexeme) → IsFormed t → Is x t → meaning t.place t.spelling ≡ Some x
 
 pub meant_is : {A : Type 0} (b : Bool) (o : Option A) (x : A) → cond b o None ≡ Some x → (b ≡ true) × (o ≡ Some x)
 meant_is true o x is = (refl, is)
 meant_is false o x is = absurd (none-some x is)
 
 -- a token is read by the meaning of its text where it is of this kind
-module _ {A : Type 0} (kind : TokenKind) (meaning : Place → List ℕ → Option A) (Spelled : A → Form) where
+module _ {A : Type 0} (kind : TokenKind) (meaning : Place → List ℕ → Option A) (Is : A → Lexeme → Type 0) where
   abbrev meaning_of : Lexeme → Option A
-  meaning_of lexeme = cond (same_kind lexeme.kind kind) (meaning lexeme.place lexeme.spelling) None
+  meaning_of t = cond (same_kind t.kind kind) (meaning t.place t.spelling) None
 
   same_read : (ts : List Lexeme) → leaf meaning_of ts ≡ token kind meaning ts
   unfolding token
   same_read [] = refl
-  same_read (lexeme ∷ ts) = of_test (same_kind lexeme.kind kind)
-    where
-      of_test : (b : Bool) → meant (cond b (meaning lexeme.place lexeme.spelling) None) ts (lexeme ∷ ts)
-          ≡ meant (option_and_then (λ (next : Place × List ℕ). meaning next.0 next.1) (cond b (Some (lexeme.place, lexeme.spelling)) None)) ts (lexeme ∷ ts)
-      of_test true = refl
-      of_test false = refl
+  same_read (t ∷ ts) = elim (same_kind t.kind kind) as (λ b. meant (cond b (meaning t.place t.spelling) None) ts (t ∷ ts)
+      ≡ meant (option_and_then (λ (next : Place × List ℕ). meaning next.0 next.1) (cond b (Some (t.place, t.spelling)) None)) ts (t ∷ ts)) [ true ↦ refl | false ↦ refl ]
 
-  as_token : IsRule IsFormed (leaf meaning_of) Spelled (λ _. Anything) (λ _. Unit {0}) Never → IsRule IsFormed (token kind meaning) Spelled (λ _. Anything) (λ _. Unit {0}) Never
-  as_token = read-rule IsFormed (leaf meaning_of) (token kind meaning) Spelled (λ _. Anything) (λ _. Unit {0}) Never same_read
+  as_token : IsRule IsFormed (leaf meaning_of) (λ x. One (Is x)) (λ _. Anything) (λ _. Unit {0}) Never
+      → IsRule IsFormed (token kind meaning) (λ x. One (Is x)) (λ _. Anything) (λ _. Unit {0}) Never
+  as_token = read-rule IsFormed (leaf meaning_of) (token kind meaning) (λ x. One (Is x)) (λ _. Anything) (λ _. Unit {0}) Never same_read
 
-  pub token-rule : IsToken kind meaning Spelled → (lexeme : Lexeme) (x : A) → IsFormed lexeme → lexeme.kind ≡ kind → meaning lexeme.place lexeme.spelling ≡ Some x
-      → IsRule IsFormed (token kind meaning) Spelled (λ _. Anything) (λ _. Unit {0}) Never
-  token-rule is_token lexeme x formed is means =
-      as_token (leaf-rule IsFormed meaning_of Spelled lexeme x formed (rw (same_kind-is lexeme.kind kind is) means)
-      (record {
+  pub token-rule : IsToken kind meaning Is → (thing : Lexeme) (x : A) → IsFormed thing → thing.kind ≡ kind → meaning thing.place thing.spelling ≡ Some x
+      → IsRule IsFormed (token kind meaning) (λ x. One (Is x)) (λ _. Anything) (λ _. Unit {0}) Never
+  token-rule is_token thing x formed is means =
+      as_token (leaf-rule IsFormed meaning_of (λ x. One (Is x)) thing x formed (rw (same_kind-is thing.kind kind is) means) (record {
         there = λ y t made. let parts = meant_is (same_kind t.kind kind) (meaning t.place t.spelling) y made in
-            is_token.there y t (kind_is t.kind kind parts.0) parts.1;
+            one (Is y) t (is_token.there y t (kind_is t.kind kind parts.0) parts.1);
         back = λ y ts each s.
-            let o = is_token.back y ts s in
-            let form = All-head IsFormed o.0 [] (subst (All IsFormed) o.1 each) in
-            (o.0, o.1, rw (same_kind-is o.0.kind kind o.2) (o.3 form));
+            let form = All-head IsFormed s.lexeme [] (subst (All IsFormed) s.all each) in
+            (s.lexeme, s.all, rw (same_kind-is s.lexeme.kind kind (is_token.of_kind y s.lexeme s.is)) (is_token.back y s.lexeme form s.is));
       }))
 
 -- ---- tables of words
@@ -189,4 +178,4 @@ module _ {K : Type 0} (own : K → List ℕ) (all : List K) (each : (x : K) → 
 
   pub table-rule : (x : K) → has_name_form (own x) ≡ true
       → IsRule IsFormed (token kinds.Word (λ place spelling. entry_of own all spelling)) (λ x. Word (own x)) (λ _. Anything) (λ _. Unit {0}) Never
-  table-rule x form = as_token kinds.Word (λ place spelling. entry_of own all spelling) (λ x. Word (own x)) (word_at-rule x form)
+  table-rule x form = as_token kinds.Word (λ place spelling. entry_of own all spelling) (λ x. IsWord (own x)) (word_at-rule x form)
