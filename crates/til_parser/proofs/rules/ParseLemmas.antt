@@ -1,7 +1,7 @@
 -- The reader of projects: what it reads, and why it stops.
-use Rattle.til_parser.proofs.rules.Common.{◌≡◌, ◌≢◌, ℕ, zero, suc, ◌<◌, ⊎_elim, inl, inr, true, false, List, [], ◌∷◌, All, length, Err, Ok, refl, sym, ap, ◌∙◌, subst, repeated}
-use Rattle.til_parser.proofs.rules.Common.{Outcome, took, stopped, and_then, meant, repeated-all, took-both, Ast, AstNamespace, Spells, IsWithin, Lexeme, IsFormed, ProjectTo}
-use Rattle.til_parser.proofs.rules.Common.{namespace, project_of, project}
+use Rattle.til_parser.proofs.rules.Common.{◌≡◌, ◌≢◌, ℕ, zero, suc, ◌<◌, ⊎_elim, inl, inr, true, false, List, [], ◌∷◌, All, length, Err, refl, sym, ap, ◌∙◌, subst}
+use Rattle.til_parser.proofs.rules.Common.{repeated, Outcome, took, stopped, and_then, meant, repeated-all, took-both, Ast, AstNamespace, Spells, IsWithin, Lexeme}
+use Rattle.til_parser.proofs.rules.Common.{IsFormed, ProjectTo, namespace, project_of, project}
 use Rattle.tydi_reading.specs.declared.fault.Fault.{Fault}
 use Rattle.tydi_reading.specs.declared.fault.Fault.TheVariants as reading
 use Rattle.tydi_reading.specs.Faults.{Stop, refused, cut_off, deep, IsStop, stop_at}
@@ -32,38 +32,26 @@ project_complete n = all.all-complete IsFormed (project n) Spells (λ _. AtEnd) 
 
 -- ---- why it stops
 
-abbrev StopsAt : List Lexeme → Stop → Type 0
-StopsAt = IsStop IsFormed Spells (ProjectTo 64)
-
 abbrev fault_of : Stop → ParseFault
 fault_of (refused k) = faults.Unexpected k
 fault_of cut_off = faults.EndOfText
 fault_of (deep k) = faults.TooDeep k
 
-fault-is : (ts : List Lexeme) (stop : Stop) → StopsAt ts stop → IsFaultOf ts (fault_of stop)
-fault-is ts (refused k) s = s
+fault-is : (ts : List Lexeme) (stop : Stop) → IsStop IsFormed Spells (ProjectTo 64) ts stop → IsFaultOf ts (fault_of stop)
 fault-is ts cut_off s = s
-fault-is ts (deep k) s = s
+fault-is ts _ s = s
 
-stop-is : (ts : List Lexeme) (fault : ParseFault) → IsFaultOf ts fault → (stop : Stop) × (fault ≡ fault_of stop) × StopsAt ts stop
+stop-is : (ts : List Lexeme) (fault : ParseFault) → IsFaultOf ts fault → (stop : Stop) × (fault ≡ fault_of stop) × IsStop IsFormed Spells (ProjectTo 64) ts stop
 stop-is ts (faults.Unexpected k) f = (refused k, refl, f)
 stop-is ts faults.EndOfText f = (cut_off, refl, f)
 stop-is ts (faults.TooDeep k) f = (deep k, refl, f)
 stop-is ts faults.Memory f = absurd f
 
-same_at : (e : Fault) (count left : ℕ) → (e ≡ reading.Memory → ⊥) → fault_of (stop_at e count left) ≡ fault_at e count left
+same_at : (e : Fault) (count left : ℕ) → e ≢ reading.Memory → fault_of (stop_at e count left) ≡ fault_at e count left
 same_at reading.Refused count zero other = refl
 same_at reading.Refused count (suc left) other = refl
 same_at reading.TooDeep count left other = refl
 same_at reading.Memory count left other = absurd (other refl)
-
-exact : (ts rest : List Lexeme) (e : Fault) → All IsFormed ts → project 64 ts ≡ stopped e rest → IsFaultOf ts (fault_at e (length ts) (length rest))
-exact ts rest e formed is =
-    subst (IsFaultOf ts)
-    (same_at e (length ts) (length rest) (λ memory. all.never-memory IsFormed (project 64) Spells (λ _. AtEnd) (IsWithin 64) (ProjectTo 64) (project-rule 64) (λ x. refl) (project-ends 64) ts rest
-    (is ∙ ap (λ f. stopped f rest) memory)))
-    (fault-is ts (stop_at e (length ts) (length rest))
-    (all.exact IsFormed (project 64) Spells (λ _. AtEnd) (IsWithin 64) (ProjectTo 64) (project-rule 64) (λ x. refl) (project-ends 64) ts rest e formed is))
 
 pub tree_or_fault : (ts : List Lexeme) → All IsFormed ts → TreeOrFault ts
 tree_or_fault ts formed = record {
@@ -77,17 +65,13 @@ tree_or_fault ts formed = record {
 
 -- ---- the clauses of `parse`
 
-not_memory : (count left : ℕ) (e : Fault) → fault_at e count left ≢ faults.Memory → e ≢ reading.Memory
-not_memory count left reading.Refused other is = absurd cc
-not_memory count left reading.TooDeep other is = absurd cc
-not_memory count left reading.Memory other is = other refl
-
 -- what is said of so many tokens, where so many are left
 pub said : (ts left : List Lexeme) (count some : ℕ) (e : Fault) (fault : ParseFault) → All IsFormed ts → (e ≢ reading.Memory → project 64 ts ≡ stopped e left)
     → fault ≡ fault_at e count some → count ≡ length ts → some ≡ length left → fault ≢ faults.Memory → IsFaultOf ts fault
 said ts left count some e fault formed reads is every rest other =
-    let same : fault ≡ fault_at e (length ts) (length left) = is ∙ ap (λ m. fault_at e m some) every ∙ ap (fault_at e (length ts)) rest in
-    subst (IsFaultOf ts) (sym same) (exact ts left e formed (reads (not_memory (length ts) (length left) e (λ memory. other (same ∙ memory)))))
+    let apart : e ≢ reading.Memory = λ memory. other (is ∙ ap (λ f. fault_at f count some) memory) in
+    rw (is, every, rest, ← same_at e (length ts) (length left) apart) (fault-is ts (stop_at e (length ts) (length left))
+    (all.exact IsFormed (project 64) Spells (λ _. AtEnd) (IsWithin 64) (ProjectTo 64) (project-rule 64) (λ x. refl) (project-ends 64) ts left e formed (reads apart)))
 
 pub named : (ts : List Lexeme) (count : ℕ) (fault : ParseFault) → count ≡ length ts → (fault ≢ faults.Memory → IsFaultOf ts fault) → NamesToken count fault
 named ts count (faults.Unexpected k) every is = subst (λ n. k < n) (sym every) (is (λ e. absurd cc)).there
@@ -98,7 +82,3 @@ named ts count _ every is = tt
 pub told : (ts : List Lexeme) → All IsFormed ts → (fault : ParseFault) → (fault ≢ faults.Memory → IsFaultOf ts fault) → IsTold ts (Err fault)
 told ts formed faults.Memory is other f = inr refl
 told ts formed fault is other f = inl (ap Err ((tree_or_fault ts formed).one fault other (is (λ e. absurd cc)) f))
-
--- tokens that spell a tree have no fault
-pub untold : (ts : List Lexeme) → All IsFormed ts → (ast : Ast) → Spells ast ts → IsWithin 64 ast → IsTold ts (Ok ast)
-untold ts formed ast spells within fault f = absurd ((tree_or_fault ts formed).apart fault f ast spells within)
