@@ -4,18 +4,13 @@ use Rattle.til_parser.proofs.numbers.FractionLemmas.{lowest_from_Some}
 use Rattle.til_parser.proofs.numbers.NumberLemmas.{AreParts-number, room-whole, room-behind, read_on-append, tens_pos, tens_fit}
 use Rattle.til_parser.proofs.leaves.fraction_of.Goals as goal
 
-pub with_digits-whole-requires-clause-digits : goal.with_digits-whole-requires-clause-digits
-with_digits-whole-requires-clause-digits c = rw c.around_point.ensures.before (AreParts-number c.args.spelling.now c.requires).before
+pub with_digits-whole-requires : goal.with_digits-whole-requires
+with_digits-whole-requires c = let parts = AreParts-number c.args.spelling.now c.requires in
+    rw c.around_point.ensures.before (record { digits = parts.before; fits = room-whole c.args.spelling.now parts })
 
-pub with_digits-whole-requires-clause-fits : goal.with_digits-whole-requires-clause-fits
-with_digits-whole-requires-clause-fits c = rw c.around_point.ensures.before (room-whole c.args.spelling.now (AreParts-number c.args.spelling.now c.requires))
-
-pub with_digits-numerator-requires-clause-digits : goal.with_digits-numerator-requires-clause-digits
-with_digits-numerator-requires-clause-digits c = rw c.around_point.ensures.behind (AreParts-number c.args.spelling.now c.requires).behind
-
-pub with_digits-numerator-requires-clause-fits : goal.with_digits-numerator-requires-clause-fits
-with_digits-numerator-requires-clause-fits c =
-    rw (c.around_point.ensures.behind, c.with_digits-whole.ensures, c.around_point.ensures.before) (room-behind c.args.spelling.now (AreParts-number c.args.spelling.now c.requires))
+pub with_digits-numerator-requires : goal.with_digits-numerator-requires
+with_digits-numerator-requires c = let parts = AreParts-number c.args.spelling.now c.requires in
+    rw (c.around_point.ensures.behind, c.with_digits-whole.ensures, c.around_point.ensures.before) (record { digits = parts.behind; fits = room-behind c.args.spelling.now parts })
 
 pub pow-requires : goal.pow-requires
 pow-requires c = let few = (AreParts-number c.args.spelling.now c.requires).few in rw c.around_point.ensures.behind (tens_fit _ (omega arith))

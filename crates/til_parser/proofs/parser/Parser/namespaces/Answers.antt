@@ -3,17 +3,7 @@ use Rattle.til_parser.proofs.rules.ProjectRules.{Shrinks-namespace}
 use Rattle.til_parser.proofs.parser.Parser.namespaces.Goals as goal
 
 pub repeated-requires : goal.repeated-requires
-repeated-requires c κs = (
-  search rules,
-  (
-    search rules,
-    (
-      search rules,
-      λ p q a k.
-          reads-less {read = namespace c.args.levels} (Shrinks-namespace c.args.levels) p.now q.now a (search rules),
-    ),
-  ),
-)
+repeated-requires c κs = (search rules, (search rules, (search rules, λ p q a k. reads-less (Shrinks-namespace c.args.levels) p.now q.now a (search rules))))
 
 pub returns : goal.returns
 unfolding repeated

@@ -1,31 +1,19 @@
-use Rattle.til_parser.proofs.rules.Common.{true, rules, arith, not, common_steps, is_kind, expect, name, path, joined, ◌>>◌, reads-less}
+use Rattle.til_parser.proofs.rules.Common.{true, rules, arith, not, common_steps, is_kind, path, joined, reads-less}
 use Rattle.til_lexer.specs.declared.token.TokenKind.TheVariants as kinds
 use Rattle.til_parser.proofs.rules.LeafRules.{Shrinks-next_name}
 use Rattle.til_parser.proofs.parser.Parser.path.Goals as goal
 
 pub repeated-requires : goal.repeated-requires
-repeated-requires c κs = (
-  search rules,
-  (
-    search rules,
-    (
-      search rules,
-      λ p q a k.
-          reads-less {read = expect kinds.DoubleColon >> name} Shrinks-next_name p.now q.now a (search rules),
-    ),
-  ),
-)
+repeated-requires c κs = (search rules, (search rules, (search rules, λ p q a k. reads-less Shrinks-next_name p.now q.now a (search rules))))
 
 pub returns-in_err-all : goal.returns-in_err-all
 unfolding path joined
 returns-in_err-all c =
-    let made = c.repeated.ensures (expect kinds.DoubleColon >> name) (λ t. not (is_kind kinds.DoubleColon t)) true (λ p b k. search rules) (λ p q a k. search rules)
-    Shrinks-next_name in
+    let made = c.repeated.ensures _ (λ t. not (is_kind kinds.DoubleColon t)) true (λ p b k. search rules) (λ p q a k. search rules) Shrinks-next_name in
     first_of (search rules, grind (arith, common_steps))
 
 pub returns : goal.returns
 unfolding path joined
 returns c =
-    let made = c.repeated.ensures (expect kinds.DoubleColon >> name) (λ t. not (is_kind kinds.DoubleColon t)) true (λ p b k. search rules) (λ p q a k. search rules)
-    Shrinks-next_name in
+    let made = c.repeated.ensures _ (λ t. not (is_kind kinds.DoubleColon t)) true (λ p b k. search rules) (λ p q a k. search rules) Shrinks-next_name in
     first_of (search rules, grind (arith, common_steps))

@@ -3,14 +3,7 @@ use Rattle.til_parser.proofs.rules.DeclRules.{Shrinks-port}
 use Rattle.til_parser.proofs.parser.Parser.ports.Goals as goal
 
 pub bracketed-requires : goal.bracketed-requires
-bracketed-requires c κs = (
-  search rules,
-  (
-    search rules,
-    λ p q found a k.
-        reads-less {read = one_more (port c.args.levels) found} (Shrinks-port c.args.levels found) p.now q.now a (search rules),
-  ),
-)
+bracketed-requires c κs = (search rules, (search rules, λ p q found a k. reads-less (Shrinks-port c.args.levels found) p.now q.now a (search rules)))
 
 pub returns : goal.returns
 returns c =
