@@ -1,23 +1,20 @@
 -- The rules of bodies, ports, and what follows the keyword of a declaration.
-use Rattle.til_parser.proofs.rules.Common.{◌≡◌, ◌⊎◌, inl, inr, ⊎_elim, false, List, ◌++◌, Option, Some, refl, sym, subst, ℕ, Bool, [], ◌∷◌, codes, Never, Anything, ◌⋯◌}
-use Rattle.til_parser.proofs.rules.Common.{Shrinks, tells, choose, IsRule, Begins, begins-repeats, each_unit, with_ends, regroup, ungroup, as_rule, as_flat, of_flat}
-use Rattle.til_parser.proofs.rules.Common.{flat, flat_skip, flat_close, both, flat_parted, viewed, Made, either-rule, optional-rule, front-marked, respelled, shrinks}
-use Rattle.til_parser.proofs.rules.Common.{skip, parted, made-rule, Chained, chain-rule, AstName, AstPath, Form, Of, Name, Path, Quoted, SpellsEnd, Second, SpellsStmt}
-use Rattle.til_parser.proofs.rules.Common.{SpellsBody, Word, SpellsPort, SpellsPorts, SpellsStreamletPorts, SpellsKind, StreamletWithin, PortsWithin, KindWithin}
-use Rattle.til_parser.proofs.rules.Common.{way_word, Lexeme, IsFormed, same_kind, is_kind, name, one_more, bracketed, second, end, link_from, instance_of, stmt, body}
-use Rattle.til_parser.proofs.rules.Common.{port, streamlet_ports, keyword, impl_kind, test_kind, kind_of, mapped-less, Keyword, AstType, AstKind, PortTo, PortsTo, RestTo}
-use Rattle.til_parser.proofs.rules.Common.{keyword_word, all_keywords, keyword_of}
+use Rattle.til_parser.proofs.rules.Common.{◌≡◌, ◌⊎◌, inl, inr, false, List, ◌++◌, Option, refl, ℕ, Bool, [], ◌∷◌, codes, Never, Anything, ◌⋯◌, Shrinks, tells, choose}
+use Rattle.til_parser.proofs.rules.Common.{IsRule, Begins, begins-repeats, each_unit, with_ends, regroup, ungroup, as_rule, as_flat, of_flat, flat, flat_skip, flat_close}
+use Rattle.til_parser.proofs.rules.Common.{both, flat_parted, viewed, Made, either-rule, optional-rule, front-marked, respelled, shrinks, skip, parted, made-rule}
+use Rattle.til_parser.proofs.rules.Common.{Chained, chain-rule, AstName, AstPath, Form, Of, Name, Path, Quoted, SpellsEnd, Second, SpellsStmt, SpellsBody, Word}
+use Rattle.til_parser.proofs.rules.Common.{SpellsPort, SpellsPorts, SpellsStreamletPorts, SpellsKind, StreamletWithin, PortsWithin, KindWithin, way_word, Lexeme}
+use Rattle.til_parser.proofs.rules.Common.{IsFormed, same_kind, is_kind, name, one_more, bracketed, second, end, link_from, instance_of, stmt, body, port}
+use Rattle.til_parser.proofs.rules.Common.{streamlet_ports, keyword, impl_kind, test_kind, kind_of, mapped-less, Keyword, AstType, AstKind, PortTo, PortsTo, RestTo}
+use Rattle.til_parser.proofs.rules.Common.{keyword_word, all_keywords}
 use Rattle.til_lexer.specs.declared.token.TokenKind.TheVariants as kinds
-use Rattle.til_parser.specs.declared.tree.AstBody.{AstBody}
 use Rattle.til_parser.specs.declared.tree.AstBody.TheVariants as bodies
-use Rattle.til_parser.specs.declared.tree.AstEnd.{AstEnd}
-use Rattle.til_parser.specs.declared.tree.AstStmt.{AstStmt}
+use Rattle.til_parser.specs.declared.tree.{AstBody.AstBody, AstEnd.AstEnd, AstPort.AstPort, AstStmt.AstStmt}
 use Rattle.til_parser.specs.declared.tree.AstStmt.TheVariants as stmts
 use Rattle.til_parser.proofs.rules.LeafRules.{name-begins, name-rule, path-rule, quoted-rule, braced-rule, PathNext, path-front, optional-tells, documented, doc-begins, either_word-rule, bracketed-rule}
-use Rattle.til_parser.proofs.rules.TokenRules.{NoneNext, Of-not, front-not, same_kind-is, kind-apart, double_dash, equals, point, semicolon, word_mark, colon, open_paren, begins_item, item-apart, table-rule}
+use Rattle.til_parser.proofs.rules.TokenRules.{NoneNext, Of-not, front-not, same_kind-is, kind-apart, kind_mark, equals, semicolon, word_mark, colon, open_paren, begins_item, item-apart, table-rule}
 use Rattle.til_parser.specs.declared.keyword.Keyword.TheVariants as keywords
 use Rattle.til_parser.specs.declared.tree.AstKind.TheVariants as decls
-use Rattle.til_parser.specs.declared.tree.AstPort.{AstPort}
 use Rattle.til_parser.specs.declared.tree.AstPorts.TheVariants as ports
 use Rattle.til_parser.proofs.rules.StreamFields.{S}
 use Rattle.til_parser.proofs.rules.TypeRules.{Fits, ltype-rule}
@@ -26,7 +23,8 @@ use Rattle.til_parser.proofs.rules.TypeRules.{Fits, ltype-rule}
 
 second-rule : IsRule IsFormed second Second (λ _. NoneNext kinds.Point) (λ _. Unit {0}) Never
 unfolding second
-second-rule = optional-rule (is_kind kinds.Point) (flat_skip point (as_flat name-rule)) (λ n. front-marked point (Name n)) (λ n rest. tt)
+second-rule = optional-rule (is_kind kinds.Point) (flat_skip (kind_mark kinds.Point _ refl) (as_flat name-rule))
+    (λ n. front-marked (kind_mark kinds.Point _ refl) (Name n)) (λ n rest. tt)
 
 end-rule : IsRule IsFormed end SpellsEnd (λ _. NoneNext kinds.Point) (λ _. Unit {0}) Never
 unfolding end
@@ -47,7 +45,7 @@ unfolding link_from instance_of same_kind
 rest-rule called =
     either-rule (is_kind kinds.Equals) _
     (of_flat (flat_skip equals (flat_close (as_flat path-rule) semicolon (λ p. Of-not kinds.Semicolon kinds.DoubleColon refl)))) _
-    (flat_parted (as_flat second-rule) double_dash (flat_close (as_flat end-rule) semicolon (λ e. Of-not kinds.Semicolon kinds.Point refl))
+    (flat_parted (as_flat second-rule) (kind_mark kinds.DoubleDash _ refl) (flat_close (as_flat end-rule) semicolon (λ e. Of-not kinds.Semicolon kinds.Point refl))
     (λ n. Of-not kinds.DoubleDash kinds.Point refl)) (StmtRest called) (λ _. Anything) (λ _. Unit {0})
     (record {
       one = λ p ts s. inl (p, refl, s);
@@ -64,11 +62,6 @@ rest-rule called =
       other_within = λ l. tt;
     })
 
-stmt_there : (x : AstStmt) (ts : List Lexeme) → Chained Name StmtRest x ts → SpellsStmt x ts
-stmt_there x ts c = ⊎_elim
-    (λ i. subst (λ y. SpellsStmt y ts) (sym i.1) (with_ends c.1 i.2))
-    (λ l. subst (λ y. SpellsStmt y ts) (sym l.1) (ungroup (with_ends c.1 l.2))) c.1.ends
-
 stmt_back : (x : AstStmt) (ts : List Lexeme) → SpellsStmt x ts → Chained Name StmtRest x ts
 stmt_back (stmts.Instance called p) ts s = (called, with_ends s (inl (p, refl, s.ends)))
 stmt_back (stmts.Link first other) ts s = let t = regroup s in (first.first, with_ends t (inr ((first.second, other), refl, t.ends)))
@@ -78,7 +71,7 @@ unfolding stmt
 stmt-rule = (flat (as_rule (respelled (as_rule
     (chain-rule Name StmtRest IsFormed name (λ called. choose (is_kind kinds.Equals) false (instance_of called) (link_from called)) (λ _. Anything) (λ _. Anything)
     (λ _. Unit {0}) (λ _. Never) (λ called x back rest s next. tt) (λ called back rest d. tt) name-rule rest-rule))
-    SpellsStmt stmt_there stmt_back)) (λ ts d. d.1.ends) (λ x. tt)).is
+    SpellsStmt (λ x ts c. elim c.1.ends [ inl i ↦ rw i.1 (with_ends c.1 i.2) | inr l ↦ rw l.1 (ungroup (with_ends c.1 l.2)) ]) stmt_back)) (λ ts d. d.1.ends) (λ x. tt)).is
 
 stmt-begins : Begins (is_kind kinds.Word) SpellsStmt Never
 stmt-begins = record { item = λ x front rest s. let c = stmt_back x front s in name-begins c.0 _ front rest c.1; deep = λ front rest d. absurd d }
@@ -155,12 +148,8 @@ module _ (n : ℕ) where
 
 -- ---- keywords
 
-each_keyword : (x : Keyword) → keyword_of (keyword_word x) ≡ Some x
-each_keyword keywords.Type = refl
-each_keyword _ = refl
-
 pub keyword-rule : IsRule IsFormed keyword (λ x. Word (keyword_word x)) (λ _. Anything) (λ _. Unit {0}) Never
-keyword-rule = table-rule keyword_word all_keywords each_keyword keywords.Type refl
+keyword-rule = table-rule keyword_word all_keywords (elim [ keywords.Type ↦ refl | _ ↦ refl ]) keywords.Type refl
 
 -- ---- what follows the keyword and the name
 
@@ -183,8 +172,8 @@ kind_parts called (decls.Test target port value plan) ts s = (keywords.Test, wit
 
 pub kind_of_parts : (begun : Keyword) (called : AstName) (kind : AstKind) (ts : List Lexeme) → (Word (keyword_word begun) ⋯ (Name called ⋯ KindForm begun kind)) ts
     → SpellsKind called kind ts
-kind_of_parts keywords.Type called kind ts s = let m = s.ends.ends in subst (λ k. SpellsKind called k ts) (sym m.1) (with_ends s (with_ends s.ends m.2))
-kind_of_parts _ called kind ts s = let m = s.ends.ends in subst (λ k. SpellsKind called k ts) (sym m.1) (with_ends s (with_ends s.ends m.2))
+kind_of_parts keywords.Type called kind ts s = let m = s.ends.ends in rw m.1 (with_ends s (with_ends s.ends m.2))
+kind_of_parts _ called kind ts s = let m = s.ends.ends in rw m.1 (with_ends s (with_ends s.ends m.2))
 
 module _ (n : ℕ) where
   pub kind-rule_of : (begun : Keyword) → IsRule IsFormed (kind_of n begun) (KindForm begun) (λ _. PathNext) (KindWithin n) (RestTo n begun)

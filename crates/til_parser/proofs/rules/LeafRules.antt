@@ -7,24 +7,18 @@ use Rattle.til_parser.proofs.rules.Common.{viewed, optional-rule, mark-tells, fr
 use Rattle.til_parser.proofs.rules.Common.{Of, Word, Commas, Bracketed, Braced, IsNamed, Name, IsWhole, Whole, IsNumber, Number, IsMarked, Quoted, Doc, Level, Path}
 use Rattle.til_parser.proofs.rules.Common.{sync_word, Lexeme, IsFormed, between_marks, whole_of, numerator_of, denominator_of, lowest, bracketed, bracketed_steps}
 use Rattle.til_parser.proofs.rules.Common.{name_at, name, whole, number, level_of, level, marked, quoted, doc, path, either_word, sync, same_kind, is_kind, expect}
-use Rattle.til_parser.proofs.rules.Common.{all_syncs, sync_of, both, fewer, respelled, Begins}
+use Rattle.til_parser.proofs.rules.Common.{all_syncs, both, fewer, respelled, Begins}
 use Rattle.std.specs.Char.{is_ascii_digit}
-use Rattle.std.proofs.lemmas.Bool.Decides.{nat_tests}
-use Rattle.std.proofs.lemmas.Str.{IsUtf8-nil}
-use Rattle.std.proofs.lemmas.Str.Parse.{digits_value_short}
-use Rattle.tydi_base.specs.Decimal.{read_on, below}
-use Rattle.tydi_base.specs.Level.{IsLevel}
+use Rattle.std.proofs.lemmas.{Bool.Decides.nat_tests, Str.IsUtf8-nil, Str.Parse.digits_value_short}
+use Rattle.tydi_base.specs.{Decimal.read_on, Decimal.below, Level.IsLevel}
 use Rattle.tydi_base.proofs.DecimalLaws.{own}
-use Rattle.tydi_reading.proofs.SeparatedRule.{Between, separated-rule}
-use Rattle.tydi_reading.proofs.JoinedRule.{joined-rule}
-use Rattle.tydi_reading.proofs.Rule.{Rule}
+use Rattle.tydi_reading.proofs.{JoinedRule.joined-rule, Rule.Rule, SeparatedRule.Between, SeparatedRule.separated-rule}
 use Rattle.tydi_reading.specs.Forms.{Optional}
 use Rattle.til_lexer.specs.declared.token.TokenKind.TheVariants as kinds
-use Rattle.til_parser.specs.declared.ltype.AstSync.{AstSync}
 use Rattle.til_parser.specs.declared.ltype.AstSync.TheVariants as syncs
 use Rattle.til_parser.proofs.numbers.FractionLemmas.{IsReduced-lowest, lowest_from_IsReduced}
 use Rattle.til_parser.proofs.numbers.NumberLemmas.{tens_pos}
-use Rattle.til_parser.proofs.rules.TokenRules.{made, meant_is, same_kind-is, comma, double_colon, open_paren, close_paren, open_brace, close_brace, NoneNext, kind-not, begins_item, token-rule, table-rule}
+use Rattle.til_parser.proofs.rules.TokenRules.{made, meant_is, same_kind-is, kind_mark, comma, open_paren, close_paren, NoneNext, kind-not, begins_item, token-rule, table-rule}
 
 -- ---- names
 
@@ -166,12 +160,8 @@ module _ (word : Bool → List ℕ) (form : has_name_form (word true) ≡ true) 
   pub either_word-rule : IsRule IsFormed (either_word (word true) (word false)) (λ b. Word (word b)) (λ _. Anything) (λ _. Unit {0}) Never
   either_word-rule = table-rule word (true ∷ false ∷ []) each_word true form
 
-each_sync : (x : AstSync) → sync_of (sync_word x) ≡ Some x
-each_sync syncs.Sync = refl
-each_sync _ = refl
-
 pub sync-rule : IsRule IsFormed sync (λ x. Word (sync_word x)) (λ _. Anything) (λ _. Unit {0}) Never
-sync-rule = table-rule sync_word all_syncs each_sync syncs.Sync refl
+sync-rule = table-rule sync_word all_syncs (elim [ syncs.Sync ↦ refl | _ ↦ refl ]) syncs.Sync refl
 
 -- ---- paths
 
@@ -187,12 +177,13 @@ pub path-rule : IsRule IsFormed path (λ x. Path x.names) (λ _. PathNext) (λ _
 unfolding path
 path-rule =
     viewed (λ (names : List AstName). record { names = names }) (λ (x : AstPath). x.names)
-    (as_rule (fewer (as_rule (joined-rule IsFormed (is_kind kinds.DoubleColon) (Of kinds.DoubleColon) name Name double_colon.is name-rule))
+    (as_rule (fewer (as_rule (joined-rule IsFormed (is_kind kinds.DoubleColon) (Of kinds.DoubleColon) name Name (kind_mark kinds.DoubleColon _ refl).is name-rule))
     (λ _. PathNext) (λ x. not_next (is_kind kinds.DoubleColon)))) (λ x. refl) (λ y. refl)
 
 -- `::` and a name take a token at least
 pub Shrinks-next_name : Shrinks (expect kinds.DoubleColon >> name)
-Shrinks-next_name = shrinks {Deep = Never} (skip double_colon (as_rule name-rule)) (record { item = λ x. front-marked double_colon (Name x); deep = λ front rest d. absurd d })
+Shrinks-next_name = shrinks {Deep = Never} (skip (kind_mark kinds.DoubleColon _ refl) (as_rule name-rule))
+    (record { item = λ x. front-marked (kind_mark kinds.DoubleColon _ refl) (Name x); deep = λ front rest d. absurd d })
 
 -- a path begins with a name
 pub path-front : (P : List Lexeme → Type 0) → ((x : AstName) (t : Lexeme) (more : List Lexeme) → IsNamed x t → P (t ∷ more)) → (names : List AstName) (front rest : List Lexeme)
@@ -228,5 +219,5 @@ module _ {A : Type 0} {item : Reader Lexeme A} {Item : A → Form} {Within : A �
       → IsRule IsFormed (braced item) (λ items. Braced (Each Item items)) (λ _. Anything) (EachIs Within) (BracedTo Item Deep)
   unfolding braced
   braced-rule repeats one =
-      (skip open_brace (close (as_rule (repeated-rule IsFormed (is_kind kinds.CloseBrace) false item Item Within Deep repeats one)) close_brace
-      (λ items. mark-tells close_brace))).is
+      (skip (kind_mark kinds.OpenBrace _ refl) (close (as_rule (repeated-rule IsFormed (is_kind kinds.CloseBrace) false item Item Within Deep repeats one))
+      (kind_mark kinds.CloseBrace _ refl) (λ items. mark-tells (kind_mark kinds.CloseBrace _ refl)))).is

@@ -1,13 +1,13 @@
 -- The rules of declarations, namespaces and projects.
 use Rattle.til_parser.proofs.rules.Common.{◌≡◌, ℕ, ◌<◌, true, false, List, [], ◌∷◌, ◌++◌, length, Option, Some, None, refl, sym, ap, subst, arith, codes, none-some}
-use Rattle.til_parser.proofs.rules.Common.{same_Some, append-nil, Anything, ◌⋯◌, Past, GoesOn, Each, EachIs, Shrinks, tells, ◌<&>◌, IsRule, front-tells, Begins}
-use Rattle.til_parser.proofs.rules.Common.{begins-filled, begins-repeats, repeated-rule, as_rule, as_flat, skip, close, both, viewed, respelled, shrinks, chain-rule, Ast}
-use Rattle.til_parser.proofs.rules.Common.{AstKind, AstName, AstNamespace, AstPath, Form, Of, Word, Name, SpellsKind, SpellsDecl, SpellsNamespace, Spells, KindWithin}
-use Rattle.til_parser.proofs.rules.Common.{DeclsWithin, IsWithin, Lexeme, IsFormed, RestTo, KindTo, DeclTo, NamespaceTo, ProjectTo, same_kind, is_kind, name, keyword}
-use Rattle.til_parser.proofs.rules.Common.{kind_of, named_kind, decl, namespace, project_of, project, keyword_word}
-use Rattle.tydi_reading.proofs.CheckedRule.{Checks, checked-rule}
+use Rattle.til_parser.proofs.rules.Common.{same_Some, append-nil, Anything, ◌⋯◌, Past, GoesOn, Each, Shrinks, tells, ◌<&>◌, IsRule, front-tells, Begins, begins-filled}
+use Rattle.til_parser.proofs.rules.Common.{begins-repeats, repeated-rule, as_rule, as_flat, skip, close, both, viewed, respelled, shrinks, chain-rule, Ast, AstKind}
+use Rattle.til_parser.proofs.rules.Common.{AstName, AstNamespace, AstPath, Form, Of, Word, Name, SpellsKind, SpellsDecl, SpellsNamespace, Spells, KindWithin, DeclsWithin}
+use Rattle.til_parser.proofs.rules.Common.{IsWithin, Lexeme, IsFormed, RestTo, KindTo, DeclTo, NamespaceTo, ProjectTo, same_kind, is_kind, name, keyword, kind_of}
+use Rattle.til_parser.proofs.rules.Common.{named_kind, decl, namespace, project_of, project, keyword_word, ◌↔◌}
+use Rattle.tydi_reading.proofs.CheckedRule.{checked-rule}
 use Rattle.til_lexer.specs.declared.token.TokenKind.TheVariants as kinds
-use Rattle.til_parser.specs.declared.tree.AstDecl.{AstDecl}
+use Rattle.til_parser.specs.{Grammar.NamespacesWithin, declared.tree.AstDecl.AstDecl}
 use Rattle.til_parser.proofs.rules.DeclRules.{kind_parts, kind_of_parts, KindForm, keyword-rule, kind-rule_of}
 use Rattle.til_parser.proofs.rules.LeafRules.{PathNext, name-rule, path-rule, documented, doc-begins, braced-rule}
 use Rattle.til_parser.proofs.rules.TokenRules.{same_kind-is, word_mark, semicolon, begins_item, item-apart, Of-not, front-not}
@@ -58,10 +58,7 @@ module _ (n : ℕ) where
 
   -- ---- namespaces
 
-  abbrev NamespaceWithin : AstNamespace → Type 0
-  NamespaceWithin x = DeclsWithin n x.decls
-
-  namespace-rule : IsRule IsFormed (namespace n) SpellsNamespace (λ _. Anything) NamespaceWithin (NamespaceTo n)
+  namespace-rule : IsRule IsFormed (namespace n) SpellsNamespace (λ _. Anything) (λ x. DeclsWithin n x.decls) (NamespaceTo n)
   unfolding namespace same_kind
   namespace-rule =
       viewed (λ (x : Option (List ℕ) × (AstPath × List AstDecl)). record { doc = x.0; path = x.1.0; decls = x.1.1 }) (λ (x : AstNamespace). (x.doc, (x.path, x.decls)))
@@ -82,13 +79,9 @@ module _ (n : ℕ) where
   -- ---- projects
 
   -- what is made of namespaces are these, one at least
-  made_is : (all : List AstNamespace) (ast : Ast) → project_of all ≡ Some ast → (0 < length all) × (all ≡ ast.namespaces)
-  made_is [] ast is = absurd (none-some ast is)
-  made_is (x ∷ all) ast is = (omega arith, ap (λ (a : Ast). a.namespaces) (same_Some _ ast is))
-
-  some_project : (all : List AstNamespace) → 0 < length all → project_of all ≡ Some (record { namespaces = all })
-  some_project [] some = absurd (omega arith)
-  some_project (x ∷ all) some = refl
+  made_is : (all : List AstNamespace) (ast : Ast) → (project_of all ≡ Some ast) ↔ ((0 < length all) × (all ≡ ast.namespaces))
+  made_is [] ast = (λ is. absurd (none-some ast is), λ some. absurd (omega (arith, some.0)))
+  made_is (x ∷ all) ast = (λ is. (omega arith, ap (λ (a : Ast). a.namespaces) (same_Some _ ast is)), λ some. ap (λ l. Some (record { namespaces = l })) some.1)
 
   project_mends : (all : List AstNamespace) (ts : List Lexeme) → project_of all ≡ None → Each SpellsNamespace all ts → GoesOn IsFormed Spells ts
   project_mends [] ts is s = let g = namespace-rule.example in subst (GoesOn IsFormed Spells) (sym s) (record {
@@ -99,19 +92,18 @@ module _ (n : ℕ) where
   })
   project_mends (x ∷ all) ts is s = absurd (none-some _ (sym is))
 
-  project-checks : Checks IsFormed project_of (Each SpellsNamespace) (λ _. AtEnd) (EachIs NamespaceWithin) Spells (λ _. AtEnd) (IsWithin n)
-  project-checks = record {
-    there = λ all ast ts is s. let m = made_is all ast is in record { some = subst (λ l. 0 < length l) m.1 m.0; each = subst (λ l. Each SpellsNamespace l ts) m.1 s };
-    back = λ ast ts s. (ast.namespaces, some_project ast.namespaces s.some, s.each);
-    follow = λ all ast rest is next. next;
-    within = λ all ast is each. subst (EachIs NamespaceWithin) (made_is all ast is).1 each;
-    apart = λ all ast is w. subst (EachIs NamespaceWithin) (sym (made_is all ast is).1) w;
-    mends = project_mends;
-  }
-
   pub project-rule : IsRule IsFormed (project n) Spells (λ _. AtEnd) (IsWithin n) (ProjectTo n)
   unfolding project
   project-rule =
-      checked-rule IsFormed project_of _ _ _ _ _ Spells (λ _. AtEnd) (IsWithin n) project-checks
-      (repeated-rule IsFormed (λ _. false) true (namespace n) SpellsNamespace NamespaceWithin (NamespaceTo n)
+      checked-rule IsFormed project_of _ (Each SpellsNamespace) (λ _. AtEnd) (NamespacesWithin n) (ProjectTo n) Spells (λ _. AtEnd) (IsWithin n)
+      (record {
+        there = λ all ast ts is s.
+            let m = (made_is all ast).0 is in record { some = subst (λ l. 0 < length l) m.1 m.0; each = subst (λ l. Each SpellsNamespace l ts) m.1 s };
+        back = λ ast ts s. (ast.namespaces, (made_is ast.namespaces ast).1 (s.some, refl), s.each);
+        follow = λ all ast rest is next. next;
+        within = λ all ast is. subst (NamespacesWithin n) ((made_is all ast).0 is).1;
+        apart = λ all ast is. subst (NamespacesWithin n) (sym ((made_is all ast).0 is).1);
+        mends = project_mends;
+      })
+      (repeated-rule IsFormed (λ _. false) true (namespace n) SpellsNamespace (λ x. DeclsWithin n x.decls) (NamespaceTo n)
       (begins-repeats (λ t is. refl) namespace-begins) namespace-rule)

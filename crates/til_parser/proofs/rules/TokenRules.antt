@@ -1,8 +1,8 @@
 -- The rules of one token: of a kind, a word, or a token of a kind with a meaning.
 use Rattle.til_parser.proofs.rules.Common.{◌≡◌, ℕ, Bool, true, false, cond, ◌||◌, List, [], ◌∷◌, ◌++◌, All, Option, Some, None, option_and_then, refl, ap, ◌∙◌, subst}
-use Rattle.til_parser.proofs.rules.Common.{codes, none-some, bytes_eq-Decides, All-head, Place, Never, Anything, meant, leaf, tells, IsRule, entry_of, entry-word}
-use Rattle.til_parser.proofs.rules.Common.{word_at, begins-apart, Mark, leaf-rule, read-rule, TokenKind, start, HasForm, has_name_form, Form, One, Of, IsWord, Word}
-use Rattle.til_parser.proofs.rules.Common.{Lexeme, IsFormed, same_kind, is_kind, is_word, token, ⊎_elim, front-tells, ◌⋯◌}
+use Rattle.til_parser.proofs.rules.Common.{none-some, bytes_eq-Decides, All-head, Place, Never, Anything, meant, leaf, tells, IsRule, entry_of, entry-word, word_at}
+use Rattle.til_parser.proofs.rules.Common.{begins-apart, Mark, leaf-rule, read-rule, TokenKind, start, HasForm, has_name_form, Form, One, Of, IsWord, Word, Lexeme}
+use Rattle.til_parser.proofs.rules.Common.{IsFormed, same_kind, is_kind, is_word, token, ⊎_elim, front-tells, ◌⋯◌}
 use denote.Enum.Bare.{same_true, true_same}
 use Rattle.std.specs.Bool.{Decides}
 use Rattle.std.proofs.lemmas.Bool.{or_cases}
@@ -54,37 +54,22 @@ abbrev pub word_mark : (word : List ℕ) → has_name_form word ≡ true → Mar
 word_mark word form = token_mark (is_word word) (IsWord word) (is_word-Decides word) (made kinds.Word word) form (record { kind = refl; text = refl })
 
 abbrev pub comma : Mark IsFormed
-comma = kind_mark kinds.Comma (codes ",") refl
+comma = kind_mark kinds.Comma _ refl
 
 abbrev pub colon : Mark IsFormed
-colon = kind_mark kinds.Colon (codes ":") refl
-
-abbrev pub double_colon : Mark IsFormed
-double_colon = kind_mark kinds.DoubleColon (codes "::") refl
-
-abbrev pub double_dash : Mark IsFormed
-double_dash = kind_mark kinds.DoubleDash (codes "--") refl
+colon = kind_mark kinds.Colon _ refl
 
 abbrev pub equals : Mark IsFormed
-equals = kind_mark kinds.Equals (codes "=") refl
-
-abbrev pub point : Mark IsFormed
-point = kind_mark kinds.Point (codes ".") refl
+equals = kind_mark kinds.Equals _ refl
 
 abbrev pub semicolon : Mark IsFormed
-semicolon = kind_mark kinds.Semicolon (codes ";") refl
-
-abbrev pub open_brace : Mark IsFormed
-open_brace = kind_mark kinds.OpenBrace (codes "{") refl
-
-abbrev pub close_brace : Mark IsFormed
-close_brace = kind_mark kinds.CloseBrace (codes "}") refl
+semicolon = kind_mark kinds.Semicolon _ refl
 
 abbrev pub open_paren : Mark IsFormed
-open_paren = kind_mark kinds.OpenParen (codes "(") refl
+open_paren = kind_mark kinds.OpenParen _ refl
 
 abbrev pub close_paren : Mark IsFormed
-close_paren = kind_mark kinds.CloseParen (codes ")") refl
+close_paren = kind_mark kinds.CloseParen _ refl
 
 -- ---- what a token is not
 
