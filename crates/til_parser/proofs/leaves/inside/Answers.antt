@@ -3,6 +3,3 @@ use Rattle.til_parser.proofs.leaves.inside.Goals as goal
 
 pub range-requires-clause-start_boundary : goal.range-requires-clause-start_boundary
 range-requires-clause-start_boundary c = λ _. (AreCuts-marked c.args.spelling.now c.utf8.spelling c.requires).first
-
-pub range-requires-clause-end_boundary : goal.range-requires-clause-end_boundary
-range-requires-clause-end_boundary c = (AreCuts-marked c.args.spelling.now c.utf8.spelling c.requires).last

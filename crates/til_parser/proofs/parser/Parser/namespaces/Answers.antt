@@ -1,4 +1,4 @@
-use Rattle.til_parser.proofs.rules.Common.{false, true, rules, arith, common_steps, namespace, repeated, reads-less}
+use Rattle.til_parser.proofs.rules.Common.{false, true, rules, repeated, reads-less}
 use Rattle.til_parser.proofs.rules.ProjectRules.{Shrinks-namespace}
 use Rattle.til_parser.proofs.parser.Parser.namespaces.Goals as goal
 
@@ -7,6 +7,4 @@ repeated-requires c κs = (search rules, (search rules, (search rules, λ p q a 
 
 pub returns : goal.returns
 unfolding repeated
-returns c =
-    let made = c.repeated.ensures (namespace c.args.levels) (λ _. false) true (λ p b k. search rules) (λ p q a k. search rules) (Shrinks-namespace c.args.levels) in
-    first_of (search rules, grind (arith, common_steps))
+returns c = rw c.new-none.ensures at (c.repeated.ensures _ (λ _. false) true (λ p b k. search rules) (λ p q a k. search rules) (Shrinks-namespace c.args.levels))

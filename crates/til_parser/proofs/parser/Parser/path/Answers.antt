@@ -9,11 +9,8 @@ repeated-requires c κs = (search rules, (search rules, (search rules, λ p q a 
 pub returns-in_err-all : goal.returns-in_err-all
 unfolding path joined
 returns-in_err-all c =
-    let made = c.repeated.ensures _ (λ t. not (is_kind kinds.DoubleColon t)) true (λ p b k. search rules) (λ p q a k. search rules) Shrinks-next_name in
-    first_of (search rules, grind (arith, common_steps))
+    grind (arith, common_steps, c.repeated.ensures _ (λ t. not (is_kind kinds.DoubleColon t)) true (λ p b k. search rules) (λ p q a k. search rules) Shrinks-next_name)
 
 pub returns : goal.returns
 unfolding path joined
-returns c =
-    let made = c.repeated.ensures _ (λ t. not (is_kind kinds.DoubleColon t)) true (λ p b k. search rules) (λ p q a k. search rules) Shrinks-next_name in
-    first_of (search rules, grind (arith, common_steps))
+returns c = grind (arith, common_steps, c.repeated.ensures _ (λ t. not (is_kind kinds.DoubleColon t)) true (λ p b k. search rules) (λ p q a k. search rules) Shrinks-next_name)
