@@ -1,18 +1,18 @@
 -- The rules of names, numbers, marked texts, documentation, paths, and lists in brackets and in braces.
 use Rattle.til_parser.proofs.rules.Common.{◌≡◌, ℕ, ◌^◌, ◌≤◌, nat_lt, Bool, true, false, cond, ◌&&◌, List, [], ◌∷◌, ◌++◌, length, Option, Some, None, inl, inr, refl, sym}
 use Rattle.til_parser.proofs.rules.Common.{ap, subst, bytes_eq, arith, codes, length-append, not, list_all, none-some, same_Some, cond_some, is_name, name_of}
-use Rattle.til_parser.proofs.rules.Common.{has_name_form, Place, Never, Anything, ◌⋯◌, Reader, Shrinks, tells, ◌>>◌, IsRule, entry_of, bytes_eq-Decides, Each, EachIs}
-use Rattle.til_parser.proofs.rules.Common.{separated, Repeats, repeated-rule, BracketedTo, BracedTo, braced, front-tells, follows-front, as_rule, as_flat, skip, close}
-use Rattle.til_parser.proofs.rules.Common.{viewed, optional-rule, mark-tells, front-marked, shrinks, HasForm, IsBetween, start, TokenKind, AstName, AstPath, Form, One}
-use Rattle.til_parser.proofs.rules.Common.{Of, Word, Commas, Bracketed, Braced, IsNamed, Name, IsWhole, Whole, IsNumber, Number, IsMarked, Quoted, Doc, Level, Path}
-use Rattle.til_parser.proofs.rules.Common.{sync_word, Lexeme, IsFormed, between_marks, whole_of, numerator_of, denominator_of, lowest, bracketed, bracketed_steps}
-use Rattle.til_parser.proofs.rules.Common.{name_at, name, whole, number, level_of, level, marked, quoted, doc, path, either_word, sync, same_kind, is_kind, expect}
-use Rattle.til_parser.proofs.rules.Common.{all_syncs, both, fewer, respelled, Begins}
+use Rattle.til_parser.proofs.rules.Common.{has_name_form, Place, Never, Anything, ◌⋯◌, Reader, Shrinks, tells, ◌>>◌, IsRule, bytes_eq-Decides, Each, EachIs, separated}
+use Rattle.til_parser.proofs.rules.Common.{Repeats, repeated-rule, BracketedTo, BracedTo, braced, front-tells, follows-front, as_rule, as_flat, skip, close, viewed}
+use Rattle.til_parser.proofs.rules.Common.{optional-rule, mark-tells, front-marked, shrinks, HasForm, IsBetween, start, TokenKind, AstName, AstPath, Form, One, Of, Word}
+use Rattle.til_parser.proofs.rules.Common.{Commas, Bracketed, Braced, IsNamed, Name, IsWhole, Whole, IsNumber, Number, IsMarked, Quoted, Doc, Level, Path, sync_word}
+use Rattle.til_parser.proofs.rules.Common.{Lexeme, IsFormed, between_marks, whole_of, numerator_of, denominator_of, lowest, bracketed, bracketed_steps, name_at, name}
+use Rattle.til_parser.proofs.rules.Common.{whole, number, level_of, level, marked, quoted, doc, path, either_word, sync, same_kind, is_kind, expect, all_syncs, both}
+use Rattle.til_parser.proofs.rules.Common.{fewer, respelled, Begins}
 use Rattle.std.specs.Char.{is_ascii_digit}
 use Rattle.std.proofs.lemmas.{Bool.Decides.nat_tests, Str.IsUtf8-nil, Str.Parse.digits_value_short}
 use Rattle.tydi_base.specs.{Decimal.read_on, Decimal.below, Level.IsLevel}
 use Rattle.tydi_base.proofs.DecimalLaws.{own}
-use Rattle.tydi_reading.proofs.{JoinedRule.joined-rule, Rule.Rule, SeparatedRule.Between, SeparatedRule.separated-rule}
+use Rattle.tydi_reading.proofs.{JoinedRule.joined-rule, Rule.Rule, SeparatedRule.separated-rule}
 use Rattle.tydi_reading.specs.Forms.{Optional}
 use Rattle.til_lexer.specs.declared.token.TokenKind.TheVariants as kinds
 use Rattle.til_parser.specs.declared.ltype.AstSync.TheVariants as syncs
@@ -152,13 +152,10 @@ doc-begins Second second = optional-tells begins_item true Second (λ text front
 
 -- ---- one of two words, and of some
 
-module _ (word : Bool → List ℕ) (form : has_name_form (word true) ≡ true) (apart : bytes_eq (word false) (word true) ≡ false) where
-  each_word : (b : Bool) → entry_of word (true ∷ false ∷ []) (word b) ≡ Some b
-  each_word true = rw ((bytes_eq-Decides (word true) (word true)).1 refl) refl
-  each_word false = rw (apart, (bytes_eq-Decides (word false) (word false)).1 refl) refl
-
-  pub either_word-rule : IsRule IsFormed (either_word (word true) (word false)) (λ b. Word (word b)) (λ _. Anything) (λ _. Unit {0}) Never
-  either_word-rule = table-rule word (true ∷ false ∷ []) each_word true form
+pub either_word-rule : (word : Bool → List ℕ) → has_name_form (word true) ≡ true → bytes_eq (word false) (word true) ≡ false
+    → IsRule IsFormed (either_word (word true) (word false)) (λ b. Word (word b)) (λ _. Anything) (λ _. Unit {0}) Never
+either_word-rule word form apart = table-rule word (true ∷ false ∷ [])
+    (elim [ true ↦ rw ((bytes_eq-Decides (word true) (word true)).1 refl) refl | false ↦ rw (apart, (bytes_eq-Decides (word false) (word false)).1 refl) refl ]) true form
 
 pub sync-rule : IsRule IsFormed sync (λ x. Word (sync_word x)) (λ _. Anything) (λ _. Unit {0}) Never
 sync-rule = table-rule sync_word all_syncs (elim [ syncs.Sync ↦ refl | _ ↦ refl ]) syncs.Sync refl
@@ -196,23 +193,19 @@ path-front P named (x ∷ next ∷ names) front rest s = follows-front P (Name x
 
 module _ {A : Type 0} {item : Reader Lexeme A} {Item : A → Form} {Within : A → Type 0} {Deep : Form} where
   -- in round brackets, with commas: an item does not begin with a closing bracket
-  module _ (repeats : Repeats (is_kind kinds.CloseParen) false Item Deep) (one : IsRule IsFormed item Item (λ _. PathNext) Within Deep) where
-    between : Between IsFormed (is_kind kinds.CloseParen) false (is_kind kinds.Comma) (Of kinds.Comma) Item PathNext Deep
-    unfolding same_kind
-    between = record {
-      mark = comma.is;
-      repeats = repeats;
-      before_end = λ rest is. kind-not kinds.CloseParen kinds.DoubleColon refl rest is;
-      before_separator = λ t rest is. kind-not kinds.Comma kinds.DoubleColon refl (t ∷ rest) is;
-      apart = λ rest is. kind-not kinds.CloseParen kinds.Comma refl rest is;
-    }
-
-    pub bracketed-rule : IsRule IsFormed (bracketed item) (λ items. Bracketed (Commas Item items)) (λ _. Anything) (EachIs Within) (BracketedTo Item Deep)
-    unfolding bracketed_steps separated
-    bracketed-rule =
-        (skip open_paren (close
-        (as_rule (separated-rule IsFormed (is_kind kinds.CloseParen) false (is_kind kinds.Comma) (Of kinds.Comma) item Item PathNext Within Deep between one))
-        close_paren (λ items. mark-tells close_paren))).is
+  pub bracketed-rule : Repeats (is_kind kinds.CloseParen) false Item Deep → IsRule IsFormed item Item (λ _. PathNext) Within Deep
+      → IsRule IsFormed (bracketed item) (λ items. Bracketed (Commas Item items)) (λ _. Anything) (EachIs Within) (BracketedTo Item Deep)
+  unfolding bracketed_steps separated same_kind
+  bracketed-rule repeats one =
+      (skip open_paren (close
+      (as_rule (separated-rule IsFormed (is_kind kinds.CloseParen) false (is_kind kinds.Comma) (Of kinds.Comma) item Item PathNext Within Deep (record {
+        mark = comma.is;
+        repeats = repeats;
+        before_end = kind-not kinds.CloseParen kinds.DoubleColon refl;
+        before_separator = λ t rest. kind-not kinds.Comma kinds.DoubleColon refl (t ∷ rest);
+        apart = kind-not kinds.CloseParen kinds.Comma refl;
+      }) one))
+      close_paren (λ items. mark-tells close_paren))).is
 
   -- in braces: an item does not begin with a closing brace
   pub braced-rule : Repeats (is_kind kinds.CloseBrace) false Item Deep → IsRule IsFormed item Item (λ _. Anything) Within Deep

@@ -13,16 +13,14 @@ use Rattle.til_parser.proofs.rules.ProjectRules.{AtEnd, project-rule}
 
 -- ---- what is read
 
-made_ends : (made : Outcome Lexeme (List AstNamespace)) (ast : Ast) (rest : List Lexeme) → ((all : List AstNamespace) (middle : List Lexeme) → made ≡ took all middle → middle ≡ [])
-    → and_then made (λ all. λ us. meant (project_of all) us us) ≡ took ast rest → rest ≡ []
-made_ends (stopped e middle) ast rest none is = absurd cc
-made_ends (took [] middle) ast rest none is = absurd cc
-made_ends (took (x ∷ all) middle) ast rest none is = sym (took-both (record { namespaces = x ∷ all }) ast middle rest is).1 ∙ none (x ∷ all) middle refl
-
 project-ends : (n : ℕ) (ts rest : List Lexeme) (ast : Ast) → project n ts ≡ took ast rest → rest ≡ []
 unfolding project
-project-ends n ts rest ast is =
-    made_ends (repeated (λ _. false) true (namespace n) ts) ast rest (λ all middle made. repeated-all (namespace n) all ts middle made) is
+project-ends n ts rest ast is = ends (repeated (λ _. false) true (namespace n) ts) refl is
+  where
+    ends : (made : Outcome Lexeme (List AstNamespace)) → repeated (λ _. false) true (namespace n) ts ≡ made
+        → and_then made (λ all. λ us. meant (project_of all) us us) ≡ took ast rest → rest ≡ []
+    ends (took (x ∷ all) middle) made is = sym (took-both (record { namespaces = x ∷ all }) ast middle rest is).1 ∙ repeated-all (namespace n) (x ∷ all) ts middle made
+    ends _ made is = absurd cc
 
 pub project_sound : (n : ℕ) (ts rest : List Lexeme) (ast : Ast) → project n ts ≡ took ast rest → Spells ast ts × IsWithin n ast
 project_sound n = all.all-sound IsFormed (project n) Spells (λ _. AtEnd) (IsWithin n) (ProjectTo n) (project-rule n) (λ x. refl) (project-ends n)

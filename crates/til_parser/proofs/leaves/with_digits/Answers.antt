@@ -5,15 +5,11 @@ use Rattle.til_parser.proofs.leaves.with_digits.Goals as goal
 
 pub overflow_mul-value : goal.overflow_mul-value
 overflow_mul-value c =
-    let room = room-next c.digits.value c.args.digits.now c.digits.digit-index c.requires.digits c.digits-test.true c.digits.invariant.0 in
-    let fits = room-fits _ _ room in
-    omega arith
+    let fits = room-fits _ _ (room-next c.digits.value c.args.digits.now c.digits.digit-index c.requires.digits c.digits-test.true c.digits.invariant.0) in omega arith
 
 pub overflow_add-value : goal.overflow_add-value
 overflow_add-value c =
-    let room = room-next c.digits.value c.args.digits.now c.digits.digit-index c.requires.digits c.digits-test.true c.digits.invariant.0 in
-    let fits = room-fits _ _ room in
-    omega arith
+    let fits = room-fits _ _ (room-next c.digits.value c.args.digits.now c.digits.digit-index c.requires.digits c.digits-test.true c.digits.invariant.0) in omega arith
 
 pub digits-preserved : goal.digits-preserved
 digits-preserved c =
