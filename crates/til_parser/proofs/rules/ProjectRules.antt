@@ -30,14 +30,12 @@ module _ (n : ℕ) where
       keyword-rule (λ begun. (both (as_flat name-rule) (as_rule (kind-rule_of n begun)) (λ x y back rest s next. tt) (λ x back rest d. tt)).is)))
       (λ z. SpellsKind z.0 z.1) (λ z ts c. kind_of_parts c.0 z.0 z.1 ts c.1) (λ z ts s. kind_parts z.0 z.1 ts s)
 
-  kind-begins : Begins (is_kind kinds.Word) (λ (z : AstName × AstKind). SpellsKind z.0 z.1) (KindTo n)
-  kind-begins = record {
-    item = λ z front rest s. let p = kind_parts z.0 z.1 front s in word-begins (keyword_word p.0) _ front rest p.1;
+  ended-begins : Begins (is_kind kinds.Word) (λ (z : AstName × AstKind). SpellsKind z.0 z.1 ⋯ Of kinds.Semicolon) (KindTo n)
+  ended-begins = record {
+    item = λ z front rest. front-tells (is_kind kinds.Word) true (SpellsKind z.0 z.1) _ front rest
+        (λ front rest s. let p = kind_parts z.0 z.1 front s in word-begins (keyword_word p.0) _ front rest p.1);
     deep = λ front rest d. word-begins (keyword_word d.0) _ front rest d.1;
   }
-
-  ended-begins : Begins (is_kind kinds.Word) (λ (z : AstName × AstKind). SpellsKind z.0 z.1 ⋯ Of kinds.Semicolon) (KindTo n)
-  ended-begins = record { item = λ z front rest. front-tells (is_kind kinds.Word) true (SpellsKind z.0 z.1) _ front rest (kind-begins.item z); deep = kind-begins.deep }
 
   -- ---- declarations
 

@@ -5,8 +5,7 @@ use Rattle.til_parser.proofs.rules.Common.{begins-apart, Mark, leaf-rule, read-r
 use Rattle.til_parser.proofs.rules.Common.{IsFormed, same_kind, is_kind, is_word, token, ⊎_elim, front-tells, ◌⋯◌}
 use denote.Enum.Bare.{same_true, true_same}
 use Rattle.std.specs.Bool.{Decides}
-use Rattle.std.proofs.lemmas.Bool.{or_cases}
-use Rattle.std.proofs.lemmas.Bool.Decides.{Decides-and, Decides-like}
+use Rattle.std.proofs.lemmas.Bool.{or_cases, Decides.Decides-and, Decides.Decides-like}
 pub use Rattle.std.proofs.lemmas.Bool.{and_parts as both}
 use Rattle.til_lexer.specs.contracts.token.TokenKind.{the_type}
 use Rattle.til_lexer.specs.declared.token.TokenKind.TheVariants as kinds
