@@ -1,11 +1,10 @@
 -- The digits of a number before its point and behind it.
-use Rattle.std.proofs.Common.{◌≡◌, ℕ, zero, suc, ◌+◌, ◌-◌, ◌*◌, ◌^◌, ◌<◌, ◌≤◌, ◌⊎◌, inl, inr, true, false, min, List, [], ◌∷◌, ◌++◌, length, take, drop}
-use Rattle.std.proofs.Common.{get_or, length-drop, append-nil, refl, ◌∙◌, subst, le_trans, mul-le-mul_right, le-mul_of_pos_right, mul_assoc, arith}
+use Rattle.std.proofs.Common.{◌≡◌, ℕ, zero, suc, ◌+◌, ◌-◌, ◌*◌, ◌^◌, ◌<◌, ◌≤◌, ◌⊎◌, inl, inr, true, false, List, [], ◌∷◌, ◌++◌, length, drop}
+use Rattle.std.proofs.Common.{get_or, append-nil, refl, subst, le_trans, mul-le-mul_right, le-mul_of_pos_right, mul_assoc, arith}
 use Rattle.std.proofs.Math.Seq.{drop-append-add, take-append_seam}
 use Rattle.std.proofs.Math.Nat.{pow-le-pow_right, pow-succ'}
 use Rattle.std.proofs.lemmas.Bool.Decides.{nat_tests}
 use Rattle.std.proofs.lemmas.Int.Digits.{digits_value-lt}
-use Rattle.std.proofs.lemmas.List.{drop_min, take_all}
 use Rattle.std.proofs.lemmas.List.Sums.{AllPass-from_list_all}
 use Rattle.std.proofs.lemmas.Nat.{pow-add}
 use Rattle.std.specs.{Char.is_ascii_digit, List.list_all}
@@ -95,13 +94,3 @@ room-behind number parts =
 pub read_on-append : (number : ℕ) (one other : List ℕ) → read_on (read_on number one) other ≡ read_on number (one ++ other)
 read_on-append number [] other = refl
 read_on-append number (digit ∷ one) other = read_on-append (10 * number + (digit - 48)) one other
-
--- ---- the two parts, as they are cut
-
-pub cut-before : (number bytes : List ℕ) (at : ℕ) → bytes ≡ number → at ≡ digits_at bytes → take at bytes ≡ digits_before number
-cut-before number bytes at same is = rw (is, same) refl
-
-pub cut-behind : (number bytes : List ℕ) (at past : ℕ) → bytes ≡ number → at ≡ digits_at bytes → past ≡ min (at + 1) (length bytes)
-    → take (length bytes - past) (drop past bytes) ≡ digits_behind number
-cut-behind number bytes at past same is past_is = take_all (length bytes - past) (drop past bytes) (omega (arith, length-drop past bytes))
-    ∙ rw (past_is, is, same) (drop_min (digits_at number + 1) number)
