@@ -1,4 +1,4 @@
-use Rattle.til_parser.proofs.rules.Common.{length, sym, ap, ◌∙◌, lexemes_of, project}
+use Rattle.til_parser.proofs.rules.Common.{sym, ap, ◌∙◌, lexemes_of, project}
 use Rattle.til_parser.proofs.LawLemmas.{formed_of}
 use Rattle.til_parser.proofs.LexemeLemmas.{length-lexemes}
 use Rattle.til_parser.proofs.rules.ParseLemmas.{project_sound, tree_or_fault, said, named, told}
