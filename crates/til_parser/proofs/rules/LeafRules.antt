@@ -30,8 +30,7 @@ named place spelling false x same = absurd (none-some x same)
 pub name-rule : IsRule IsFormed name Name (λ _. Anything) (λ _. Unit {0}) Never
 name-rule = token-rule kinds.Word (λ place spelling. name_at place (name_of spelling)) IsNamed (record {
   there = λ x t is means. let parts = named t.place t.spelling (is_name t.spelling) x means in rw parts.1 (record { kind = is; text = refl; place = refl; named = parts.0 });
-  of_kind = λ x t is. is.kind;
-  back = λ x t formed is. rw (is.text, is.place, is.named) refl;
+  back = λ x t formed is. (is.kind, rw (is.text, is.place, is.named) refl);
 }) (made kinds.Word (codes "a")) (record { name = codes "a"; place = start }) refl refl refl
 
 -- a name is a word
@@ -69,7 +68,7 @@ one_formed = inl (record { digits = record { some = omega arith; each = refl }; 
 
 pub whole-rule : IsRule IsFormed whole Whole (λ _. Anything) (λ _. Unit {0}) Never
 unfolding whole_of
-whole-rule = token-rule kinds.Number (λ place spelling. whole_of spelling) IsWhole (record { there = is_whole; of_kind = λ x t is. is.kind; back = means_whole })
+whole-rule = token-rule kinds.Number (λ place spelling. whole_of spelling) IsWhole (record { there = is_whole; back = λ x t formed is. (is.kind, means_whole x t formed is) })
     one_token 1 one_formed refl refl
 
 -- ---- levels
@@ -85,9 +84,8 @@ unfolding whole_of
 level-rule =
     respelled (as_rule (token-rule kinds.Number (λ place spelling. level_of (whole_of spelling)) (λ x t. IsWhole x t × IsLevel x) (record {
       there = λ x t is means. let parts = level_within (whole_of t.spelling) x means in (is_whole x t is parts.0, parts.1);
-      of_kind = λ x t is. is.0.kind;
       back = λ x t formed is.
-          let test : (nat_lt 0 x && nat_lt x 9) ≡ true = grind (arith, nat_tests, is.1.0, is.1.1) in rw (means_whole x t formed is.0, test) refl;
+          let test : (nat_lt 0 x && nat_lt x 9) ≡ true = grind (arith, nat_tests, is.1.0, is.1.1) in (is.0.kind, rw (means_whole x t formed is.0, test) refl);
     }) one_token 1 one_formed refl refl)) Level
     (λ x ts s. record { whole = record { lexeme = s.lexeme; all = s.all; is = s.is.0 }; within = s.is.1 })
     (λ x ts s. record { lexeme = s.whole.lexeme; all = s.whole.all; is = (s.whole.is, s.within) })
@@ -97,8 +95,7 @@ level-rule =
 pub number-rule : IsRule IsFormed number Number (λ _. Anything) (λ _. Unit {0}) Never
 number-rule = token-rule kinds.Number (λ place spelling. Some (lowest (numerator_of spelling) (denominator_of spelling))) IsNumber (record {
   there = λ x t is means. record { kind = is; value = rw (← same_Some _ x means) (IsReduced-lowest _ _ (tens_pos _)) };
-  of_kind = λ x t is. is.kind;
-  back = λ x t formed is. ap Some (sym (lowest_from_IsReduced _ _ x (tens_pos _) is.value));
+  back = λ x t formed is. (is.kind, ap Some (sym (lowest_from_IsReduced _ _ x (tens_pos _) is.value)));
 }) one_token (lowest (numerator_of (codes "1")) (denominator_of (codes "1"))) one_formed refl refl
 
 -- ---- marked texts
@@ -110,8 +107,7 @@ marked-rule : (kind : TokenKind) (mark : ℕ) → HasForm kind (mark ∷ mark �
     → IsRule IsFormed (marked kind) (λ text. One (IsMarked kind text)) (λ _. Anything) (λ _. Unit {0}) Never
 marked-rule kind mark form = token-rule kind (λ place spelling. Some (between_marks spelling)) (IsMarked kind) (record {
   there = λ x t is means. record { kind_is = is; text_is = sym (same_Some _ x means) };
-  of_kind = λ x t is. is.kind_is;
-  back = λ x t formed is. ap Some (sym is.text_is);
+  back = λ x t formed is. (is.kind_is, ap Some (sym is.text_is));
 }) (made kind (mark ∷ mark ∷ [])) (between_marks (mark ∷ mark ∷ [])) form refl refl
 
 pub quoted-rule : IsRule IsFormed quoted Quoted (λ _. Anything) (λ _. Unit {0}) Never

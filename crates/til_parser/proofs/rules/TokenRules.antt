@@ -102,8 +102,7 @@ item-apart kind word doc t is = ⊎_elim (kind-apart kinds.Word kind word t) (ki
 -- a token of this kind whose text has a meaning is such a one
 pub record IsToken {A : Type 0} (kind : TokenKind) (meaning : Place → List ℕ → Option A) (Is : A → Lexeme → Type 0) : Type 0 where
   pub there : (x : A) (t : Lexeme) → t.kind ≡ kind → meaning t.place t.spelling ≡ Some x → Is x t
-  pub of_kind : (x : A) (t : Lexeme) → Is x t → t.kind ≡ kind
-  pub back : (x : A) (t : Lexeme) → IsFormed t → Is x t → meaning t.place t.spelling ≡ Some x
+  pub back : (x : A) (t : Lexeme) → IsFormed t → Is x t → (t.kind ≡ kind) × (meaning t.place t.spelling ≡ Some x)
 
 pub meant_is : {A : Type 0} (b : Bool) (o : Option A) (x : A) → cond b o None ≡ Some x → (b ≡ true) × (o ≡ Some x)
 meant_is true o x is = (refl, is)
@@ -131,8 +130,8 @@ module _ {A : Type 0} (kind : TokenKind) (meaning : Place → List ℕ → Optio
         there = λ y t made. let parts = meant_is (same_kind t.kind kind) (meaning t.place t.spelling) y made in
             one (Is y) t (is_token.there y t (kind_is t.kind kind parts.0) parts.1);
         back = λ y ts each s.
-            let form = All-head IsFormed s.lexeme [] (subst (All IsFormed) s.all each) in
-            (s.lexeme, s.all, rw (same_kind-is s.lexeme.kind kind (is_token.of_kind y s.lexeme s.is)) (is_token.back y s.lexeme form s.is));
+            let parts = is_token.back y s.lexeme (All-head IsFormed s.lexeme [] (subst (All IsFormed) s.all each)) s.is in
+            (s.lexeme, s.all, rw (same_kind-is s.lexeme.kind kind parts.0) parts.1);
       }))
 
 -- ---- tables of words
