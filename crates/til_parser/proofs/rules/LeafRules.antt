@@ -40,16 +40,14 @@ name-begins x Second front rest =
 
 -- ---- whole numbers
 
-few_digits : (text : List ℕ) → HasForm kinds.Number text → length text ≤ 19
-few_digits text (inl whole) = omega (arith, whole.few)
-few_digits text (inr point) = omega (arith, point.few, simp length-append at (ap length point.parts))
-
--- so many digits spell a number that fits 64 bits, which is what they mean
-means_whole : (x : ℕ) (lexeme : Lexeme) → IsFormed lexeme → IsWhole x lexeme → whole_of lexeme.spelling ≡ Some x
+-- the digits of a whole number are so few that they spell one that fits 64 bits
+means_whole : (x : ℕ) (t : Lexeme) → IsFormed t → IsWhole x t → whole_of t.spelling ≡ Some x
 unfolding whole_of
-means_whole x lexeme formed is =
-    let small = digits_value_short own lexeme.spelling 19 is.digits (few_digits lexeme.spelling (subst (λ kind. HasForm kind lexeme.spelling) is.kind formed)) in
-    let fits : nat_lt (read_on 0 lexeme.spelling) (2 ^ 64) ≡ true = grind (arith, nat_tests) in
+means_whole x t formed is =
+    let few : length t.spelling ≤ 19 = elim (subst (λ kind. HasForm kind t.spelling) is.kind formed)
+    [ inl whole ↦ omega (arith, whole.few) | inr point ↦ omega (arith, point.few, simp length-append at (ap length point.parts)) ] in
+    let small = digits_value_short own t.spelling 19 is.digits few in
+    let fits : nat_lt (read_on 0 t.spelling) (2 ^ 64) ≡ true = grind (arith, nat_tests) in
     rw (is.digits, fits, is.value)
 
 is_whole : (x : ℕ) (lexeme : Lexeme) → lexeme.kind ≡ kinds.Number → whole_of lexeme.spelling ≡ Some x → IsWhole x lexeme
