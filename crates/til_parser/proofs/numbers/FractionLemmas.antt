@@ -1,7 +1,6 @@
 -- Fractions in lowest terms, by the remainders of each part by the next.
 use Rattle.std.proofs.Common.{◌≡◌, ℕ, zero, suc, ◌%◌, ◌<◌, ◌≤◌, false, eqb, Option, None, Some, IfSome, refl, ◌∙◌, mod-lt, arith}
-use Prim.Native.Nat.{◌∣◌}
-use Rattle.std.proofs.Math.Nat.{eq-zero_of_zero-dvd}
+use Rattle.std.proofs.Math.Nat.{pos_of_dvd_of_pos}
 use Rattle.std.specs.Int.{IsGcd}
 use Rattle.std.proofs.lemmas.Nat.Gcd.{IsGcd-from_zero, IsGcd-from_mod}
 use Rattle.std.proofs.lemmas.Bool.Decides.{nat_tests}
@@ -18,15 +17,11 @@ divisor_from-is (suc turns) num (suc den) less =
     let some : eqb (suc den) 0 ≡ false = grind (arith, nat_tests) in
     rw some (IsGcd-from_mod num (suc den) (divisor_from turns (suc den) (num % suc den)) (divisor_from-is turns (suc den) (num % suc den) (omega arith)))
 
-divisor_some : (divisor den : ℕ) → divisor ∣ den → 0 < den → 1 ≤ divisor
-divisor_some zero den divides some = absurd (let none = eq-zero_of_zero-dvd divides in omega arith)
-divisor_some (suc divisor) den divides some = omega arith
-
 pub IsReduced-lowest : (num den : ℕ) → 0 < den → IsReduced num den (lowest num den)
 unfolding lowest
 IsReduced-lowest num den some =
     let greatest = divisor_from-is (suc den) num den (omega arith) in
-    IsReduced-divided num den (divisor_from (suc den) num den) (omega arith) (divisor_some _ den greatest.1 some) greatest
+    IsReduced-divided num den (divisor_from (suc den) num den) (omega arith) (pos_of_dvd_of_pos greatest.1 some) greatest
 
 -- what is a fraction in lowest terms is the one of this project
 pub lowest_from_IsReduced : (num den : ℕ) (fraction : Fraction) → 0 < den → IsReduced num den fraction → fraction ≡ lowest num den

@@ -45,31 +45,21 @@ abbrev limit : ℕ
 limit = 18446744073709551616
 
 pub tens_pos : (n : ℕ) → 0 < 10 ^ n
-tens_pos zero = omega arith
-tens_pos (suc n) = let more = tens_pos n in rw (pow-succ' 10 n) (omega arith)
+tens_pos n = pow-le-pow_right {n = 10} (omega arith) {i = 0} {j = n} (omega arith)
 
 pub tens_fit : (n : ℕ) → n ≤ 18 → 10 ^ n < limit
 tens_fit n few = let most : 10 ^ n ≤ 10 ^ 18 = pow-le-pow_right (omega arith) few in omega arith
 
-digit_small : (digits : List ℕ) (i : ℕ) → list_all is_ascii_digit digits ≡ true → i < length digits → get_or digits i 0 - 48 ≤ 9
-digit_small digits i all less = let one = AllPass-from_list_all is_ascii_digit digits all i 0 less in grind (arith, nat_tests)
-
 -- one more digit leaves room for one less
-room_more : (value digit left : ℕ) → digit ≤ 9 → (10 * value + digit + 1) * 10 ^ left ≤ (value + 1) * 10 ^ suc left
-room_more value digit left small =
-    let less : 10 * value + digit + 1 ≤ (value + 1) * 10 = omega arith in
-    rw (pow-succ' 10 left, ← mul_assoc (value + 1) 10 (10 ^ left)) (mul-le-mul_right (10 ^ left) less)
-
--- so does one more digit of a list
 pub room-next : (value : ℕ) (digits : List ℕ) (i : ℕ) → list_all is_ascii_digit digits ≡ true → i < length digits
     → (value + 1) * 10 ^ (length digits - i) ≤ limit
     → (10 * value + (get_or digits i 0 - 48) + 1) * 10 ^ (length digits - (i + 1)) ≤ limit
 room-next value digits i all less room =
-    let small = digit_small digits i all less in
+    let one = AllPass-from_list_all is_ascii_digit digits all i 0 less in
+    let grows : 10 * value + (get_or digits i 0 - 48) + 1 ≤ (value + 1) * 10 = grind (arith, nat_tests) in
     let left : length digits - i ≡ suc (length digits - (i + 1)) = omega arith in
-    let more = room_more value (get_or digits i 0 - 48) (length digits - (i + 1)) small in
-    let now = subst (λ (n : ℕ). (value + 1) * 10 ^ n ≤ limit) left room in
-    omega arith
+    le_trans (mul-le-mul_right (10 ^ (length digits - (i + 1))) grows)
+    (rw (mul_assoc (value + 1) 10 (10 ^ (length digits - (i + 1))), ← pow-succ' 10 (length digits - (i + 1)), ← left) room)
 
 -- what has room fits
 pub room-fits : (number left : ℕ) → (number + 1) * 10 ^ left ≤ limit → number < limit

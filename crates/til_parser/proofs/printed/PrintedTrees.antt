@@ -24,7 +24,7 @@ use Rattle.til_parser.specs.Same.{Alike, SameName, SameNames, SameType, SamePart
 use Rattle.til_parser.specs.Tree.{Ltype, null, bits, group, union, stream, path, Parts, no_parts, part, Settings, plain}
 use Rattle.til_parser.specs.Trees.{HasName, IsPath, IsDoc, AreSettings, IsType, AreParts, IsPort, IsEnd, IsStmt, IsBody, ArePorts, IsKind, IsDecl, IsNamespace}
 use Rattle.til_parser.specs.Words.{all_arguments}
-use Rattle.til_parser.proofs.PlainLemmas.{of_plain, plain-of_plain}
+use Rattle.til_parser.proofs.PlainLemmas.{with_plain}
 use Rattle.til_parser.proofs.printed.PrintedForms.{Printed, Stops, bracketed, colon, comma, ends_as, equals, free, indented, joined, labelled, made, nothing, of_text}
 use Rattle.til_parser.proofs.printed.PrintedForms.{prefixed, spaced, suffixed, symbol, word}
 use Rattle.til_parser.proofs.printed.PrintedLeaves.{Again, printed_commas, printed_doc, printed_each, printed_level, printed_name, printed_number, printed_path}
@@ -133,8 +133,8 @@ abbrev SameAst : AstType → AstType → Type 0
 SameAst one other = SameType (plain one) (plain other)
 
 printed_ast : (one : AstType) → IsType (plain one) → PrintedAs (type_text (plain one)) SameAst (λ t. SpellsType (plain t)) one
-printed_ast one is = made (λ a. (of_plain a.0, subst (SameType (plain one)) (sym (plain-of_plain a.0)) a.1))
-    (λ a ts is. subst (λ t. SpellsType t ts) (sym (plain-of_plain a.0)) is) (printed_type (plain one) is)
+printed_ast one is = made (λ a. ((with_plain a.0).0, subst (SameType (plain one)) (sym (with_plain a.0).1) a.1))
+    (λ a ts is. subst (λ t. SpellsType t ts) (sym (with_plain a.0).1) is) (printed_type (plain one) is)
 
 -- ---- ports
 

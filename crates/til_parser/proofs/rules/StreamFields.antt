@@ -5,14 +5,14 @@ use Rattle.til_parser.proofs.rules.Common.{Arguments, Argument, AstType, AstStre
 use Rattle.til_parser.proofs.rules.Common.{argument_word, sync_word, direction_word, truth_word, lowest, divisor_from, Value, field, put, is_given, none_given, filled}
 use Rattle.til_parser.proofs.rules.Common.{stream_of, value_of, stream, plain, settings_of, all_arguments, argument_of, argument_at, Never, Anything, ◌⋯◌, Reader, Shrinks}
 use Rattle.til_parser.proofs.rules.Common.{◌>>◌, ◌<$>◌, IsRule, as_rule, as_flat, of_flat, fewer, skip, flat_skip, close, mark-tells, Lexeme, IsFormed, ValueTo, SpellsArgument}
-use Rattle.til_parser.proofs.rules.Common.{ArgumentsTo, same_kind, is_kind, expect}
+use Rattle.til_parser.proofs.rules.Common.{ArgumentsTo, same_kind, is_kind, expect, ◌↔◌}
 use Rattle.til_parser.specs.contracts.keyword.Argument.{the_type}
 use Rattle.tydi_reading.proofs.NamedSteps.{Between}
 use Rattle.til_parser.specs.declared.keyword.Argument.TheVariants as arguments
 use Rattle.til_parser.specs.declared.ltype.AstType.TheVariants as types
 use Rattle.til_parser.specs.declared.ltype.AstSync.TheVariants as syncs
 use Rattle.til_parser.specs.Grammar as grammar
-use Rattle.til_parser.proofs.PlainLemmas.{plain-Null, plain-injective}
+use Rattle.til_parser.proofs.PlainLemmas.{plain-Null, plain-null}
 use Rattle.tydi_reading.proofs.NamedRule.{Defaults, named-rule}
 use Rattle.tydi_reading.proofs.NamedSteps as steps
 use Rattle.til_lexer.specs.declared.token.TokenKind.TheVariants as kinds
@@ -25,12 +25,9 @@ use Rattle.til_parser.proofs.rules.TokenRules.{made, kind-not, colon, open_paren
 abbrev pub one_or_two : (a b : Argument) → (a ≡ b) ⊎ (a ≡ b → ⊥)
 one_or_two = same_or_not the_type tt
 
-has_all : (name : Argument) → has one_or_two all_arguments name ≡ true
-has_all arguments.Data = refl
-has_all _ = refl
-
 pub all_arguments-all : (name : Argument) → Contains all_arguments name
-all_arguments-all name = has-Contains one_or_two all_arguments name (has_all name)
+all_arguments-all name =
+    has-Contains one_or_two all_arguments name (elim name as (λ a. has one_or_two all_arguments a ≡ true) [ arguments.Data ↦ refl | _ ↦ refl ])
 
 pub all_arguments-apart : AreApart all_arguments
 all_arguments-apart = are_apart-apart one_or_two all_arguments refl
@@ -48,10 +45,6 @@ value one arguments.Direction = one.reverse
 value one arguments.User = one.user
 value one arguments.Keep = one.keep
 
-pub field-put : (a : Argument) (x : Value a) (given : Arguments) → field a (put a x given) ≡ Some x
-field-put arguments.Data x given = refl
-field-put _ x given = refl
-
 pub field-put_other : (a b : Argument) (x : Value b) (given : Arguments) → (b ≡ a → ⊥) → field a (put b x given) ≡ field a given
 field-put_other arguments.Data arguments.Data x given apart = absurd (apart refl)
 field-put_other arguments.Throughput arguments.Throughput x given apart = absurd (apart refl)
@@ -62,14 +55,6 @@ field-put_other arguments.Direction arguments.Direction x given apart = absurd (
 field-put_other arguments.User arguments.User x given apart = absurd (apart refl)
 field-put_other arguments.Keep arguments.Keep x given apart = absurd (apart refl)
 field-put_other _ _ x given apart = refl
-
-pub field-none : (a : Argument) → field a none_given ≡ None
-field-none arguments.Data = refl
-field-none _ = refl
-
-pub is_given-is : (a : Argument) (given : Arguments) → is_given a given ≡ is_some (field a given)
-is_given-is arguments.Data given = refl
-is_given-is _ given = refl
 
 -- ---- the Stream of what is given
 
@@ -84,58 +69,54 @@ Default one = IsDefault (plain one.user) (settings_of one)
 abbrev IsGivenOr : AstStream → Arguments → Argument → Type 0
 IsGivenOr one given a = (field a given ≡ Some (value one a)) ⊎ ((field a given ≡ None) × Default one a)
 
-or_default : {A : Type 0} (o : Option A) (default x : A) (IsIt : Type 0) → (x ≡ default → IsIt) → unwrap_or o default ≡ x → (o ≡ Some x) ⊎ ((o ≡ None) × IsIt)
-or_default None default x IsIt to is = inr (refl, to (sym is))
-or_default (Some y) default x IsIt to is = inl (ap Some is)
+-- the Stream of Null and of all defaults
+abbrev pub least : AstStream
+least = filled types.Null none_given
 
-of_default : {A : Type 0} (o : Option A) (default x : A) (IsIt : Type 0) → (IsIt → x ≡ default) → (o ≡ Some x) ⊎ ((o ≡ None) × IsIt) → unwrap_or o default ≡ x
-of_default o default x IsIt from (inl is) = ap (λ p. unwrap_or p default) is
-of_default o default x IsIt from (inr h) = ap (λ p. unwrap_or p default) h.0 ∙ sym (from h.1)
+pub default-is : (one : AstStream) (a : Argument) → (a ≡ arguments.Data → ⊥) → (value one a ≡ value least a) ↔ Default one a
+default-is one arguments.Data other = absurd (other refl)
+default-is one arguments.Throughput other = (λ e. e ∙ lowest-whole, λ d. d ∙ sym lowest-whole)
+default-is one arguments.User other = (λ e. ap plain e ∙ plain-Null, plain-null one.user)
+default-is one _ other = (λ e. e, λ d. d)
 
-made_of : {A B : Type 0} (f : A → B) (o : Option A) (y : B) → option_map f o ≡ Some y → (x : A) × (o ≡ Some x) × (f x ≡ y)
-made_of f (Some x) y e = (x, refl, same_Some (f x) y e)
-made_of f None y e = absurd (none-some y e)
+or_default : {A : Type 0} (o : Option A) (default : A) {IsIt : Type 0} → (unwrap_or o default ≡ default → IsIt)
+    → (o ≡ Some (unwrap_or o default)) ⊎ ((o ≡ None) × IsIt)
+or_default None default to = inr (refl, to refl)
+or_default (Some x) default to = inl refl
 
-pub made_none : {A B : Type 0} (f : A → B) (o : Option A) → option_map f o ≡ None → o ≡ None
-made_none f None e = refl
-made_none f (Some x) e = absurd (none-some (f x) (sym e))
+given_or : (given : Arguments) (element : AstType) → given.element ≡ Some element → (a : Argument) → IsGivenOr (filled element given) given a
+given_or given element is arguments.Data = inl is
+given_or given element is a = or_default (field a given) (value least a) (default-is (filled element given) a (λ e. absurd cc)).0
 
 pub made-is : (given : Arguments) (one : AstStream) → stream_of given ≡ Some one → (a : Argument) → IsGivenOr one given a
-made-is given one is a = of_parts (made_of (λ element. filled element given) given.element one is) a
+made-is given one is a = of_element given.element refl is
   where
-    of_parts : (h : (element : _) × (given.element ≡ Some element) × (filled element given ≡ one)) → (a : Argument) → IsGivenOr one given a
-    of_parts h arguments.Data = inl (h.1 ∙ ap (λ s. Some s.element) h.2)
-    of_parts h arguments.Throughput = or_default given.throughput (lowest 1 1) one.throughput _ (λ e. e ∙ lowest-whole) (ap (λ s. s.throughput) h.2)
-    of_parts h arguments.Dimensionality = or_default given.dims 0 one.dims _ (λ e. e) (ap (λ s. s.dims) h.2)
-    of_parts h arguments.Synchronicity = or_default given.sync syncs.Sync one.sync _ (λ e. e) (ap (λ s. s.sync) h.2)
-    of_parts h arguments.Complexity = or_default given.level 4 one.level _ (λ e. e) (ap (λ s. s.level) h.2)
-    of_parts h arguments.Direction = or_default given.reverse false one.reverse _ (λ e. e) (ap (λ s. s.reverse) h.2)
-    of_parts h arguments.User = or_default given.user types.Null one.user _ (λ e. ap plain e ∙ plain-Null) (ap (λ s. s.user) h.2)
-    of_parts h arguments.Keep = or_default given.keep false one.keep _ (λ e. e) (ap (λ s. s.keep) h.2)
+    of_element : (o : Option AstType) → given.element ≡ o → option_map (λ element. filled element given) o ≡ Some one → IsGivenOr one given a
+    of_element None was is = absurd (none-some one is)
+    of_element (Some element) was is = subst (λ s. IsGivenOr s given a) (same_Some _ one is) (given_or given element was a)
+
+given_value : (given : Arguments) (one : AstStream) (a : Argument) → IsGivenOr one given a → value (filled one.element given) a ≡ value one a
+given_value given one arguments.Data or = refl
+given_value given one a (inl is) = ap (λ o. unwrap_or o (value least a)) is
+given_value given one a (inr h) = ap (λ o. unwrap_or o (value least a)) h.0 ∙ sym ((default-is one a (λ e. absurd cc)).1 h.1)
+
+same_values : (one other : AstStream) → ((a : Argument) → value one a ≡ value other a) → one ≡ other
+same_values one other same = λ i. roll-AstStream (record {
+  element = same arguments.Data i;
+  throughput = same arguments.Throughput i;
+  dims = same arguments.Dimensionality i;
+  sync = same arguments.Synchronicity i;
+  level = same arguments.Complexity i;
+  reverse = same arguments.Direction i;
+  user = same arguments.User i;
+  keep = same arguments.Keep i;
+})
 
 pub is-made : (given : Arguments) (one : AstStream) → ((a : Argument) → IsGivenOr one given a) → stream_of given ≡ Some one
-is-made given one h =
-    let throughput = of_default given.throughput (lowest 1 1) one.throughput _ (λ e. e ∙ sym lowest-whole) (h arguments.Throughput) in
-    let dims = of_default given.dims 0 one.dims _ (λ e. e) (h arguments.Dimensionality) in
-    let sync = of_default given.sync syncs.Sync one.sync _ (λ e. e) (h arguments.Synchronicity) in
-    let level = of_default given.level 4 one.level _ (λ e. e) (h arguments.Complexity) in
-    let reverse = of_default given.reverse false one.reverse _ (λ e. e) (h arguments.Direction) in
-    let user = of_default given.user types.Null one.user _ (λ e. plain-injective one.user types.Null (e ∙ sym plain-Null)) (h arguments.User) in
-    let keep = of_default given.keep false one.keep _ (λ e. e) (h arguments.Keep) in
-    ap (option_map (λ element. filled element given)) (element (h arguments.Data)) ∙ (λ i. Some (roll-AstStream (record {
-      element = one.element;
-      throughput = throughput i;
-      dims = dims i;
-      sync = sync i;
-      level = level i;
-      reverse = reverse i;
-      user = user i;
-      keep = keep i;
-    })))
-  where
-    element : IsGivenOr one given arguments.Data → given.element ≡ Some one.element
-    element (inl e) = e
-    element (inr h) = absurd h.1
+is-made given one each =
+    let element : given.element ≡ Some one.element = ⊎_elim (λ e. e) (λ d. absurd d.1) (each arguments.Data) in
+    ap (option_map (λ element. filled element given)) element
+    ∙ ap Some (same_values (filled one.element given) one (λ a. given_value given one a (each a)))
 
 abbrev pub fields : Fields Argument Arguments AstStream
 fields = record {
@@ -150,13 +131,16 @@ fields = record {
   all = all_arguments;
   each = all_arguments-all;
   one_or_two = one_or_two;
-  field-put = field-put;
+  field-put = elim [ arguments.Data ↦ λ x given. refl | _ ↦ λ x given. refl ];
   field-put_other = field-put_other;
-  field-none = field-none;
-  is_given-is = is_given-is;
+  field-none = elim [ arguments.Data ↦ refl | _ ↦ refl ];
+  is_given-is = elim [ arguments.Data ↦ λ given. refl | _ ↦ λ given. refl ];
   made-is = made-is;
   is-made = is-made;
-  full = λ given all none. all arguments.Data (made_none (λ element. filled element given) given.element none);
+  full = λ given all. elim given.element as (λ o. (o ≡ None → ⊥) → option_map (λ element. filled element given) o ≡ None → ⊥) [
+    | None ↦ λ some is. some refl
+    | Some x ↦ λ some is. none-some _ (sym is)
+  ] (all arguments.Data);
 }
 
 -- a type, and the arguments of a Stream, as the grammar has them
@@ -170,31 +154,10 @@ each_argument : (name : Argument) → argument_of (argument_word name) ≡ Some 
 each_argument arguments.Data = refl
 each_argument _ = refl
 
-formed : (name : Argument) → IsFormed (made kinds.Word (argument_word name))
-formed arguments.Data = refl
-formed _ = refl
-
--- the value of an argument
+-- the value of an argument, as a Stream with it has it
 abbrev Spelled : (name : Argument) → Value name → Form
-Spelled arguments.Data x = S x
-Spelled arguments.Throughput x = Number x
-Spelled arguments.Dimensionality x = Whole x
-Spelled arguments.Synchronicity x = Word (sync_word x)
-Spelled arguments.Complexity x = Level x
-Spelled arguments.Direction x = Word (direction_word x)
-Spelled arguments.User x = S x
-Spelled arguments.Keep x = Word (truth_word x)
-
-abbrev Named : AstStream → Argument → Form
-Named one name = Word (argument_word name) ⋯ Of kinds.Colon ⋯ Spelled name (value one name)
-
-to_argument : (one : AstStream) (name : Argument) (ts : List Lexeme) → Named one name ts → SpellsArgument one name ts
-to_argument one arguments.Data ts s = s
-to_argument one _ ts s = s
-
-of_argument : (one : AstStream) (name : Argument) (ts : List Lexeme) → SpellsArgument one name ts → Named one name ts
-of_argument one arguments.Data ts s = s
-of_argument one _ ts s = s
+Spelled name x = let given = put name x none_given in let one = filled (unwrap_or given.element types.Null) given in
+    grammar.Held (S one.element) (S one.user) (settings_of one) name
 
 module _ (inner : Reader Lexeme AstType) (W : AstType → Type 0) (D : Form) (rule : IsRule IsFormed inner S (λ _. PathNext) W D)
     (null_within : (x : AstType) → W x → W types.Null) where
@@ -220,10 +183,6 @@ module _ (inner : Reader Lexeme AstType) (W : AstType → Type 0) (D : Form) (ru
   value-rule arguments.User = (skip colon (as_rule rule)).is
   value-rule arguments.Keep = no_type (either_word-rule truth_word refl refl)
 
-  added-is : (name : Argument) (given : Arguments) (ts : List Lexeme) → ((λ x. put name x given) <$> (expect kinds.Colon >> value_of inner name)) ts ≡ read.value inner name given ts
-  added-is arguments.Data given ts = refl
-  added-is _ given ts = refl
-
   abbrev values : steps.Arguments IsFormed fields
   values = record {
     name = argument_at;
@@ -231,7 +190,7 @@ module _ (inner : Reader Lexeme AstType) (W : AstType → Type 0) (D : Form) (ru
     there = word_at-there argument_word all_arguments each_argument;
     back = word_at-back argument_word all_arguments each_argument;
     thing = λ name. made kinds.Word (argument_word name);
-    good = formed;
+    good = elim [ arguments.Data ↦ refl | _ ↦ refl ];
     named = word_at-made argument_word all_arguments each_argument;
     read = λ name. expect kinds.Colon >> value_of inner name;
     Spelled = λ name x. Of kinds.Colon ⋯ Spelled name x;
@@ -239,10 +198,10 @@ module _ (inner : Reader Lexeme AstType) (W : AstType → Type 0) (D : Form) (ru
     Within = ValueWithin;
     Deep = ValueTo D;
     Argument = SpellsArgument;
-    to_argument = to_argument;
-    of_argument = of_argument;
+    to_argument = λ one. elim [ arguments.Data ↦ λ ts s. s | _ ↦ λ ts s. s ];
+    of_argument = λ one. elim [ arguments.Data ↦ λ ts s. s | _ ↦ λ ts s. s ];
     added = read.value inner;
-    added-is = added-is;
+    added-is = elim [ arguments.Data ↦ λ given ts. refl | _ ↦ λ given ts. refl ];
     rule = value-rule;
   }
 
@@ -269,8 +228,8 @@ module _ (inner : Reader Lexeme AstType) (W : AstType → Type 0) (D : Form) (ru
 
   defaults : Defaults IsFormed fields values (is_kind kinds.CloseParen) false (is_kind kinds.Comma) (Of kinds.Comma) between
   defaults one or arguments.Data default = absurd default
-  defaults one or arguments.User default = subst W (sym (plain-injective one.user types.Null (default ∙ sym plain-Null)))
-      (⊎_elim (λ w. null_within one.element w) (λ none. absurd none) (or arguments.Data))
+  defaults one or arguments.User default = subst W (sym (plain-null one.user default))
+      (⊎_elim (null_within one.element) (λ none. absurd none) (or arguments.Data))
   defaults one or _ default = tt
 
   pub stream-rule : IsRule IsFormed (stream inner) (λ one. Bracketed (ArgumentsOf one)) (λ _. Anything) StreamWithin (Of kinds.OpenParen ⋯ ArgumentsTo D)
