@@ -6,6 +6,7 @@ use Rattle.tydi_reading.specs.declared.fault.Fault.TheVariants as faults
 use Rattle.tydi_reading.specs.Forms.{Form, ◌⋯◌, Nothing, One, GoesOn}
 use Rattle.tydi_reading.specs.Reading.{Outcome, took, stopped, Reader, ◌<$>◌, ◌<&>◌, choose, tells, too_deep}
 use Rattle.tydi_reading.specs.Rules.{Local, Found, Reached, Finishes, Stops, IsRule}
+use Rattle.tydi_reading.proofs.FormLemmas.{goes_as}
 use Rattle.tydi_reading.proofs.StepRules.{then-rule, map-rule}
 
 -- ---- a choice by the next thing
@@ -52,7 +53,7 @@ pub choose-rule : {T A : Type 0} (Good : T → Type 0) (test : T → Bool) (last
     → IsRule Good p One OneNext Within OneDeep → IsRule Good q Other OtherNext Within OtherDeep
     → IsRule Good (choose test last p q) Whole Next Within Deep
 choose-rule {T} {A} Good test last p q One OneNext OneDeep Other OtherNext OtherDeep Whole Next Within Deep c a b = record {
-  example = one-goes [] a.example;
+  example = goes_as (λ x. x) c.one a.example;
   local = λ ts. local ts (tells test last ts) refl;
   sound = λ ts rest x is. sound ts rest x (tells test last ts) refl is;
   complete = λ front rest x good s next. complete front rest x good next (c.which x front s);
@@ -60,12 +61,6 @@ choose-rule {T} {A} Good test last p q One OneNext OneDeep Other OtherNext Other
   stops = λ front rest good d. stops front rest good (c.which_deep front d);
 }
   where
-    one-goes : (front : List T) → GoesOn Good One front → GoesOn Good Whole front
-    one-goes front g = record { value = g.value; more = g.more; good = g.good; spelled = c.one g.value (front ++ g.more) g.spelled }
-
-    other-goes : (front : List T) → GoesOn Good Other front → GoesOn Good Whole front
-    other-goes front g = record { value = g.value; more = g.more; good = g.good; spelled = c.other g.value (front ++ g.more) g.spelled }
-
     local : (ts : List T) (v : Bool) → tells test last ts ≡ v → Local (choose test last p q) ts (choose test last p q ts)
     local ts true is = local-choose test last p q ts true is (a.local ts)
     local ts false is = local-choose test last p q ts false is (b.local ts)
@@ -85,7 +80,7 @@ choose-rule {T} {A} Good test last p q One OneNext OneDeep Other OtherNext Other
         (λ s. rw (chosen test last p q (front ++ rest) false (c.other_begins x front rest s next)) (b.complete front rest x good s (c.other_next x front rest s next)))
 
     of-one : (ts rest : List T) (e : Fault) → Finishes Good One OneDeep ts rest e → Finishes Good Whole Deep ts rest e
-    of-one ts rest faults.Refused f = record { front = f.front; split = f.split; goes = one-goes f.front f.goes }
+    of-one ts rest faults.Refused f = record { front = f.front; split = f.split; goes = goes_as (λ x. x) c.one f.goes }
     of-one ts rest faults.TooDeep f = record {
       front = f.front;
       next = f.next;
@@ -93,12 +88,12 @@ choose-rule {T} {A} Good test last p q One OneNext OneDeep Other OtherNext Other
       split = f.split;
       begins = f.begins;
       deep = c.one_deep f.front f.deep;
-      goes = one-goes (f.front ++ f.next ∷ []) f.goes;
+      goes = goes_as (λ x. x) c.one f.goes;
     }
     of-one ts rest faults.Memory f = f
 
     of-other : (ts rest : List T) (e : Fault) → Finishes Good Other OtherDeep ts rest e → Finishes Good Whole Deep ts rest e
-    of-other ts rest faults.Refused f = record { front = f.front; split = f.split; goes = other-goes f.front f.goes }
+    of-other ts rest faults.Refused f = record { front = f.front; split = f.split; goes = goes_as (λ x. x) c.other f.goes }
     of-other ts rest faults.TooDeep f = record {
       front = f.front;
       next = f.next;
@@ -106,7 +101,7 @@ choose-rule {T} {A} Good test last p q One OneNext OneDeep Other OtherNext Other
       split = f.split;
       begins = f.begins;
       deep = c.other_deep f.front f.deep;
-      goes = other-goes (f.front ++ f.next ∷ []) f.goes;
+      goes = goes_as (λ x. x) c.other f.goes;
     }
     of-other ts rest faults.Memory f = f
 
@@ -201,11 +196,11 @@ both-rule {T} {A} {B} Good p q One OneNext OneWithin OneDeep Other OtherNext Oth
 
 -- ---- what may not stand here
 
-pub too_deep-rule : {T A : Type 0} (Good : T → Type 0) (begins : T → Bool) (Spelled : A → Form T) (Next : A → Form T)
-    → GoesOn Good Spelled [] → ((t : T) → begins t ≡ true → GoesOn Good Spelled (t ∷ []))
+pub too_deep-rule : {T A : Type 0} (Good : T → Type 0) (begins : T → Bool) (Spelled : A → Form T) (Next : A → Form T) (Within : A → Type 0)
+    → ((x : A) → Within x → ⊥) → GoesOn Good Spelled [] → ((t : T) → begins t ≡ true → GoesOn Good Spelled (t ∷ []))
     → ((x : A) (front : List T) → All Good front → Spelled x front → tells begins false front ≡ true)
-    → IsRule Good (too_deep begins) Spelled Next (λ _. ⊥) Nothing
-too_deep-rule {T} {A} Good begins Spelled Next example begun starts = record {
+    → IsRule Good (too_deep begins) Spelled Next Within Nothing
+too_deep-rule {T} {A} Good begins Spelled Next Within none example begun starts = record {
   example = example;
   local = local;
   sound = λ ts rest x is. absurd (never ts rest x is);
@@ -229,13 +224,13 @@ too_deep-rule {T} {A} Good begins Spelled Next example begun starts = record {
     never [] rest x is = cc
     never (t ∷ ts) rest x is = cc
 
-    complete : (x : A) (front rest : List T) → tells begins false front ≡ true → Reached (λ (x : A). ⊥) rest x (too_deep begins (front ++ rest))
+    complete : (x : A) (front rest : List T) → tells begins false front ≡ true → Reached Within rest x (too_deep begins (front ++ rest))
     complete x [] rest s = absurd cc
     complete x (t ∷ more) rest s = inr (record {
       at = (t ∷ more) ++ rest;
       is = ap (λ b. stopped (cond b faults.TooDeep faults.Refused) ((t ∷ more) ++ rest)) s;
       before = let sum = length-append (t ∷ more) rest in omega arith;
-      beyond = λ w. w;
+      beyond = none x;
     })
 
     told : (t : T) (ts rest : List T) (e : Fault) (b : Bool) → begins t ≡ b → ◌≡◌ {A = Outcome T A} (stopped (cond b faults.TooDeep faults.Refused) (t ∷ ts)) (stopped e rest)
@@ -262,4 +257,4 @@ too_deep-rule {T} {A} Good begins Spelled Next example begun starts = record {
     stopped-at (t ∷ rest) = record { fault = cond (begins t) faults.TooDeep faults.Refused; at = t ∷ rest; is = refl; before = omega arith }
 
     stops : (front rest : List T) → Nothing front → Stops {A = A} rest (too_deep begins (front ++ rest))
-    stops front rest none = rw none (stopped-at rest)
+    stops front rest all = rw all (stopped-at rest)

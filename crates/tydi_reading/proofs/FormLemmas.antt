@@ -1,6 +1,6 @@
 -- What stands one after another.
 use Rattle.std.proofs.Common.{◌≡◌, Bool, false, List, ◌++◌, refl, sym, ap, ◌∙◌, subst, append_assoc}
-use Rattle.tydi_reading.specs.Forms.{Form, ◌⋯◌}
+use Rattle.tydi_reading.specs.Forms.{Form, ◌⋯◌, GoesOn}
 use Rattle.tydi_reading.specs.Reading.{tells}
 
 -- what has the one form, and then what has the other
@@ -40,3 +40,8 @@ follows-front Next First Second back rest follow s =
 pub front-tells : {T : Type 0} (test : T → Bool) (b : Bool) (First Second : Form T) (front rest : List T)
     → ((front rest : List T) → First front → tells test false (front ++ rest) ≡ b) → (First ⋯ Second) front → tells test false (front ++ rest) ≡ b
 front-tells test b First Second front rest one = follows-front (λ ts. tells test false ts ≡ b) First Second front rest one
+
+-- what goes on to a thing of the one form goes on to one of the other
+pub goes_as : {T A B : Type 0} {Good : T → Type 0} {One : A → Form T} {Other : B → Form T} {front : List T} (f : A → B)
+    → ((x : A) (ts : List T) → One x ts → Other (f x) ts) → GoesOn Good One front → GoesOn Good Other front
+goes_as f to g = record { value = f g.value; more = g.more; good = g.good; spelled = to g.value _ g.spelled }

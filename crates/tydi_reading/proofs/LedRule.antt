@@ -1,4 +1,4 @@
--- A next thing with a meaning leads on by it, or another rule follows.
+-- A next thing with a meaning leads on by it, or another rule follows, in which nothing can stand too deep.
 use Rattle.std.proofs.Common.{◌≡◌, ◌⊎◌, inl, inr, Bool, true, false, List, [], ◌∷◌, ◌++◌, Option, Some, None, refl, sym, ap, ◌∙◌, append_assoc}
 use Rattle.std.specs.Option.{is_some}
 use Rattle.tydi_reading.specs.Forms.{Form, ◌⋯◌, Never, Anything}
@@ -22,10 +22,9 @@ module _ {T K A : Type 0} (Good : T → Type 0) (meaning : T → Option K) (p : 
   led-same [] = refl
   led-same (t ∷ ts) = of_meaning t ts (meaning t) refl
 
-  module _ (Lead : K → Form T) (After : K → A → Form T) (Other Next : A → Form T) (Within : A → Type 0) (To : K → Form T) (OtherTo : Form T)
+  module _ (Lead : K → Form T) (After : K → A → Form T) (Other Next : A → Form T) (Within : A → Type 0) (To : K → Form T)
       (there : (k : K) (ts : List T) → Lead k ts → (t : T) × (ts ≡ t ∷ []) × (meaning t ≡ Some k))
-      (apart : (x : A) (front rest : List T) → Other x front → tells is_told false (front ++ rest) ≡ false)
-      (apart_to : (front rest : List T) → OtherTo front → tells is_told false (front ++ rest) ≡ false) where
+      (apart : (x : A) (front rest : List T) → Other x front → tells is_told false (front ++ rest) ≡ false) where
     -- a leading thing, and what its meaning asks for
     abbrev pub Led : A → Form T
     Led = Chained Lead After
@@ -40,10 +39,10 @@ module _ {T K A : Type 0} (Good : T → Type 0) (meaning : T → Option K) (p : 
     leads_on k Second front rest b = rw (b.all, append_assoc b.front b.back rest) (leads k b.front (b.back ++ rest) b.begins)
 
     pub led-rule : IsRule Good (leaf meaning) Lead (λ _. Anything) (λ _. Unit {0}) Never → ((k : K) → IsRule Good (p k) (After k) Next Within (To k))
-        → IsRule Good q Other Next Within OtherTo → IsRule Good (led meaning p q) (λ x ts. Led x ts ⊎ Other x ts) Next Within (λ ts. LedTo ts ⊎ OtherTo ts)
+        → IsRule Good q Other Next Within Never → IsRule Good (led meaning p q) (λ x ts. Led x ts ⊎ Other x ts) Next Within LedTo
     led-rule first after other =
-        read-rule Good (choose is_told false (leaf meaning >>= p) q) (led meaning p q) (λ x ts. Led x ts ⊎ Other x ts) Next Within (λ ts. LedTo ts ⊎ OtherTo ts) led-same
-        (choose-rule Good is_told false (leaf meaning >>= p) q Led Next LedTo Other Next OtherTo (λ x ts. Led x ts ⊎ Other x ts) Next Within (λ ts. LedTo ts ⊎ OtherTo ts)
+        read-rule Good (choose is_told false (leaf meaning >>= p) q) (led meaning p q) (λ x ts. Led x ts ⊎ Other x ts) Next Within LedTo led-same
+        (choose-rule Good is_told false (leaf meaning >>= p) q Led Next LedTo Other Next Never (λ x ts. Led x ts ⊎ Other x ts) Next Within LedTo
         (record {
           one = λ x ts s. inl s;
           other = λ x ts s. inr s;
@@ -52,11 +51,11 @@ module _ {T K A : Type 0} (Good : T → Type 0) (meaning : T → Option K) (p : 
           other_next = λ x front rest s next. next;
           one_begins = λ x front rest s next. leads_on s.0 (After s.0 x) front rest s.1;
           other_begins = λ x front rest s next. apart x front rest s;
-          one_deep = λ ts d. inl d;
-          other_deep = λ ts d. inr d;
-          which_deep = λ ts d. d;
+          one_deep = λ ts d. d;
+          other_deep = λ ts d. absurd d;
+          which_deep = λ ts d. inl d;
           one_deep_begins = λ front rest d. leads_on d.0 (To d.0) front rest d.1;
-          other_deep_begins = apart_to;
+          other_deep_begins = λ front rest d. absurd d;
         })
         (chain-rule Lead After Good (leaf meaning) p (λ _. Anything) Next Within To (λ k x back rest s next. tt) (λ k back rest d. tt) first after)
         other)

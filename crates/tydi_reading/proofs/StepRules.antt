@@ -7,6 +7,7 @@ use Rattle.tydi_reading.specs.declared.fault.Fault.TheVariants as faults
 use Rattle.tydi_reading.specs.Forms.{Form, ◌⋯◌, Never, Anything, GoesOn}
 use Rattle.tydi_reading.specs.Reading.{Outcome, took, stopped, Reader, ◌>>=◌, ◌<$>◌, pure, leaf, meant}
 use Rattle.tydi_reading.specs.Rules.{Local, Found, Reached, Finishes, Stops, IsRule}
+use Rattle.tydi_reading.proofs.FormLemmas.{goes_as}
 use Rattle.tydi_reading.proofs.StepLemmas.{All-front, All-back, local-then, sound-then, finishes-then, complete-then, stops-first, stops-second}
 
 -- ---- what takes nothing
@@ -264,11 +265,8 @@ pub record Same {T A : Type 0} (Spelled : A → Form T) (Follow : A → Form T) 
 
 module _ {T A : Type 0} (Good : T → Type 0) (p : Reader T A) (Spelled : A → Form T) (Follow : A → Form T) (Within : A → Type 0) (First : Form T)
     (Whole : A → Form T) (Next : A → Form T) (All : A → Type 0) (Deep : Form T) (same : Same Spelled Follow Within First Whole Next All Deep) where
-  goes-same : (front : List T) → GoesOn Good Spelled front → GoesOn Good Whole front
-  goes-same front g = record { value = g.value; more = g.more; good = g.good; spelled = same.there g.value (front ++ g.more) g.spelled }
-
   finishes-same : (ts rest : List T) (e : Fault) → Finishes Good Spelled First ts rest e → Finishes Good Whole Deep ts rest e
-  finishes-same ts rest faults.Refused c = record { front = c.front; split = c.split; goes = goes-same c.front c.goes }
+  finishes-same ts rest faults.Refused c = record { front = c.front; split = c.split; goes = goes_as (λ x. x) same.there c.goes }
   finishes-same ts rest faults.TooDeep c = record {
     front = c.front;
     next = c.next;
@@ -276,13 +274,13 @@ module _ {T A : Type 0} (Good : T → Type 0) (p : Reader T A) (Spelled : A → 
     split = c.split;
     begins = c.begins;
     deep = same.first c.front c.deep;
-    goes = goes-same (c.front ++ c.next ∷ []) c.goes;
+    goes = goes_as (λ x. x) same.there c.goes;
   }
   finishes-same ts rest faults.Memory c = c
 
   pub same-rule : IsRule Good p Spelled Follow Within First → IsRule Good p Whole Next All Deep
   same-rule one = record {
-    example = goes-same [] one.example;
+    example = goes_as (λ x. x) same.there one.example;
     local = one.local;
     sound = λ ts rest x is.
         let f = one.sound ts rest x is in

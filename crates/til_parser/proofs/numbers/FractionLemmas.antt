@@ -1,5 +1,5 @@
 -- Fractions in lowest terms, by the remainders of each part by the next.
-use Rattle.std.proofs.Common.{◌≡◌, ℕ, zero, suc, ◌%◌, ◌<◌, ◌≤◌, false, eqb, Option, None, Some, IfSome, refl, ◌∙◌, mod-lt, arith}
+use Rattle.std.proofs.Common.{◌≡◌, ℕ, zero, suc, ◌%◌, ◌<◌, false, eqb, Option, None, Some, IfSome, refl, ◌∙◌, mod-lt, arith}
 use Rattle.std.proofs.Math.Nat.{pos_of_dvd_of_pos}
 use Rattle.std.specs.Int.{IsGcd}
 use Rattle.std.proofs.lemmas.Nat.Gcd.{IsGcd-from_zero, IsGcd-from_mod}

@@ -1,16 +1,15 @@
 -- The arguments of a Stream: what is given of each, the Stream that is made of it, and their rule.
-use Rattle.til_parser.proofs.rules.Common.{◌≡◌, ◌⊎◌, inl, inr, true, false, Option, Some, None, option_map, refl, sym, ap, ◌∙◌, ⊎_elim, List, ◌∷◌, subst, none-some}
-use Rattle.til_parser.proofs.rules.Common.{same_Some, Contains, is_some, unwrap_or, AreApart, argument, same_or_not, has-Contains, are_apart-apart, has, Fields, step-shrinks}
-use Rattle.til_parser.proofs.rules.Common.{Arguments, Argument, AstType, AstStream, roll-AstStream, Form, IsDefault, SpellsType, Of, Word, Whole, Number, Level, Bracketed}
-use Rattle.til_parser.proofs.rules.Common.{argument_word, sync_word, direction_word, truth_word, lowest, divisor_from, Value, field, put, is_given, none_given, filled}
+use Rattle.til_parser.proofs.rules.Common.{◌≡◌, ◌⊎◌, inl, inr, true, false, Option, Some, None, option_map, refl, sym, ap, ◌∙◌, ⊎_elim, ◌∷◌, subst, none-some}
+use Rattle.til_parser.proofs.rules.Common.{same_Some, Contains, unwrap_or, AreApart, argument, same_or_not, has-Contains, are_apart-apart, has, Fields, step-shrinks}
+use Rattle.til_parser.proofs.rules.Common.{Arguments, Argument, AstType, AstStream, roll-AstStream, Form, IsDefault, SpellsType, Of, Word, Bracketed}
+use Rattle.til_parser.proofs.rules.Common.{argument_word, direction_word, truth_word, lowest, divisor_from, Value, field, put, is_given, none_given, filled}
 use Rattle.til_parser.proofs.rules.Common.{stream_of, value_of, stream, plain, settings_of, all_arguments, argument_of, argument_at, Never, Anything, ◌⋯◌, Reader, Shrinks}
-use Rattle.til_parser.proofs.rules.Common.{◌>>◌, ◌<$>◌, IsRule, as_rule, as_flat, of_flat, fewer, skip, flat_skip, close, mark-tells, Lexeme, IsFormed, ValueTo, SpellsArgument}
+use Rattle.til_parser.proofs.rules.Common.{◌>>◌, IsRule, as_rule, as_flat, of_flat, fewer, skip, flat_skip, close, mark-tells, Lexeme, IsFormed, ValueTo, SpellsArgument}
 use Rattle.til_parser.proofs.rules.Common.{ArgumentsTo, same_kind, is_kind, expect, ◌↔◌}
 use Rattle.til_parser.specs.contracts.keyword.Argument.{the_type}
 use Rattle.tydi_reading.proofs.NamedSteps.{Between}
 use Rattle.til_parser.specs.declared.keyword.Argument.TheVariants as arguments
 use Rattle.til_parser.specs.declared.ltype.AstType.TheVariants as types
-use Rattle.til_parser.specs.declared.ltype.AstSync.TheVariants as syncs
 use Rattle.til_parser.specs.Grammar as grammar
 use Rattle.til_parser.proofs.PlainLemmas.{plain-Null, plain-null}
 use Rattle.tydi_reading.proofs.NamedRule.{Defaults, named-rule}

@@ -1,14 +1,15 @@
 -- The rules of types: the word with which one begins, its parts, a type by the types inside it, and types of so many levels.
 use Rattle.til_parser.proofs.rules.Common.{◌≡◌, ◌↔◌, ℕ, zero, suc, ◌≤◌, ◌⊎◌, inl, inr, ⊎_elim, true, false, List, [], ◌∷◌, ◌++◌, All, Option, Some, None, refl, sym, ap, ◌∙◌}
-use Rattle.til_parser.proofs.rules.Common.{subst, arith, codes, true≢false, Contains, is_some, append-nil, All-nil, All-cons, All-head, All-append, is_name, has_name_form}
+use Rattle.til_parser.proofs.rules.Common.{subst, arith, codes, true≢false, is_some, append-nil, All-nil, All-head, All-append, is_name, has_name_form}
 use Rattle.til_parser.proofs.rules.Common.{Never, Anything, Nothing, ◌⋯◌, GoesOn, EachIs, argument, Reader, Shrinks, tells, led, too_deep, ◌<$>◌, IsRule, Contains-none}
 use Rattle.til_parser.proofs.rules.Common.{Contains-first, with_ends, joins, front-tells, mapped-less, Begins, begins-repeats, as_rule, as_flat, flat_skip, flat_close, parted}
-use Rattle.til_parser.proofs.rules.Common.{viewed, Made, made-rule, shrinks, Only, All-one, pure-rule, same-rule, entry-none, entry-word, HasForm, TokenKind, Arguments}
-use Rattle.til_parser.proofs.rules.Common.{Argument, AstStream, AstName, AstPath, Form, Of, IsWord, Word, IsNamed, Whole, Path, Commas, Bracketed, IsDefault}
+use Rattle.til_parser.proofs.rules.Common.{viewed, Made, made-rule, respelled, shrinks, Only, pure-rule, entry-none, entry-word, HasForm, Arguments}
+use Rattle.til_parser.proofs.rules.Common.{AstStream, AstName, AstPath, Form, Of, IsWord, Word, IsNamed, Whole, Path, Commas, Bracketed}
 use Rattle.til_parser.proofs.rules.Common.{SpellsType, SpellsParts, Lexeme, IsFormed, SpellsPart, BracketedTo, PartTo, AfterTo, InsideTo, TypeTo, same_kind, is_kind}
 use Rattle.til_parser.proofs.rules.Common.{begins_type, type_word, all_type_words, type_word_of, type_word_at, argument_at, path, bits, part, one_more, bracketed, is_given}
-use Rattle.til_parser.proofs.rules.Common.{value, filled, none_given, type_after, type_with, ltype, Ltype, null, plain, depth, depth_of_parts, settings_of}
+use Rattle.til_parser.proofs.rules.Common.{value, type_after, type_with, ltype, Ltype, null, plain, depth, depth_of_parts}
 use Rattle.tydi_reading.proofs.ChoiceRules.{too_deep-rule}
+use Rattle.tydi_reading.proofs.FormLemmas.{goes_as}
 use Rattle.tydi_reading.proofs.LedRule.{led-rule}
 use Rattle.tydi_reading.proofs.Rule.{Flat, of_mark}
 use Rattle.til_lexer.specs.declared.token.TokenKind.TheVariants as kinds
@@ -42,11 +43,6 @@ not_told x t is (Some k) told =
     ∙ elim k as (λ k. is_name (type_word k) ≡ false) [ words.Null ↦ refl | _ ↦ refl ]))
 
 -- ---- what goes on to something of a form
-
--- what goes on to a thing of the one form goes on to one of the other
-goes_as : {A B : Type 0} {P : A → Form} {Q : B → Form} {front : List Lexeme} (f : A → B) → ((x : A) (ts : List Lexeme) → P x ts → Q (f x) ts)
-    → GoesOn IsFormed P front → GoesOn IsFormed Q front
-goes_as f to g = record { value = f g.value; more = g.more; good = g.good; spelled = to g.value _ g.spelled }
 
 in_brackets : {A : Type 0} {Within : A → Form} → GoesOn IsFormed Within [] → GoesOn IsFormed (λ x. Bracketed (Within x)) []
 in_brackets g = let opens = (of_mark open_paren).is.example in let closes = (of_mark close_paren).is.example in record {
@@ -200,22 +196,12 @@ module _ (n : ℕ) (inner : Reader Lexeme AstType) (D : Form) (one : IsRule IsFo
 
   type-rule : IsRule IsFormed (type_with inner) S (λ _. PathNext) (Fits (suc n)) (InsideTo D)
   unfolding type_with
-  type-rule =
-      same-rule IsFormed (led type_word_at (type_after inner) (types.Path <$> path)) Spelling (λ _. PathNext) (Fits (suc n)) (λ ts. InsideTo D ts ⊎ Never ts)
-      S (λ _. PathNext) (Fits (suc n)) (InsideTo D)
-      (record {
-        there = λ y ts. (spelling y ts).0;
-        back = λ y ts. (spelling y ts).1;
-        follow = λ x rest next. next;
-        within = λ x w. w;
-        apart = λ x w. w;
-        first = λ ts. ⊎_elim (λ d. d) (λ d. absurd d);
-        deep = λ ts d. inl d;
-      })
-      (led-rule IsFormed type_word_at (type_after inner) (types.Path <$> path) Lead After (Made types.Path (λ x. Path x.names)) (λ _. PathNext) (Fits (suc n)) (AfterTo D) Never
+  type-rule = respelled (as_rule
+      (led-rule IsFormed type_word_at (type_after inner) (types.Path <$> path) Lead After (Made types.Path (λ x. Path x.names)) (λ _. PathNext) (Fits (suc n)) (AfterTo D)
       (word_at-back type_word all_type_words each_type_word)
       (λ y front rest s. path-front (λ ts. tells (λ t. is_some (type_word_at t)) false ts ≡ false) (λ x t more is. not_told x t is (type_word_at t) refl) s.0.names front rest s.2)
-      (λ front rest d. absurd d) (word_at-rule type_word all_type_words each_type_word words.Null refl) after-rule path_type-rule)
+      (word_at-rule type_word all_type_words each_type_word words.Null refl) after-rule path_type-rule))
+      S (λ y ts. (spelling y ts).0) (λ y ts. (spelling y ts).1)
 
 -- ---- types of so many levels
 
@@ -264,18 +250,8 @@ starts y front good s = of_word front good (subst (λ l. tells (is_kind kinds.Wo
 -- a type of at most so many levels
 pub ltype-rule : (n : ℕ) → IsRule IsFormed (ltype n) S (λ _. PathNext) (Fits n) (TypeTo n)
 unfolding ltype TypeTo
-ltype-rule zero =
-    same-rule IsFormed (too_deep begins_type) S (λ _. PathNext) (λ _. ⊥) Nothing S (λ _. PathNext) (Fits 0) Nothing
-    (record {
-      there = λ x ts s. s;
-      back = λ x ts s. s;
-      follow = λ x rest next. next;
-      within = λ x w. absurd w;
-      apart = λ x fits. let some = depth-some (plain x) in omega arith;
-      first = λ ts d. d;
-      deep = λ ts d. d;
-    })
-    (too_deep-rule IsFormed begins_type S (λ _. PathNext) (goes_as (λ _. types.Null) (λ _ ts. (null_spelled ts).1) null_word.is.example) begun starts)
+ltype-rule zero = too_deep-rule IsFormed begins_type S (λ _. PathNext) (Fits 0) (λ x fits. let some = depth-some (plain x) in omega arith)
+    (goes_as (λ _. types.Null) (λ _ ts. (null_spelled ts).1) null_word.is.example) begun starts
 ltype-rule (suc n) = type-rule n (ltype n) (TypeTo n) (ltype-rule n)
 
 -- ---- what takes a token at least
