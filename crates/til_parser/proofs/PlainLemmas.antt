@@ -1,15 +1,12 @@
 -- The plain data of a type: its equations at each made value, and a type that has it.
 use Rattle.std.proofs.Common.{◌≡◌, ℕ, List, [], ◌∷◌, map, refl, sym, ap, ◌∙◌}
-use Rattle.til_parser.specs.declared.ltype.AstType.{AstType, roll-AstType, map-AstType}
+use Rattle.til_parser.specs.declared.ltype.AstType.{AstType, roll-AstType, map-AstType, TheOpen.AstType-F, TheOpen.AstStream-F, TheViews.out-AstType, TheViews.roll-out-AstType}
 use Rattle.til_parser.specs.declared.tree.AstPath.{AstPath}
 use Rattle.til_parser.specs.declared.ltype.AstType.TheVariants as types
-use Rattle.til_parser.specs.declared.ltype.AstType.TheOpen.{AstType-F, AstStream-F}
 use Rattle.til_parser.specs.declared.ltype.AstType.TheFolds.{fold-AstPart, fold-AstStream, fold-roll-AstType, fold-roll-AstPart, fold-roll-AstStream}
-use Rattle.til_parser.specs.declared.ltype.AstType.TheViews.{out-AstType, roll-out-AstType}
-use Rattle.til_parser.specs.declared.ltype.AstPart.{AstPart, roll-AstPart}
-use Rattle.til_parser.specs.declared.ltype.AstStream.{AstStream, roll-AstStream}
-use Rattle.til_parser.specs.Tree.{Ltype, null, bits, group, union, stream, path, Parts, no_parts, part, PlainPart, PlainStream, Settings}
-use Rattle.til_parser.specs.Tree.{settings_of, parts_of, plain_type, plain_part, plain_stream, plain}
+use Rattle.til_parser.specs.declared.ltype.{AstPart.AstPart, AstPart.roll-AstPart, AstStream.AstStream, AstStream.roll-AstStream}
+use Rattle.til_parser.specs.Tree.{Ltype, null, bits, group, union, stream, path, Parts, no_parts, part, PlainPart, PlainStream, Settings, settings_of, parts_of, plain_type}
+use Rattle.til_parser.specs.Tree.{plain_part, plain_stream, plain}
 
 -- ---- the plain data of a made value
 

@@ -8,8 +8,7 @@ use Rattle.std.proofs.lemmas.Int.Digits.{digits_value-lt}
 use Rattle.std.proofs.lemmas.List.Sums.{AllPass-from_list_all}
 use Rattle.std.proofs.lemmas.Nat.{pow-add}
 use Rattle.std.specs.{Char.is_ascii_digit, List.list_all}
-use Rattle.tydi_base.specs.Decimal.{read_on}
-use Rattle.tydi_base.proofs.DecimalLaws.{own}
+use Rattle.tydi_base.{specs.Decimal.read_on, proofs.DecimalLaws.own}
 use Rattle.til_lexer.specs.{Spans.digits_at, Spelling.AreDigits, Spelling.IsWholeNumber, Spelling.IsPointNumber}
 use Rattle.til_lexer.proofs.SpelledPieces.{prefix_up_to}
 use Rattle.til_parser.specs.Numbers.{digits_before, digits_behind}

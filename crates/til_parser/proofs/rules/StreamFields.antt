@@ -1,18 +1,16 @@
 -- The arguments of a Stream: what is given of each, the Stream that is made of it, and their rule.
-use Rattle.til_parser.proofs.rules.Common.{◌≡◌, ◌⊎◌, inl, inr, true, false, Option, Some, None, option_map, refl, sym, ap, ◌∙◌, ⊎_elim, ◌∷◌, subst, none-some}
-use Rattle.til_parser.proofs.rules.Common.{same_Some, Contains, unwrap_or, AreApart, argument, same_or_not, has-Contains, are_apart-apart, has, Fields, step-shrinks}
-use Rattle.til_parser.proofs.rules.Common.{Arguments, Argument, AstType, AstStream, roll-AstStream, Form, IsDefault, SpellsType, Of, Word, Bracketed}
-use Rattle.til_parser.proofs.rules.Common.{argument_word, direction_word, truth_word, lowest, divisor_from, Value, field, put, is_given, none_given, filled}
-use Rattle.til_parser.proofs.rules.Common.{stream_of, value_of, stream, plain, settings_of, all_arguments, argument_of, argument_at, Never, Anything, ◌⋯◌, Reader, Shrinks}
-use Rattle.til_parser.proofs.rules.Common.{◌>>◌, IsRule, as_rule, as_flat, of_flat, fewer, skip, flat_skip, close, mark-tells, Lexeme, IsFormed, ValueTo, SpellsArgument}
-use Rattle.til_parser.proofs.rules.Common.{ArgumentsTo, same_kind, is_kind, expect, ◌↔◌}
+use Rattle.til_parser.proofs.rules.Common.{◌≡◌, ◌⊎◌, inl, inr, true, false, Option, Some, None, option_map, refl, sym, ap, ◌∙◌, ⊎_elim, ◌∷◌, subst, none-some, same_Some, Contains}
+use Rattle.til_parser.proofs.rules.Common.{unwrap_or, AreApart, argument, same_or_not, has-Contains, are_apart-apart, has, Fields, step-shrinks, Arguments, Argument, AstType}
+use Rattle.til_parser.proofs.rules.Common.{AstStream, roll-AstStream, Form, IsDefault, SpellsType, Of, Word, Bracketed, argument_word, direction_word, truth_word, lowest}
+use Rattle.til_parser.proofs.rules.Common.{divisor_from, Value, field, put, is_given, none_given, filled, stream_of, value_of, stream, plain, settings_of, all_arguments}
+use Rattle.til_parser.proofs.rules.Common.{argument_of, argument_at, Never, Anything, ◌⋯◌, Reader, Shrinks, ◌>>◌, IsRule, as_rule, as_flat, of_flat, fewer, skip, flat_skip, close}
+use Rattle.til_parser.proofs.rules.Common.{mark-tells, Lexeme, IsFormed, ValueTo, SpellsArgument, ArgumentsTo, same_kind, is_kind, expect, ◌↔◌, arith}
 use Rattle.til_parser.specs.contracts.keyword.Argument.{the_type}
-use Rattle.tydi_reading.proofs.NamedSteps.{Between}
 use Rattle.til_parser.specs.declared.keyword.Argument.TheVariants as arguments
 use Rattle.til_parser.specs.declared.ltype.AstType.TheVariants as types
 use Rattle.til_parser.specs.Grammar as grammar
 use Rattle.til_parser.proofs.PlainLemmas.{plain-Null, plain-null}
-use Rattle.tydi_reading.proofs.NamedRule.{Defaults, named-rule}
+use Rattle.tydi_reading.proofs.{NamedRule.Defaults, NamedRule.named-rule, NamedSteps.Between}
 use Rattle.tydi_reading.proofs.NamedSteps as steps
 use Rattle.til_lexer.specs.declared.token.TokenKind.TheVariants as kinds
 use Rattle.til_parser.specs.ReadTypes as read
@@ -46,20 +44,10 @@ value one arguments.Keep = one.keep
 
 pub field-put_other : (a b : Argument) (x : Value b) (given : Arguments) → (b ≡ a → ⊥) → field a (put b x given) ≡ field a given
 field-put_other arguments.Data arguments.Data x given apart = absurd (apart refl)
-field-put_other arguments.Throughput arguments.Throughput x given apart = absurd (apart refl)
-field-put_other arguments.Dimensionality arguments.Dimensionality x given apart = absurd (apart refl)
-field-put_other arguments.Synchronicity arguments.Synchronicity x given apart = absurd (apart refl)
-field-put_other arguments.Complexity arguments.Complexity x given apart = absurd (apart refl)
-field-put_other arguments.Direction arguments.Direction x given apart = absurd (apart refl)
-field-put_other arguments.User arguments.User x given apart = absurd (apart refl)
-field-put_other arguments.Keep arguments.Keep x given apart = absurd (apart refl)
-field-put_other _ _ x given apart = refl
+field-put_other _ arguments.Data x given apart = refl
+field-put_other _ _ x given apart = first_of (cc, grind arith)
 
 -- ---- the Stream of what is given
-
-pub lowest-whole : lowest 1 1 ≡ record { num = 1; den = 1 }
-unfolding lowest divisor_from
-lowest-whole = refl
 
 abbrev Default : AstStream → Argument → Type 0
 Default one = IsDefault (plain one.user) (settings_of one)
@@ -73,8 +61,8 @@ abbrev pub least : AstStream
 least = filled types.Null none_given
 
 pub default-is : (one : AstStream) (a : Argument) → (a ≡ arguments.Data → ⊥) → (value one a ≡ value least a) ↔ Default one a
+unfolding lowest divisor_from
 default-is one arguments.Data other = absurd (other refl)
-default-is one arguments.Throughput other = (λ e. e ∙ lowest-whole, λ d. d ∙ sym lowest-whole)
 default-is one arguments.User other = (λ e. ap plain e ∙ plain-Null, plain-null one.user)
 default-is one _ other = (λ e. e, λ d. d)
 
@@ -217,21 +205,13 @@ module _ (inner : Reader Lexeme AstType) (W : AstType → Type 0) (D : Form) (ru
   pub argument-shrinks : (given : Arguments) → Shrinks (argument argument_at is_given (read.value inner) given)
   argument-shrinks = step-shrinks IsFormed fields values (is_kind kinds.CloseParen) false (is_kind kinds.Comma) (Of kinds.Comma) between
 
-  abbrev pub StreamWithin : AstStream → Type 0
-  StreamWithin one = (name : Argument) → ValueWithin name (value one name)
-
-  pub values_within : (one : AstStream) → W one.element → W one.user → StreamWithin one
-  values_within one element user arguments.Data = element
-  values_within one element user arguments.User = user
-  values_within one element user _ = tt
-
   defaults : Defaults IsFormed fields values (is_kind kinds.CloseParen) false (is_kind kinds.Comma) (Of kinds.Comma) between
   defaults one or arguments.Data default = absurd default
   defaults one or arguments.User default = subst W (sym (plain-null one.user default))
       (⊎_elim (null_within one.element) (λ none. absurd none) (or arguments.Data))
   defaults one or _ default = tt
 
-  pub stream-rule : IsRule IsFormed (stream inner) (λ one. Bracketed (ArgumentsOf one)) (λ _. Anything) StreamWithin (Of kinds.OpenParen ⋯ ArgumentsTo D)
+  pub stream-rule : IsRule IsFormed (stream inner) (λ one. Bracketed (ArgumentsOf one)) (λ _. Anything) (λ one. (name : Argument) → ValueWithin name (value one name)) (Of kinds.OpenParen ⋯ ArgumentsTo D)
   unfolding stream
   stream-rule =
       (skip open_paren (close

@@ -1,30 +1,24 @@
 -- The rules of types: the word with which one begins, its parts, a type by the types inside it, and types of so many levels.
-use Rattle.til_parser.proofs.rules.Common.{◌≡◌, ◌↔◌, ℕ, zero, suc, ◌≤◌, ◌⊎◌, inl, inr, ⊎_elim, true, false, List, [], ◌∷◌, ◌++◌, All, Option, Some, None, refl, sym, ap, ◌∙◌}
-use Rattle.til_parser.proofs.rules.Common.{subst, arith, codes, true≢false, is_some, append-nil, All-nil, All-head, All-append, is_name, has_name_form}
-use Rattle.til_parser.proofs.rules.Common.{Never, Anything, Nothing, ◌⋯◌, GoesOn, EachIs, argument, Reader, Shrinks, tells, led, too_deep, ◌<$>◌, IsRule, Contains-none}
-use Rattle.til_parser.proofs.rules.Common.{Contains-first, with_ends, joins, front-tells, mapped-less, Begins, begins-repeats, as_rule, as_flat, flat_skip, flat_close, parted}
-use Rattle.til_parser.proofs.rules.Common.{viewed, Made, made-rule, respelled, shrinks, Only, pure-rule, entry-none, entry-word, HasForm, Arguments}
-use Rattle.til_parser.proofs.rules.Common.{AstStream, AstName, AstPath, Form, Of, IsWord, Word, IsNamed, Whole, Path, Commas, Bracketed}
-use Rattle.til_parser.proofs.rules.Common.{SpellsType, SpellsParts, Lexeme, IsFormed, SpellsPart, BracketedTo, PartTo, AfterTo, InsideTo, TypeTo, same_kind, is_kind}
-use Rattle.til_parser.proofs.rules.Common.{begins_type, type_word, all_type_words, type_word_of, type_word_at, argument_at, path, bits, part, one_more, bracketed, is_given}
-use Rattle.til_parser.proofs.rules.Common.{value, type_after, type_with, ltype, Ltype, null, plain, depth, depth_of_parts}
-use Rattle.tydi_reading.proofs.ChoiceRules.{too_deep-rule}
-use Rattle.tydi_reading.proofs.FormLemmas.{goes_as}
-use Rattle.tydi_reading.proofs.LedRule.{led-rule}
-use Rattle.tydi_reading.proofs.Rule.{Flat, of_mark}
+use Rattle.til_parser.proofs.rules.Common.{◌≡◌, ◌↔◌, ℕ, zero, suc, ◌≤◌, ◌⊎◌, inl, inr, ⊎_elim, true, false, List, [], ◌∷◌, ◌++◌, All, Option, Some, None, refl, sym, ap, ◌∙◌, subst}
+use Rattle.til_parser.proofs.rules.Common.{arith, codes, true≢false, is_some, append-nil, All-nil, All-append, is_name, has_name_form, Never, Anything, ◌⋯◌, GoesOn, EachIs}
+use Rattle.til_parser.proofs.rules.Common.{argument, Reader, Shrinks, tells, ◌<$>◌, IsRule, Contains-none, Contains-first, with_ends, joins, front-tells, mapped-less, Begins}
+use Rattle.til_parser.proofs.rules.Common.{begins-repeats, as_rule, as_flat, flat_skip, flat_close, parted, viewed, Made, made-rule, respelled, shrinks, Only, pure-rule}
+use Rattle.til_parser.proofs.rules.Common.{entry-none, entry-word, Arguments, AstStream, AstName, AstPath, Form, Of, IsWord, Word, IsNamed, Whole, Path, Commas, Bracketed}
+use Rattle.til_parser.proofs.rules.Common.{SpellsType, SpellsParts, Lexeme, IsFormed, SpellsPart, BracketedTo, PartTo, AfterTo, InsideTo, TypeTo, same_kind, is_kind, begins_type}
+use Rattle.til_parser.proofs.rules.Common.{type_word, all_type_words, type_word_of, type_word_at, argument_at, path, bits, part, one_more, bracketed, is_given, value, type_after}
+use Rattle.til_parser.proofs.rules.Common.{type_with, ltype, Ltype, null, plain, depth, depth_of_parts}
+use Rattle.tydi_reading.proofs.{ChoiceRules.too_deep-rule, FormLemmas.goes_as, LedRule.led-rule, Rule.Flat, Rule.of_mark}
 use Rattle.til_lexer.specs.declared.token.TokenKind.TheVariants as kinds
 use Rattle.til_parser.specs.declared.keyword.Argument.TheVariants as arguments
 use Rattle.til_parser.specs.declared.keyword.TypeWord.{TypeWord}
 use Rattle.til_parser.specs.declared.keyword.TypeWord.TheVariants as words
 use Rattle.til_parser.specs.declared.ltype.AstPart.{AstPart, roll-AstPart}
-use Rattle.til_parser.specs.declared.ltype.AstType.{AstType, roll-AstType}
-use Rattle.til_parser.specs.declared.ltype.AstType.TheOpen.{AstType-F}
+use Rattle.til_parser.specs.declared.ltype.AstType.{AstType, roll-AstType, TheOpen.AstType-F, TheViews.out-AstType, TheViews.roll-out-AstType}
 use Rattle.til_parser.specs.declared.ltype.AstType.TheVariants as types
-use Rattle.til_parser.specs.declared.ltype.AstType.TheViews.{out-AstType, roll-out-AstType}
 use Rattle.til_parser.proofs.PlainLemmas.{plain_parts, plain-Null, plain-Bits, plain-Group, plain-Union, plain-Stream, plain-Path}
 use Rattle.til_parser.proofs.rules.LeafRules.{PathNext, name-rule, name-begins, whole-rule, path-rule, path-front, bracketed-rule}
-use Rattle.til_parser.proofs.rules.StreamFields.{S, ArgumentsOf, least, default-is, stream-rule, values_within, argument-shrinks}
-use Rattle.til_parser.proofs.rules.TokenRules.{both, made, one, kind_is, same_kind-is, kind-apart, colon, open_paren, close_paren, word_at-word, word_at-back, word_at-rule, word_mark}
+use Rattle.til_parser.proofs.rules.StreamFields.{S, ArgumentsOf, least, default-is, stream-rule, argument-shrinks}
+use Rattle.til_parser.proofs.rules.TokenRules.{both, made, one, kind_is, kind-apart, colon, open_paren, close_paren, word_at-word, word_at-back, word_at-rule, word_mark}
 
 -- ---- the word with which a type begins
 
@@ -189,7 +183,7 @@ module _ (n : ℕ) (inner : Reader Lexeme AstType) (D : Form) (one : IsRule IsFo
   after-rule words.Union = list-rule types.Union (λ x. ap depth (plain-Union x))
   after-rule words.Stream = made-rule types.Stream (as_rule (stream-rule inner (Fits n) D one (null_within n))) (λ _. PathNext) (Fits (suc n))
       (λ x rest next. tt) (λ s w. rw (plain-Stream s) (omega (arith, w arguments.Data, w arguments.User)))
-      (λ s w. let d = subst (λ t. depth t ≤ suc n) (plain-Stream s) w in values_within inner (Fits n) D one (null_within n) s (omega (arith, d)) (omega (arith, d)))
+      (λ s w. let d = subst (λ t. depth t ≤ suc n) (plain-Stream s) w in elim [ arguments.Data ↦ omega (arith, d) | arguments.User ↦ omega (arith, d) | _ ↦ tt ])
 
   path_type-rule : IsRule IsFormed (types.Path <$> path) (Made types.Path (λ x. Path x.names)) (λ _. PathNext) (Fits (suc n)) Never
   path_type-rule = made-rule types.Path (as_rule path-rule) (λ _. PathNext) (Fits (suc n)) (λ x rest next. next) (λ x w. rw (plain-Path x) (omega arith)) (λ x w. tt)
@@ -236,16 +230,14 @@ begun t is = of_word (type_word_of t.spelling) refl
           spelled = (path_spelled (record { names = name ∷ [] }) (t ∷ [])).1 (one (IsNamed name) t is);
         }
 
--- the first token of a type is a word
+-- a type begins with one of the words, or with a name
 starts : (y : AstType) (front : List Lexeme) → All IsFormed front → S y front → tells begins_type false front ≡ true
-starts y front good s = of_word front good (subst (λ l. tells (is_kind kinds.Word) false l ≡ true) (append-nil front) (⊎_elim
-    (λ b. front-tells (is_kind kinds.Word) true (Lead b.0) _ front [] (λ f r o. rw (o.all) (same_kind-is o.lexeme.kind kinds.Word o.is.kind)) b.1)
-    (λ p. path-front (λ ts. tells (is_kind kinds.Word) false ts ≡ true) (λ x t more is. same_kind-is t.kind kinds.Word is.kind) p.0.names front [] p.2)
-    ((spelling y front).1 s)))
-  where
-    of_word : (ts : List Lexeme) → All IsFormed ts → tells (is_kind kinds.Word) false ts ≡ true → tells begins_type false ts ≡ true
-    of_word [] good is = is
-    of_word (t ∷ more) good is = rw is (subst (λ kind. HasForm kind t.spelling) (kind_is t.kind kinds.Word is) (All-head IsFormed t more good))
+unfolding same_kind
+starts y front good s = subst (λ l. tells begins_type false l ≡ true) (append-nil front) (⊎_elim
+    (λ b. front-tells begins_type true (Lead b.0) _ front []
+    (λ f r o. rw (o.all, o.is.kind, o.is.text) (elim b.0 as (λ k. has_name_form (type_word k) ≡ true) [ words.Null ↦ refl | _ ↦ refl ])) b.1)
+    (λ p. path-front (λ ts. tells begins_type false ts ≡ true) (λ x t more is. rw (is.kind, is.text) (both (has_name_form x.name) _ is.named).0) p.0.names front [] p.2)
+    ((spelling y front).1 s))
 
 -- a type of at most so many levels
 pub ltype-rule : (n : ℕ) → IsRule IsFormed (ltype n) S (λ _. PathNext) (Fits n) (TypeTo n)

@@ -16,14 +16,8 @@ Parser::ltype-returns t c = rw (deeper c.args.levels c.args.self.now (omega arit
 -- ---- lists
 
 pub Parser::parts-bracketed-requires : goal.Parser::parts-bracketed-requires
-Parser::parts-bracketed-requires t c κs = (
-  search rules,
-  (
-    search rules,
-    λ p q found a k.
-        reads-less {read = one_more (part (ltype c.args.levels)) found} (Shrinks-part c.args.levels found) p.now q.now a (search rules),
-  ),
-)
+Parser::parts-bracketed-requires t c κs =
+    (search rules, (search rules, λ p q found a k. reads-less (Shrinks-part c.args.levels found) p.now q.now a (search rules)))
 
 pub Parser::parts-returns : goal.Parser::parts-returns
 Parser::parts-returns t c =
@@ -31,14 +25,8 @@ Parser::parts-returns t c =
     first_of (search rules, grind (arith, common_steps))
 
 pub Parser::arguments-steps-requires : goal.Parser::arguments-steps-requires
-Parser::arguments-steps-requires t c κs = (
-  search rules,
-  (
-    search rules,
-    λ p q s a k.
-        reads-less {read = argument argument_at is_given (value (ltype c.args.levels)) s} (Shrinks-argument c.args.levels s) p.now q.now a (search rules),
-  ),
-)
+Parser::arguments-steps-requires t c κs =
+    (search rules, (search rules, λ p q s a k. reads-less (Shrinks-argument c.args.levels s) p.now q.now a (search rules)))
 
 pub Parser::arguments-returns : goal.Parser::arguments-returns
 unfolding named

@@ -2,7 +2,7 @@ use Rattle.std.proofs.Common.{◌++◌, ap, ◌∙◌, refl, rules}
 use Rattle.std.proofs.lemmas.Result.{on_ok_weaker}
 use Rattle.til_parser.specs.Canonical.{stream_text}
 use Rattle.til_parser.proofs.PlainLemmas.{plain-Group, plain-Stream, plain-Union}
-use Rattle.til_parser.proofs.texts.WrittenLemmas.{front_before, listed, parts-written, stream-written}
+use Rattle.til_parser.proofs.texts.WrittenLemmas.{front_before, listed, stream-written}
 use Rattle.til_parser.proofs.printing.+ltype.Goals as goal
 
 pub write_type-returns-in-Group-clause-ok : goal.write_type-returns-in-Group-clause-ok
@@ -23,12 +23,6 @@ write_parts-returns-in_err-write_part-2-clause-err t c = search (
   front_before c.args.out.now c.args.word.now _ _ refl
       (front_before _ _ _ _ c.in_ok-write_part.ensures.ok (front_before _ _ _ _ c.parts.invariant c.in_err-write_part-2.ensures.err)),
 )
-
-pub write_parts-returns-clause-ok : goal.write_parts-returns-clause-ok
-write_parts-returns-clause-ok t c = on_ok_weaker c.emit-2.result
-    (λ ok. ok ∙ parts-written c.args.parts.now c.first-item.result c.args.out.now c.args.word.now c.write_part.new.out c.parts.out c.parts.part-index
-    c.in-len1-up.len_at_least c.first-item.is c.in_ok-write_part.ensures.ok c.parts-test.false c.parts.invariant)
-    c.emit-2.ensures.ok
 
 pub write_stream-returns-clause-ok : goal.write_stream-returns-clause-ok
 write_stream-returns-clause-ok t c = on_ok_weaker c.emit-3.result
