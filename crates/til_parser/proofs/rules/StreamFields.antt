@@ -87,23 +87,20 @@ given_value given one arguments.Data or = refl
 given_value given one a (inl is) = ap (λ o. unwrap_or o (value least a)) is
 given_value given one a (inr h) = ap (λ o. unwrap_or o (value least a)) h.0 ∙ sym ((default-is one a (λ e. absurd cc)).1 h.1)
 
-same_values : (one other : AstStream) → ((a : Argument) → value one a ≡ value other a) → one ≡ other
-same_values one other same = λ i. roll-AstStream (record {
-  element = same arguments.Data i;
-  throughput = same arguments.Throughput i;
-  dims = same arguments.Dimensionality i;
-  sync = same arguments.Synchronicity i;
-  level = same arguments.Complexity i;
-  reverse = same arguments.Direction i;
-  user = same arguments.User i;
-  keep = same arguments.Keep i;
-})
-
 pub is-made : (given : Arguments) (one : AstStream) → ((a : Argument) → IsGivenOr one given a) → stream_of given ≡ Some one
 is-made given one each =
     let element : given.element ≡ Some one.element = ⊎_elim (λ e. e) (λ d. absurd d.1) (each arguments.Data) in
-    ap (option_map (λ element. filled element given)) element
-    ∙ ap Some (same_values (filled one.element given) one (λ a. given_value given one a (each a)))
+    let same : (a : Argument) → value (filled one.element given) a ≡ value one a = λ a. given_value given one a (each a) in
+    ap (option_map (λ element. filled element given)) element ∙ (λ i. Some (roll-AstStream (record {
+      element = one.element;
+      throughput = same arguments.Throughput i;
+      dims = same arguments.Dimensionality i;
+      sync = same arguments.Synchronicity i;
+      level = same arguments.Complexity i;
+      reverse = same arguments.Direction i;
+      user = same arguments.User i;
+      keep = same arguments.Keep i;
+    })))
 
 abbrev pub fields : Fields Argument Arguments AstStream
 fields = record {

@@ -3,7 +3,7 @@ use Rattle.til_parser.proofs.rules.Common.{◌≡◌, ◌↔◌, ℕ, zero, suc,
 use Rattle.til_parser.proofs.rules.Common.{arith, codes, true≢false, is_some, append-nil, All-nil, All-append, is_name, has_name_form, Never, Anything, ◌⋯◌, GoesOn, EachIs}
 use Rattle.til_parser.proofs.rules.Common.{argument, Reader, Shrinks, tells, ◌<$>◌, IsRule, Contains-none, Contains-first, with_ends, joins, front-tells, mapped-less, Begins}
 use Rattle.til_parser.proofs.rules.Common.{begins-repeats, as_rule, as_flat, flat_skip, flat_close, parted, viewed, Made, made-rule, respelled, shrinks, Only, pure-rule}
-use Rattle.til_parser.proofs.rules.Common.{entry-none, entry-word, Arguments, AstStream, AstName, AstPath, Form, Of, IsWord, Word, IsNamed, Whole, Path, Commas, Bracketed}
+use Rattle.til_parser.proofs.rules.Common.{entry-none, Arguments, AstStream, AstName, AstPath, Form, Of, IsWord, Word, IsNamed, Whole, Path, Commas, Bracketed}
 use Rattle.til_parser.proofs.rules.Common.{SpellsType, SpellsParts, Lexeme, IsFormed, SpellsPart, BracketedTo, PartTo, AfterTo, InsideTo, TypeTo, same_kind, is_kind, begins_type}
 use Rattle.til_parser.proofs.rules.Common.{type_word, all_type_words, type_word_of, type_word_at, argument_at, path, bits, part, one_more, bracketed, is_given, value, type_after}
 use Rattle.til_parser.proofs.rules.Common.{type_with, ltype, Ltype, null, plain, depth, depth_of_parts}
@@ -18,7 +18,7 @@ use Rattle.til_parser.specs.declared.ltype.AstType.TheVariants as types
 use Rattle.til_parser.proofs.PlainLemmas.{plain_parts, plain-Null, plain-Bits, plain-Group, plain-Union, plain-Stream, plain-Path}
 use Rattle.til_parser.proofs.rules.LeafRules.{PathNext, name-rule, name-begins, whole-rule, path-rule, path-front, bracketed-rule}
 use Rattle.til_parser.proofs.rules.StreamFields.{S, ArgumentsOf, least, default-is, stream-rule, argument-shrinks}
-use Rattle.til_parser.proofs.rules.TokenRules.{both, made, one, kind_is, kind-apart, colon, open_paren, close_paren, word_at-word, word_at-back, word_at-rule, word_mark}
+use Rattle.til_parser.proofs.rules.TokenRules.{both, made, one, kind_is, kind-apart, colon, open_paren, close_paren, word_at-word, word_at-back, word_at-rule, word_at-there, word_mark}
 
 -- ---- the word with which a type begins
 
@@ -46,8 +46,9 @@ in_brackets g = let opens = (of_mark open_paren).is.example in let closes = (of_
   spelled = joins opens.more _ opens.spelled (joins g.more closes.more g.spelled closes.spelled);
 }
 
-nothing : {A : Type 0} (P : A → Form) (x : A) → P x [] → GoesOn IsFormed P []
-nothing P x s = record { value = x; more = []; good = All-nil IsFormed; spelled = s }
+-- nothing more is wanted
+alone : {A : Type 0} {front : List Lexeme} (P : A → Form) (x : A) → P x (front ++ []) → GoesOn IsFormed P front
+alone P x s = record { value = x; more = []; good = All-nil IsFormed; spelled = s }
 
 abbrev null_word : Flat IsFormed (Unit {0})
 null_word = of_mark (word_mark (codes "Null") refl)
@@ -94,21 +95,18 @@ content words.Null = record {
   Held = Unit {0};
   made = λ x. types.Null;
   Inside = Only tt;
-  goes = nothing (Only tt) tt (refl, refl);
+  goes = alone (Only tt) tt (refl, refl);
   spelled = λ x ts. (
     λ s. record { front = ts; back = []; all = sym (append-nil ts); begins = (null_spelled ts).0 s; ends = (refl, refl) },
     λ b. (null_spelled ts).1 (subst (Lead words.Null) (sym (b.all ∙ ap (λ l. b.front ++ l) b.ends.1 ∙ append-nil b.front)) b.begins),
   );
 }
 content words.Bits = held types.Bits (λ x. Bracketed (Whole x)) bits-rule.example (λ x. ap SpellsType (plain-Bits x))
-content words.Group = held types.Group (λ x. Bracketed (Commas SpellsPart x)) (in_brackets (nothing (Commas SpellsPart) [] refl))
+content words.Group = held types.Group (λ x. Bracketed (Commas SpellsPart x)) (in_brackets (alone (Commas SpellsPart) [] refl))
     (λ x. ap SpellsType (plain-Group x) ∙ ap (λ (F : Form). Word (codes "Group") ⋯ Bracketed F) (parts-same x))
-content words.Union = held types.Union (λ x. Bracketed (Commas SpellsPart x)) (in_brackets (nothing (Commas SpellsPart) [] refl))
+content words.Union = held types.Union (λ x. Bracketed (Commas SpellsPart x)) (in_brackets (alone (Commas SpellsPart) [] refl))
     (λ x. ap SpellsType (plain-Union x) ∙ ap (λ (F : Form). Word (codes "Union") ⋯ Bracketed F) (parts-same x))
 content words.Stream = held types.Stream (λ x. Bracketed (ArgumentsOf x)) (in_brackets null_argument) (λ x. ap SpellsType (plain-Stream x))
-
-path_spelled : (p : AstPath) (ts : List Lexeme) → S (types.Path p) ts ↔ Path p.names ts
-path_spelled p = same_form (ap SpellsType (plain-Path p))
 
 abbrev IsMade : AstType → Type 0
 IsMade y = ((k : TypeWord) × (x : (content k).Held) × (y ≡ (content k).made x)) ⊎ ((p : AstPath) × (y ≡ types.Path p))
@@ -131,10 +129,10 @@ spelling : (y : AstType) (ts : List Lexeme) → Spelling y ts ↔ S y ts
 spelling y ts = (
   ⊎_elim
       (λ b. let m = b.1.ends in subst (λ z. S z ts) (sym m.1) (((content b.0).spelled m.0 ts).1 (with_ends b.1 m.2)))
-      (λ p. subst (λ z. S z ts) (sym p.1) ((path_spelled p.0 ts).1 p.2)),
+      (λ p. subst (λ z. S z ts) (sym p.1) ((same_form (ap SpellsType (plain-Path p.0)) ts).1 p.2)),
   λ s. ⊎_elim
       (λ m. let b = ((content m.0).spelled m.1 ts).0 (subst (λ z. S z ts) m.2 s) in inl (m.0, with_ends b (m.1, m.2, b.ends)))
-      (λ p. inr (p.0, p.1, (path_spelled p.0 ts).0 (subst (λ z. S z ts) p.1 s)))
+      (λ p. inr (p.0, p.1, (same_form (ap SpellsType (plain-Path p.0)) ts).0 (subst (λ z. S z ts) p.1 s)))
       (subst IsMade (roll-out-AstType y) (is_made (out-AstType y))),
 )
 
@@ -201,34 +199,24 @@ module _ (n : ℕ) (inner : Reader Lexeme AstType) (D : Form) (one : IsRule IsFo
 
 -- a word with which a type may begin goes on to one, by what the word holds, or as a path of one name
 begun : (t : Lexeme) → begins_type t ≡ true → GoesOn IsFormed S (t ∷ [])
-begun t is = of_word (type_word_of t.spelling) refl
+begun t is = of_word (type_word_at t) refl
   where
     tests : (same_kind t.kind kinds.Word ≡ true) × (has_name_form t.spelling ≡ true)
     tests = both (same_kind t.kind kinds.Word) (has_name_form t.spelling) is
 
-    of_word : (o : Option TypeWord) → type_word_of t.spelling ≡ o → GoesOn IsFormed S (t ∷ [])
-    of_word (Some k) told =
-        let g = (content k).goes in
-        let lead : IsWord (type_word k) t = record { kind = kind_is t.kind kinds.Word tests.0; text = entry-word type_word all_type_words t.spelling k told } in record {
-          value = (content k).made g.value;
-          more = g.more;
-          good = g.good;
-          spelled = ((content k).spelled g.value (t ∷ g.more)).1 (joins (t ∷ []) g.more (one (IsWord (type_word k)) t lead) g.spelled);
-        }
+    of_word : (o : Option TypeWord) → type_word_at t ≡ o → GoesOn IsFormed S (t ∷ [])
+    of_word (Some k) told = let g = (content k).goes in record {
+      value = (content k).made g.value;
+      more = g.more;
+      good = g.good;
+      spelled = ((content k).spelled g.value (t ∷ g.more)).1 (joins (t ∷ []) g.more (word_at-there type_word all_type_words each_type_word k t told) g.spelled);
+    }
     of_word None told =
-        let out = entry-none type_word all_type_words t.spelling told in
-        let name : AstName = record { name = t.spelling; place = t.place } in
-        let is : IsNamed name t = record {
-          kind = kind_is t.kind kinds.Word tests.0;
-          text = refl;
-          place = refl;
-          named = rw (tests.1, out.0, out.1.0, out.1.1.0, out.1.1.1.0, out.1.1.1.1.0) refl;
-        } in record {
-          value = types.Path (record { names = name ∷ [] });
-          more = [];
-          good = All-nil IsFormed;
-          spelled = (path_spelled (record { names = name ∷ [] }) (t ∷ [])).1 (one (IsNamed name) t is);
-        }
+        let out = entry-none type_word all_type_words t.spelling (rw tests.0 at told) in
+        let named : is_name t.spelling ≡ true = rw (tests.1, out.0, out.1.0, out.1.1.0, out.1.1.1.0, out.1.1.1.1.0) refl in
+        let path : AstPath = record { names = record { name = t.spelling; place = t.place } ∷ [] } in
+        alone S (types.Path path) ((same_form (ap SpellsType (plain-Path path)) (t ∷ [])).1
+        (one (IsNamed _) t (record { kind = kind_is t.kind kinds.Word tests.0; text = refl; place = refl; named = named })))
 
 -- a type begins with one of the words, or with a name
 starts : (y : AstType) (front : List Lexeme) → All IsFormed front → S y front → tells begins_type false front ≡ true
