@@ -29,9 +29,6 @@ abbrev layer_of : AstType → AstType → Settings → AstStream-F AstType AstPa
 layer_of element user s =
     record { element = element; throughput = s.throughput; dims = s.dims; sync = s.sync; level = s.level; reverse = s.reverse; user = user; keep = s.keep }
 
-stream_fold-is : (one : AstStream) → stream_fold one ≡ record { element = plain one.element; user = plain one.user; settings = settings_of one }
-stream_fold-is one = fold-roll-AstStream Ltype PlainPart PlainStream plain_type plain_part plain_stream (layer_of one.element one.user (settings_of one))
-
 parts_of-map : (parts : List AstPart) → parts_of (map part_fold parts) ≡ plain_parts parts
 parts_of-map [] = refl
 parts_of-map (first ∷ more) =
@@ -53,7 +50,8 @@ plain-Union parts = ap plain (sym (types.rolls-Union parts)) ∙ plain-roll (Ast
 
 pub plain-Stream : (one : AstStream) → plain (types.Stream one) ≡ stream (plain one.element) (plain one.user) (settings_of one)
 plain-Stream one = ap plain (sym (types.rolls-Stream one)) ∙ plain-roll (AstType-F.Stream one)
-    ∙ ap (λ (s : PlainStream). stream s.element s.user s.settings) (stream_fold-is one)
+    ∙ ap (λ (s : PlainStream). stream s.element s.user s.settings)
+    (fold-roll-AstStream Ltype PlainPart PlainStream plain_type plain_part plain_stream (layer_of one.element one.user (settings_of one)))
 
 pub plain-Path : (names : AstPath) → plain (types.Path names) ≡ path names.names
 plain-Path names = ap plain (sym (types.rolls-Path names)) ∙ plain-roll (AstType-F.Path names)

@@ -79,7 +79,7 @@ same_form is ts = (subst (λ (F : Form). F ts) is, subst (λ (F : Form). F ts) (
 null_spelled : (ts : List Lexeme) → S types.Null ts ↔ Lead words.Null ts
 null_spelled = same_form (ap SpellsType plain-Null)
 
--- what a type of a word holds, the type of it, how what follows the word spells it, and what does
+-- what a type of a word holds, the type of it, how tokens after the word spell it, some that do, and that the whole spells the type
 record Content (Leading : Form) : Type 1 where
   Held : Type 0
   made : Held → AstType
