@@ -2,24 +2,17 @@
 pub use Rattle.std.proofs.Common.{◌≡◌, ◌⊎◌, inl, inr, ⊎_elim, false, List, ◌++◌, Option, Some, None, refl, sym, subst, ℕ, Bool, [], ◌∷◌, codes, suc, ◌+◌, ◌^◌, ◌<◌, ◌≤◌, nat_lt}
 pub use Rattle.std.proofs.Common.{true, cond, ◌&&◌, ◌||◌, length, drop, ap, ◌∙◌, bytes_eq, arith, length-append, ◌≢◌, zero, All, Err, Ok, option_map, option_and_then, T, ◌↔◌}
 pub use Rattle.std.proofs.Common.{true≢false, ◌-◌, rules, ◌*◌}
-pub use Rattle.std.proofs.lemmas.Grind.{common_steps}
-pub use Rattle.std.proofs.lemmas.List.{append-nil}
-pub use Rattle.std.proofs.lemmas.List.Elements.{All-head, All-nil, All-cons, All-append}
-pub use Rattle.std.proofs.lemmas.Option.{none-some, same_Some, cond_some}
-pub use Rattle.std.proofs.lemmas.Slice.Eq.{bytes_eq-Decides}
-pub use Rattle.std.specs.List.{list_all, Contains}
-pub use Rattle.std.specs.Option.{is_some, unwrap_or}
-pub use Rattle.std.specs.Prelude.{not}
-pub use Rattle.til_lexer.specs.Places.{start}
-pub use Rattle.til_lexer.specs.Spelling.{HasForm, IsBetween}
-pub use Rattle.til_lexer.specs.declared.token.TokenKind.{TokenKind}
+pub use Rattle.std.proofs.lemmas.{Grind.common_steps, List.append-nil, List.Elements.All-head, List.Elements.All-nil, List.Elements.All-cons, List.Elements.All-append}
+pub use Rattle.std.proofs.lemmas.{Option.none-some, Option.same_Some, Option.cond_some, Slice.Eq.bytes_eq-Decides}
+pub use Rattle.std.specs.{List.list_all, List.Contains, Option.is_some, Option.unwrap_or, Prelude.not}
+pub use Rattle.til_lexer.specs.{Places.start, Spelling.HasForm, Spelling.IsBetween, declared.token.TokenKind.TokenKind}
 pub use Rattle.til_parser.specs.Grammar.{Form, Of, Name, Path, Quoted, Braced, SpellsEnd, Second, SpellsStmt, SpellsBody, Word, SpellsPort, SpellsPorts, SpellsStreamletPorts}
 pub use Rattle.til_parser.specs.Grammar.{SpellsKind, StreamletWithin, PortsWithin, KindWithin, way_word, One, Commas, Bracketed, IsNamed, IsWhole, Whole, IsNumber, Number}
 pub use Rattle.til_parser.specs.Grammar.{IsMarked, Doc, Level, sync_word, Spells, IsWithin, SpellsDecl, SpellsNamespace, DeclsWithin, IsDefault, SpellsType, argument_word}
 pub use Rattle.til_parser.specs.Grammar.{direction_word, truth_word, IsWord, SpellsParts}
 pub use Rattle.til_parser.specs.Lexemes.{Lexeme, IsFormed, between_marks, lexemes_of}
-pub use Rattle.til_parser.specs.Nesting.{PortTo, PortsTo, RestTo, BracketedTo, BracedTo, ProjectTo, KindTo, DeclTo, NamespaceTo, ValueTo, SpellsArgument, ArgumentsTo}
-pub use Rattle.til_parser.specs.Nesting.{SpellsPart, PartTo, AfterTo, InsideTo}
+pub use Rattle.til_parser.specs.Nesting.{PortTo, PortsTo, RestTo, BracketedTo, BracedTo, ProjectTo, KindTo, DeclTo, NamespaceTo, ValueTo, SpellsArgument, ArgumentsTo, SpellsPart}
+pub use Rattle.til_parser.specs.Nesting.{PartTo, AfterTo, InsideTo}
 unfoldable pub use Rattle.til_parser.specs.Nesting.{TypeTo}
 pub use Rattle.til_parser.specs.Numbers.{numerator_of, denominator_of}
 unfoldable pub use Rattle.til_parser.specs.Numbers.{whole_of, lowest, divisor_from}
@@ -34,18 +27,10 @@ unfoldable pub use Rattle.til_parser.specs.Reading.{same_kind, token}
 pub use Rattle.til_parser.specs.Tree.{plain, settings_of, Ltype, null, depth, depth_of_parts}
 pub use Rattle.til_parser.specs.Words.{keyword_word, all_keywords, keyword_of, all_syncs, sync_of, all_arguments, argument_of, argument_at, word_at, type_word, all_type_words}
 pub use Rattle.til_parser.specs.Words.{type_word_of, type_word_at}
-pub use Rattle.til_parser.specs.declared.arguments.Arguments.{Arguments}
-pub use Rattle.til_parser.specs.declared.keyword.Argument.{Argument}
-pub use Rattle.til_parser.specs.declared.keyword.Keyword.{Keyword}
-pub use Rattle.til_parser.specs.declared.ltype.AstStream.{AstStream, roll-AstStream}
-pub use Rattle.til_parser.specs.declared.ltype.AstType.{AstType}
-pub use Rattle.til_parser.specs.declared.tree.Ast.{Ast}
-pub use Rattle.til_parser.specs.declared.tree.AstKind.{AstKind}
-pub use Rattle.til_parser.specs.declared.tree.AstName.{AstName}
-pub use Rattle.til_parser.specs.declared.tree.AstNamespace.{AstNamespace}
-pub use Rattle.til_parser.specs.declared.tree.AstPath.{AstPath}
-pub use Rattle.tydi_base.specs.Name.{is_name, name_of, has_name_form}
-pub use Rattle.tydi_base.specs.declared.place.Place.{Place}
+pub use Rattle.til_parser.specs.declared.{arguments.Arguments.Arguments, keyword.Argument.Argument, keyword.Keyword.Keyword, ltype.AstStream.AstStream}
+pub use Rattle.til_parser.specs.declared.{ltype.AstStream.roll-AstStream, ltype.AstType.AstType, tree.Ast.Ast, tree.AstKind.AstKind, tree.AstName.AstName}
+pub use Rattle.til_parser.specs.declared.{tree.AstNamespace.AstNamespace, tree.AstPath.AstPath}
+pub use Rattle.tydi_base.specs.{Name.is_name, Name.name_of, Name.has_name_form, declared.place.Place.Place}
 pub use Rattle.tydi_reading.proofs.ContainsLemmas.{same_or_not, has-Contains, are_apart-apart, has, Contains-none, Contains-first}
 pub use Rattle.tydi_reading.proofs.FormLemmas.{front-tells, with_ends, regroup, ungroup, follows-front, joins}
 pub use Rattle.tydi_reading.proofs.LoopLemmas.{mapped-less, repeated-all, took-both, reads-less, repeated-unfold, steps-unfold, eaten-least}
