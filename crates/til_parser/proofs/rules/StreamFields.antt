@@ -60,6 +60,7 @@ IsGivenOr one given a = (field a given ≡ Some (value one a)) ⊎ ((field a giv
 abbrev pub least : AstStream
 least = filled types.Null none_given
 
+-- an argument has its default where its value is that of the least Stream; the data type has none
 pub default-is : (one : AstStream) (a : Argument) → (a ≡ arguments.Data → ⊥) → (value one a ≡ value least a) ↔ Default one a
 unfolding lowest divisor_from
 default-is one arguments.Data other = absurd (other refl)

@@ -3,7 +3,7 @@ use Rattle.til_parser.proofs.rules.Common.{◌≡◌, ◌↔◌, ℕ, zero, suc,
 use Rattle.til_parser.proofs.rules.Common.{arith, codes, true≢false, is_some, append-nil, All-nil, All-append, is_name, has_name_form, Never, Anything, ◌⋯◌, GoesOn, EachIs}
 use Rattle.til_parser.proofs.rules.Common.{argument, Reader, Shrinks, tells, ◌<$>◌, IsRule, Contains-none, Contains-first, with_ends, joins, front-tells, mapped-less, Begins}
 use Rattle.til_parser.proofs.rules.Common.{begins-repeats, as_rule, as_flat, flat_skip, flat_close, parted, viewed, Made, made-rule, respelled, shrinks, Only, pure-rule}
-use Rattle.til_parser.proofs.rules.Common.{entry-none, Arguments, AstStream, AstName, AstPath, Form, Of, IsWord, Word, IsNamed, Whole, Path, Commas, Bracketed}
+use Rattle.til_parser.proofs.rules.Common.{entry-none, Arguments, AstStream, AstName, AstPath, Form, Of, Word, IsNamed, Whole, Path, Commas, Bracketed}
 use Rattle.til_parser.proofs.rules.Common.{SpellsType, SpellsParts, Lexeme, IsFormed, SpellsPart, BracketedTo, PartTo, AfterTo, InsideTo, TypeTo, same_kind, is_kind, begins_type}
 use Rattle.til_parser.proofs.rules.Common.{type_word, all_type_words, type_word_of, type_word_at, argument_at, path, bits, part, one_more, bracketed, is_given, value, type_after}
 use Rattle.til_parser.proofs.rules.Common.{type_with, ltype, Ltype, null, plain, depth, depth_of_parts}
@@ -183,16 +183,14 @@ module _ (n : ℕ) (inner : Reader Lexeme AstType) (D : Form) (one : IsRule IsFo
       (λ x rest next. tt) (λ s w. rw (plain-Stream s) (omega (arith, w arguments.Data, w arguments.User)))
       (λ s w. let d = subst (λ t. depth t ≤ suc n) (plain-Stream s) w in elim [ arguments.Data ↦ omega (arith, d) | arguments.User ↦ omega (arith, d) | _ ↦ tt ])
 
-  path_type-rule : IsRule IsFormed (types.Path <$> path) (Made types.Path (λ x. Path x.names)) (λ _. PathNext) (Fits (suc n)) Never
-  path_type-rule = made-rule types.Path (as_rule path-rule) (λ _. PathNext) (Fits (suc n)) (λ x rest next. next) (λ x w. rw (plain-Path x) (omega arith)) (λ x w. tt)
-
   type-rule : IsRule IsFormed (type_with inner) S (λ _. PathNext) (Fits (suc n)) (InsideTo D)
   unfolding type_with
   type-rule = respelled (as_rule
       (led-rule IsFormed type_word_at (type_after inner) (types.Path <$> path) Lead After (Made types.Path (λ x. Path x.names)) (λ _. PathNext) (Fits (suc n)) (AfterTo D)
       (word_at-back type_word all_type_words each_type_word)
       (λ y front rest s. path-front (λ ts. tells (λ t. is_some (type_word_at t)) false ts ≡ false) (λ x t more is. not_told x t is (type_word_at t) refl) s.0.names front rest s.2)
-      (word_at-rule type_word all_type_words each_type_word words.Null refl) after-rule path_type-rule))
+      (word_at-rule type_word all_type_words each_type_word words.Null refl) after-rule
+      (made-rule types.Path (as_rule path-rule) (λ _. PathNext) (Fits (suc n)) (λ x rest next. next) (λ x w. rw (plain-Path x) (omega arith)) (λ x w. tt))))
       S (λ y ts. (spelling y ts).0) (λ y ts. (spelling y ts).1)
 
 -- ---- types of so many levels
