@@ -1,9 +1,9 @@
 -- Texts that are written part after part.
-use Rattle.std.proofs.Common.{◌≡◌, ◌⊎◌, inl, inr, ℕ, zero, suc, ◌+◌, ◌-◌, ◌*◌, ◌/◌, ◌%◌, ◌<◌, ◌≤◌, ◌++◌, List, [], ◌∷◌, length, get_or, take, drop, flat_map}
-use Rattle.std.proofs.Common.{refl, sym, ap, ◌∙◌, append_assoc, append-nil, length-append, take-take, take_all, take_at, arith, rules, codes}
+use Rattle.std.proofs.Common.{◌≡◌, ◌⊎◌, inl, inr, ℕ, zero, suc, ◌+◌, ◌-◌, ◌*◌, ◌/◌, ◌%◌, ◌<◌, ◌≤◌, ◌++◌, List, [], ◌∷◌, length, take, flat_map}
+use Rattle.std.proofs.Common.{refl, sym, ap, ◌∙◌, append_assoc, append-nil, length-append, take-take, take_at, arith, rules, codes}
 use Rattle.tydi_base.specs.Writing.{StandsInFront}
 use Rattle.til_parser.specs.declared.ltype.{AstPart.AstPart, AstStream.AstStream}
-use Rattle.til_parser.specs.Canonical.{behind_point, digits_of_rest, listed_text, more_parts_text, next_part_text, part_text, but_first, settings_text, stream_text, type_text}
+use Rattle.til_parser.specs.Canonical.{behind_point, digits_of_rest, listed_text, more_parts_text, next_part_text, but_first, settings_text, stream_text, type_text}
 use Rattle.til_parser.specs.Grammar.{truth_word}
 use Rattle.til_parser.specs.Tree.{Settings, plain, settings_of}
 use Rattle.til_parser.proofs.PlainLemmas.{plain_parts}
@@ -71,13 +71,3 @@ more-listed (first ∷ more) = ap (λ text. next_part_text first ++ text) (more-
 
 pub listed : (parts : List AstPart) → listed_text parts ≡ but_first (more_parts_text (plain_parts parts))
 listed parts = ap but_first (more-listed parts)
-
--- parts, one at least: the first, and then the others
-pub parts-written : (parts : List AstPart) (first : AstPart) (old word t1 t2 : List ℕ) (at : ℕ) → 1 ≤ length parts → first ≡ get_or parts 0 first
-    → t1 ≡ (old ++ word) ++ part_text first → length (take (length parts - 1) (drop 1 parts)) ≤ at
-    → t2 ≡ t1 ++ flat_map next_part_text (take at (take (length parts - 1) (drop 1 parts)))
-    → t2 ++ codes ")" ≡ old ++ (word ++ (listed_text parts ++ codes ")"))
-parts-written [] first old word t1 t2 at some is e1 done e2 = absurd (omega arith)
-parts-written (part ∷ parts) first old word t1 t2 at some is e1 done e2 =
-    let all : take at (take (length (part ∷ parts) - 1) parts) ≡ parts = take_all at _ done ∙ take_all _ parts (omega arith) in
-    rw (e2, all, e1, is) (simp append_assoc refl)
