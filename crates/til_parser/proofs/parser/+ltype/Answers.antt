@@ -5,13 +5,9 @@ use Rattle.til_parser.proofs.parser.+ltype.Goals as goal
 
 -- ---- a type
 
-deeper : (levels : ℕ) (ts : List Lexeme) → 0 < levels → ltype levels ts ≡ type_with (ltype (levels - 1)) ts
-unfolding ltype
-deeper zero ts some = absurd (omega arith)
-deeper (suc levels) ts some = let same : levels ≡ suc levels - 1 = omega arith in ap (λ (n : ℕ). type_with (ltype n) ts) same
-
 pub Parser::ltype-returns : goal.Parser::ltype-returns
-Parser::ltype-returns t c = rw (deeper c.args.levels c.args.self.now (omega arith)) c.type_with.ensures
+unfolding ltype
+Parser::ltype-returns t c = let deeper : c.args.levels ≡ suc (c.args.levels - 1) = omega arith in rw deeper c.type_with.ensures
 
 -- ---- lists
 
@@ -37,16 +33,13 @@ Parser::arguments-returns t c =
 -- ---- an argument
 
 pub Parser::argument-returns-in_default : goal.Parser::argument-returns-in_default
-Parser::argument-returns-in_default t c =
-    λ _. argument-none argument_at is_given (value (ltype c.args.levels)) c.args.given c.args.self.now (sym c.argument_name.ensures ∙ c.in_default.is)
+Parser::argument-returns-in_default t c = λ _. argument-none _ _ _ _ _ (sym c.argument_name.ensures ∙ c.in_default.is)
 
 pub Parser::argument-returns-then-has : goal.Parser::argument-returns-then-has
 Parser::argument-returns-then-has t c =
-    λ _. argument-given argument_at is_given (value (ltype c.args.levels)) c.args.given c.in-Some.name c.args.self.now (sym c.argument_name.ensures ∙ c.in-Some.is)
-    (sym c.has.ensures ∙ c.if-has.true)
+    λ _. argument-given _ _ _ _ _ _ (sym c.argument_name.ensures ∙ c.in-Some.is) (sym c.has.ensures ∙ c.if-has.true)
 
 pub Parser::argument-returns : goal.Parser::argument-returns
 Parser::argument-returns t c =
-    rw (argument-taken argument_at is_given (value (ltype c.args.levels)) c.args.given c.in-Some.name c.args.self.now (sym c.argument_name.ensures ∙ c.in-Some.is)
-    (sym c.has.ensures ∙ c.if-has.false))
-    (subst (λ ts. Reads (value (ltype c.args.levels) c.in-Some.name c.args.given ts) c.value.result c.value.new.self) c.skip.ensures c.value.ensures)
+    let taken = argument-taken argument_at is_given (value (ltype c.args.levels)) c.args.given c.in-Some.name c.args.self.now in
+    rw (taken (sym c.argument_name.ensures ∙ c.in-Some.is) (sym c.has.ensures ∙ c.if-has.false), ← c.skip.ensures) c.value.ensures
