@@ -1,29 +1,25 @@
 -- The laws of trees and their texts: no text spells two trees, and the tree of a text has its form and its places.
-use Rattle.std.proofs.Common.{◌≡◌, ℕ, ◌≤◌, ◌+◌, max, List, [], ◌∷◌, All, length, Ok, IsUtf8, ap, sym, ◌∙◌, subst, length-append, arith}
-use Rattle.std.proofs.lemmas.List.Elements.{All-nil, All-cons, All-head, All-tail}
+use Rattle.til_parser.proofs.rules.Common.{◌≡◌, ℕ, ◌≤◌, ◌+◌, List, [], ◌∷◌, All, length, Ok, ap, sym, ◌∙◌, subst, length-append, arith, All-nil, All-cons, All-head, ◌⋯◌, Each}
+use Rattle.til_parser.proofs.rules.Common.{EachIs, Outcome, took, Ast, AstKind, AstName, AstNamespace, Form, Spells, SpellsDecl, SpellsNamespace, PortsWithin, KindWithin, IsWithin}
+use Rattle.til_parser.proofs.rules.Common.{Lexeme, IsFormed, lexemes_of, plain, depth}
+use Rattle.std.proofs.Common.{max, IsUtf8}
+use Rattle.std.proofs.lemmas.List.Elements.{All-tail}
 use Rattle.til_lexer.specs.{Places.IsPlaceIn, Slices.IsTokenOf, Tokens.tokens_of}
 use Rattle.til_lexer.specs.declared.token.Token.{Token}
-use Rattle.til_lexer.proofs.CountLemmas.{tokens_of-few}
-use Rattle.til_lexer.proofs.FormLemmas.{tokens-have_form}
-use Rattle.til_lexer.proofs.SliceLemmas.{token-stands, tokens_of-are}
-use Rattle.tydi_reading.specs.Forms.{◌⋯◌}
-use Rattle.tydi_reading.specs.Lists.{Each, EachIs}
-use Rattle.tydi_reading.specs.Reading.{Outcome, took}
+use Rattle.til_lexer.proofs.{CountLemmas.tokens_of-few, FormLemmas.tokens-have_form, SliceLemmas.token-stands, SliceLemmas.tokens_of-are}
 use Rattle.til_parser.specs.declared.fault.ParseFault.{ParseFault}
-use Rattle.til_parser.specs.declared.tree.{Ast.Ast, AstDecl.AstDecl, AstKind.AstKind, AstName.AstName, AstNamespace.AstNamespace, AstPort.AstPort}
-use Rattle.til_parser.specs.declared.tree.AstKind.TheVariants as decls
-use Rattle.til_parser.specs.declared.tree.AstPorts.TheVariants as ports
+use Rattle.til_parser.specs.declared.tree.{AstDecl.AstDecl, AstPort.AstPort}
 use Rattle.til_parser.specs.Faults.{NamesToken, IsFaultOf, TreesOrFaults}
-use Rattle.til_parser.specs.Grammar.{Form, Spells, SpellsDecl, SpellsNamespace, PortsWithin, KindWithin, IsWithin}
 use Rattle.til_parser.specs.Laws.{IsTreeOf, TreesAreApart, TreesHaveTheirForm, TreesHaveTheirPlaces}
-use Rattle.til_parser.specs.Lexemes.{Lexeme, HasFormIn, IsFormed, lexeme_of, lexemes_of}
-use Rattle.til_parser.specs.Tree.{plain, depth}
+use Rattle.til_parser.specs.Lexemes.{HasFormIn, lexeme_of}
 use Rattle.til_parser.specs.Trees.{NamespaceWith, IsSpellable, number_of_decls}
 use Rattle.til_parser.proofs.LexemeLemmas.{length-lexemes}
 use Rattle.til_parser.proofs.rules.ParseLemmas.{project_complete, tree_or_fault, named}
 use Rattle.til_parser.proofs.rules.ProjectRules.{decl-filled}
 use Rattle.til_parser.proofs.spelled.SpelledLeaves.{Shows, each_of, shows_name, shows_place}
 use Rattle.til_parser.proofs.spelled.SpelledTrees.{namespace_of}
+use Rattle.til_parser.specs.declared.tree.AstKind.TheVariants as decls
+use Rattle.til_parser.specs.declared.tree.AstPorts.TheVariants as ports
 
 -- what holds of each token of a text holds of it as a lexeme
 All-lexemes : (text : List ℕ) (P : Token → Type 0) (Q : Lexeme → Type 0) → ((token : Token) → P token → Q (lexeme_of text token)) → (tokens : List Token)

@@ -1,20 +1,16 @@
 -- The tokens that are left.
-use Rattle.std.proofs.Common.{◌≡◌, ◌==◌, ◌-◌, ◌≤◌, ◌⊎◌, inl, inr, ℕ, suc, true, false, cond, List, [], ◌∷◌, length, slice_index_or, All}
-use Rattle.std.proofs.Common.{IsUtf8, IsCharBoundary, length-append, refl, ap, subst, rules, arith}
-use Rattle.std.proofs.lemmas.List.Elements.{All-head}
+use Rattle.til_parser.proofs.rules.Common.{◌≡◌, ◌-◌, ◌≤◌, ◌⊎◌, inl, inr, ℕ, suc, true, false, cond, List, [], ◌∷◌, length, All, length-append, refl, ap, subst, rules, arith}
+use Rattle.til_parser.proofs.rules.Common.{All-head, Outcome, stopped, too_deep, tells, HasForm, IsBetween, TokenKind, AstType, Lexeme, lexemes_of, same_kind, begins_type}
+use Rattle.std.proofs.Common.{◌==◌, slice_index_or, IsUtf8, IsCharBoundary}
 use Rattle.std.proofs.lemmas.Str.{IsCharBoundary-at_seam, IsUtf8-append}
 use denote.Enum.Bare.{same_true}
 use Rattle.tydi_reading.specs.declared.fault.Fault.TheVariants as reading
-use Rattle.tydi_reading.specs.Reading.{Outcome, stopped, too_deep, tells}
-use Rattle.til_lexer.specs.Spelling.{HasForm, IsBetween, own_text}
+use Rattle.til_lexer.specs.Spelling.{own_text}
 use Rattle.til_lexer.specs.contracts.token.TokenKind.{the_type}
 use Rattle.til_lexer.specs.declared.token.Token.{Token}
-use Rattle.til_lexer.specs.declared.token.TokenKind.{TokenKind}
-use Rattle.til_lexer.specs.declared.token.TokenKind.TheVariants as kinds
 use Rattle.til_lexer.proofs.FormBegins.{ascii_utf8}
-use Rattle.til_parser.specs.declared.ltype.AstType.{AstType}
-use Rattle.til_parser.specs.Lexemes.{Lexeme, HasFormIn, lexeme_of, lexemes_of}
-use Rattle.til_parser.specs.Reading.{same_kind, begins_type}
+use Rattle.til_lexer.specs.declared.token.TokenKind.TheVariants as kinds
+use Rattle.til_parser.specs.Lexemes.{HasFormIn, lexeme_of}
 
 -- as many are left as there are
 pub length-lexemes : (text : List ℕ) (tokens : List Token) → length (lexemes_of text tokens) ≡ length tokens

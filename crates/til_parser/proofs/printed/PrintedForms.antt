@@ -1,19 +1,14 @@
 -- Texts that are printed of tokens and white space, and what their tokens spell when they are read.
-use Rattle.std.proofs.Common.{◌≡◌, true, false, ℕ, List, [], ◌∷◌, ◌++◌, get_or, length, map, take, drop}
-use Rattle.std.proofs.Common.{refl, sym, ap, subst, ◌∙◌, append_assoc, take-append-drop, codes}
-use Rattle.std.specs.List.{list_all}
+use Rattle.til_parser.proofs.rules.Common.{◌≡◌, true, false, ℕ, List, [], ◌∷◌, ◌++◌, length, drop, refl, sym, ap, subst, ◌∙◌, codes, append-nil, list_all, Place, HasForm}
+use Rattle.til_parser.proofs.rules.Common.{has_name_form, TokenKind, ◌⋯◌, Nothing, Form, Bracketed, Of, One, Word, Lexeme}
+use Rattle.std.proofs.Common.{get_or, map, take, append_assoc, take-append-drop}
 use Rattle.std.proofs.Math.Seq.{drop-append_seam, take-append_seam}
 use Rattle.std.proofs.lemmas.List.{drop-map, take-map}
 use Rattle.std.proofs.lemmas.List.Folds.{list_all-append}
-use Rattle.tydi_base.specs.declared.place.Place.{Place}
 use Rattle.til_lexer.specs.{Places.place_past, Spans.is_space}
-use Rattle.til_lexer.specs.Spelling.{AreSpelled, HasForm, IsApart, Spelled, runs_on, spelled_text}
-use Rattle.til_lexer.specs.declared.token.TokenKind.{TokenKind}
-use Rattle.til_lexer.specs.declared.token.TokenKind.TheVariants as kinds
+use Rattle.til_lexer.specs.Spelling.{AreSpelled, IsApart, Spelled, runs_on, spelled_text}
 use Rattle.til_lexer.proofs.SpelledTokens.{first_spelled, made_of}
-use Rattle.tydi_reading.specs.Forms.{◌⋯◌, Nothing}
-use Rattle.til_parser.specs.Grammar.{Form, Bracketed, Of, One, Word}
-use Rattle.til_parser.specs.Lexemes.{Lexeme}
+use Rattle.til_lexer.specs.declared.token.TokenKind.TheVariants as kinds
 
 -- ---- texts of tokens
 
@@ -52,6 +47,10 @@ pub record Printed {A : Type 0} (last : TokenKind) (text : List ℕ) (P : A → 
   pub before : (rest : List ℕ) (more : List Shown) → Stops last rest → IsSplit rest more → IsSplit (text ++ rest) (tokens ++ more)
   pub reads : (ts : List Lexeme) → map shown ts ≡ tokens → (a : A) × P a ts
 
+-- a fixed form, of which nothing is read
+abbrev pub Fixed : TokenKind → List ℕ → Form → Type 0
+Fixed last text F = Printed {A = Unit {0}} last text (λ _. F)
+
 -- a kind of token that goes on with nothing
 abbrev pub free : TokenKind
 free = kinds.Comma
@@ -59,20 +58,6 @@ free = kinds.Comma
 -- a text that does not go on with what follows the text after it
 abbrev pub Between : TokenKind → List ℕ → TokenKind → Type 0
 Between last other next = (rest : List ℕ) → Stops next rest → Stops last (other ++ rest)
-
-pub joined : {A B : Type 0} {P : A → Form} {Q : B → Form} {last next : TokenKind} {one other : List ℕ}
-    → Printed last one P → Printed next other Q → Between last other next
-    → Printed next (one ++ other) (λ (both : A × B). P both.0 ⋯ Q both.1)
-joined {one = one} {other = other} first second between = record {
-  tokens = first.tokens ++ second.tokens;
-  before = λ rest more stops split. rw (append_assoc one other rest, append_assoc first.tokens second.tokens more)
-      (first.before (other ++ rest) (second.tokens ++ more) (between rest stops) (second.before rest more stops split));
-  reads = λ ts are.
-      let n = length first.tokens in
-      let front = first.reads (take n ts) (sym (take-map shown n ts) ∙ ap (take n) are ∙ take-append_seam first.tokens second.tokens) in
-      let back = second.reads (drop n ts) (sym (drop-map shown n ts) ∙ ap (drop n) are ∙ drop-append_seam first.tokens second.tokens) in
-      ((front.0, back.0), record { front = take n ts; back = drop n ts; all = sym (take-append-drop n ts); begins = front.1; ends = back.1 });
-}
 
 -- what is read is something else too
 pub made : {A B : Type 0} {P : A → Form} {Q : B → Form} {last : TokenKind} {text : List ℕ} (f : A → B) → ((a : A) (ts : List Lexeme) → P a ts → Q (f a) ts)
@@ -83,9 +68,13 @@ made f holds printed = record {
   reads = λ ts are. let found = printed.reads ts are in (f found.0, holds found.0 ts found.1);
 }
 
--- of another text that is the same
-pub of_text : {A : Type 0} {P : A → Form} {last : TokenKind} {one other : List ℕ} → one ≡ other → Printed last one P → Printed last other P
-of_text {P = P} {last = last} same printed = subst (λ text. Printed last text P) same printed
+-- what is read is seen as something else
+pub seen : {A B : Type 0} {Q : B → Form} {last : TokenKind} {text : List ℕ} (f : A → B) → Printed last text (λ a. Q (f a)) → Printed last text Q
+seen f printed = made f (λ a ts is. is) printed
+
+-- with nothing after it
+pub at_end : {A : Type 0} {P : A → Form} {last : TokenKind} {text : List ℕ} → Printed last text P → Printed last (text ++ []) P
+at_end {P = P} {last = last} {text = text} printed = subst (λ l. Printed last l P) (sym (append-nil text)) printed
 
 -- a kind that goes on with more
 pub ends_as : {A : Type 0} {P : A → Form} {last : TokenKind} {text : List ℕ} (wide : TokenKind)
@@ -93,17 +82,76 @@ pub ends_as : {A : Type 0} {P : A → Form} {last : TokenKind} {text : List ℕ}
 ends_as wide less printed =
     record { tokens = printed.tokens; before = λ rest more stops. printed.before rest more (less rest stops); reads = printed.reads }
 
+-- what goes on with nothing stands where a word may
+pub worded : {A : Type 0} {P : A → Form} {text : List ℕ} → Printed free text P → Printed kinds.Word text P
+worded printed = ends_as kinds.Word (λ _ _. refl) printed
+
+-- the one and then the other
+pub followed : {A B : Type 0} {P : A → Form} {Q : B → Form} {last next : TokenKind} {one other : List ℕ}
+    → Printed last one P → Printed next other Q → Between last other next
+    → Printed next (one ++ other) (λ (both : A × B). P both.0 ⋯ Q both.1)
+followed {one = one} {other = other} first second between = record {
+  tokens = first.tokens ++ second.tokens;
+  before = λ rest more stops split. rw (append_assoc one other rest, append_assoc first.tokens second.tokens more)
+      (first.before (other ++ rest) (second.tokens ++ more) (between rest stops) (second.before rest more stops split));
+  reads = λ ts are.
+      let n = length first.tokens in
+      let front = first.reads (take n ts) (sym (take-map shown n ts) ∙ ap (take n) are ∙ take-append_seam first.tokens second.tokens) in
+      let back = second.reads (drop n ts) (sym (drop-map shown n ts) ∙ ap (drop n) are ∙ drop-append_seam first.tokens second.tokens) in
+      ((front.0, back.0), record { front = take n ts; back = drop n ts; all = sym (take-append-drop n ts); begins = front.1; ends = back.1 });
+}
+
+-- a fixed form that goes on with nothing, before another
+pub prefixed : {A : Type 0} {F : Form} {P : A → Form} {next : TokenKind} {one other : List ℕ}
+    → Fixed free one F → Printed next other P → Printed next (one ++ other) (λ a. F ⋯ P a)
+prefixed first second = made (λ both. both.1) (λ both ts is. is) (followed first second (λ _ _. refl))
+
+-- the one and then the other, where the one does not go on with the first byte of the other
+pub joined : {A B : Type 0} {P : A → Form} {Q : B → Form} {last next : TokenKind} {one other : List ℕ} {byte : ℕ}
+    → Printed last one P → Printed next (byte ∷ other) Q → runs_on last byte ≡ false → Printed next (one ++ byte ∷ other) (λ (both : A × B). P both.0 ⋯ Q both.1)
+joined first second apart = followed first second (λ _ _. apart)
+
 -- a fixed form before another
-pub prefixed : {A : Type 0} {F : Form} {P : A → Form} {last next : TokenKind} {one other : List ℕ}
-    → Printed {A = Unit {0}} last one (λ _. F) → Printed next other P → Between last other next → Printed next (one ++ other) (λ a. F ⋯ P a)
-prefixed first second between = made (λ both. both.1) (λ both ts is. is) (joined first second between)
+pub led : {A : Type 0} {F : Form} {P : A → Form} {last next : TokenKind} {one other : List ℕ} {byte : ℕ}
+    → Fixed last one F → Printed next (byte ∷ other) P → runs_on last byte ≡ false → Printed next (one ++ byte ∷ other) (λ a. F ⋯ P a)
+led first second apart = made (λ both. both.1) (λ both ts is. is) (joined first second apart)
 
 -- a fixed form after another
-pub suffixed : {A : Type 0} {P : A → Form} {F : Form} {last next : TokenKind} {one other : List ℕ}
-    → Printed last one P → Printed {A = Unit {0}} next other (λ _. F) → Between last other next → Printed next (one ++ other) (λ a. P a ⋯ F)
-suffixed first second between = made (λ both. both.0) (λ both ts is. is) (joined first second between)
+pub suffixed : {A : Type 0} {P : A → Form} {F : Form} {last next : TokenKind} {one other : List ℕ} {byte : ℕ}
+    → Printed last one P → Fixed next (byte ∷ other) F → runs_on last byte ≡ false → Printed next (one ++ byte ∷ other) (λ a. P a ⋯ F)
+suffixed first second apart = made (λ both. both.0) (λ both ts is. is) (joined first second apart)
 
--- ---- tokens and white space
+-- ---- white space
+
+with_gap : (gap : List ℕ) → list_all is_space gap ≡ true → {rest : List ℕ} {more : List Shown} → IsSplit rest more → IsSplit (gap ++ rest) more
+with_gap gap space s = record {
+  gap = gap ++ s.gap;
+  pieces = s.pieces;
+  is = ap (λ l. gap ++ l) s.is ∙ sym (append_assoc gap s.gap (spelled_text s.pieces));
+  space = list_all-append is_space gap s.gap ∙ rw (space, s.space) refl;
+  spelled = s.spelled;
+  made = s.made;
+}
+
+-- a byte of white space after what is printed
+pub spaced : {A : Type 0} {P : A → Form} {last : TokenKind} {text : List ℕ} (gap : ℕ) → is_space gap ≡ true → runs_on last gap ≡ false
+    → Printed last text P → Printed free (text ++ gap ∷ []) P
+spaced {text = text} gap space apart printed = record {
+  tokens = printed.tokens;
+  before = λ rest more stops s. rw (append_assoc text (gap ∷ []) rest) (printed.before (gap ∷ rest) more apart (with_gap (gap ∷ []) (rw space refl) s));
+  reads = printed.reads;
+}
+
+-- white space before what is printed
+pub indented : {A : Type 0} {P : A → Form} {last : TokenKind} {text : List ℕ} (gap : List ℕ) → list_all is_space gap ≡ true
+    → Printed last text P → Printed last (gap ++ text) P
+indented {text = text} gap space printed = record {
+  tokens = printed.tokens;
+  before = λ rest more stops s. rw (append_assoc gap text rest) (with_gap gap space (printed.before rest more stops s));
+  reads = printed.reads;
+}
+
+-- ---- tokens
 
 one_match : (kind : TokenKind) (spelling : List ℕ) (ts : List Lexeme) → map shown ts ≡ (kind, spelling) ∷ []
     → (lexeme : Lexeme) × (ts ≡ lexeme ∷ []) × (lexeme.kind ≡ kind) × (lexeme.spelling ≡ spelling)
@@ -131,67 +179,49 @@ one_token kind spelling form reads = record {
 }
 
 -- nothing is printed
-pub nothing : {last : TokenKind} → Printed {A = Unit {0}} last [] (λ _. Nothing)
+pub nothing : {last : TokenKind} → Fixed last [] Nothing
 nothing = record { tokens = []; before = λ rest more stops s. s; reads = λ ts are. (tt, no_tokens ts are) }
   where
     no_tokens : (ts : List Lexeme) → map shown ts ≡ [] → ts ≡ []
     no_tokens [] are = refl
     no_tokens (t ∷ ts) are = absurd cc
 
-with_gap : (gap : List ℕ) → list_all is_space gap ≡ true → {rest : List ℕ} {more : List Shown} → IsSplit rest more → IsSplit (gap ++ rest) more
-with_gap gap space s = record {
-  gap = gap ++ s.gap;
-  pieces = s.pieces;
-  is = ap (λ l. gap ++ l) s.is ∙ sym (append_assoc gap s.gap (spelled_text s.pieces));
-  space = list_all-append is_space gap s.gap ∙ rw (space, s.space) refl;
-  spelled = s.spelled;
-  made = s.made;
-}
-
--- white space after what is printed
-pub spaced : {A : Type 0} {P : A → Form} {last : TokenKind} {text : List ℕ} (gap : List ℕ) → list_all is_space gap ≡ true
-    → ((rest : List ℕ) → Stops last (gap ++ rest)) → Printed last text P → Printed free (text ++ gap) P
-spaced {text = text} gap space stop printed = record {
-  tokens = printed.tokens;
-  before = λ rest more stops s. rw (append_assoc text gap rest) (printed.before (gap ++ rest) more (stop rest) (with_gap gap space s));
-  reads = printed.reads;
-}
-
--- white space before what is printed
-pub indented : {A : Type 0} {P : A → Form} {last : TokenKind} {text : List ℕ} (gap : List ℕ) → list_all is_space gap ≡ true
-    → Printed last text P → Printed last (gap ++ text) P
-indented {text = text} gap space printed = record {
-  tokens = printed.tokens;
-  before = λ rest more stops s. rw (append_assoc gap text rest) (with_gap gap space (printed.before rest more stops s));
-  reads = printed.reads;
-}
-
--- ---- fixed tokens
-
-pub symbol : (kind : TokenKind) (spelling : List ℕ) → HasForm kind spelling → Printed {A = Unit {0}} kind spelling (λ _. Of kind)
+-- a symbol
+pub symbol : (kind : TokenKind) (spelling : List ℕ) → HasForm kind spelling → Fixed kind spelling (Of kind)
 symbol kind spelling form = one_token kind spelling form (λ lexeme kind_is spelling_is. (tt, kind_is))
 
-pub word : (spelling : List ℕ) → HasForm kinds.Word spelling → Printed {A = Unit {0}} kinds.Word spelling (λ _. Word spelling)
+-- one that goes on with nothing
+pub mark : (kind : TokenKind) (spelling : List ℕ) → HasForm kind spelling → ((byte : ℕ) → runs_on kind byte ≡ false) → Fixed free spelling (Of kind)
+mark kind spelling form stops = ends_as free (λ rest _. stops (get_or rest 0 0)) (symbol kind spelling form)
+
+pub word : (spelling : List ℕ) → has_name_form spelling ≡ true → Fixed kinds.Word spelling (Word spelling)
 word spelling form = one_token kinds.Word spelling form (λ lexeme kind_is spelling_is. (tt, record { kind = kind_is; text = spelling_is }))
 
--- a symbol, with a space after it
-pub comma : Printed {A = Unit {0}} free (codes ", ") (λ _. Of kinds.Comma)
-comma = spaced (codes " ") refl (λ rest. refl) (symbol kinds.Comma (codes ",") refl)
+-- a word with a space after it
+pub keyword : (spelling : List ℕ) → has_name_form spelling ≡ true → Fixed free (spelling ++ codes " ") (Word spelling)
+keyword spelling form = spaced 32 refl refl (word spelling form)
 
-pub colon : Printed {A = Unit {0}} free (codes ": ") (λ _. Of kinds.Colon)
-colon = spaced (codes " ") refl (λ rest. refl) (symbol kinds.Colon (codes ":") refl)
+-- and before it
+pub between_words : (spelling : List ℕ) → has_name_form spelling ≡ true → Fixed free (codes " " ++ (spelling ++ codes " ")) (Word spelling)
+between_words spelling form = indented (codes " ") refl (keyword spelling form)
 
--- a symbol with a space before it and after it
-pub equals : Printed {A = Unit {0}} free (codes " = ") (λ _. Of kinds.Equals)
-equals = indented (codes " ") refl (spaced (codes " ") refl (λ rest. refl) (symbol kinds.Equals (codes "=") refl))
+-- a symbol with a space after it
+pub comma : Fixed free (codes ", ") (Of kinds.Comma)
+comma = spaced 32 refl refl (symbol kinds.Comma (codes ",") refl)
+
+pub colon : Fixed free (codes ": ") (Of kinds.Colon)
+colon = spaced 32 refl refl (symbol kinds.Colon (codes ":") refl)
+
+-- and before it
+pub equals : Fixed free (codes " = ") (Of kinds.Equals)
+equals = indented (codes " ") refl (spaced 32 refl refl (symbol kinds.Equals (codes "=") refl))
 
 -- in round brackets
-pub bracketed : {A : Type 0} {P : A → Form} {last : TokenKind} {text : List ℕ} → ((rest : List ℕ) → Stops last (41 ∷ rest))
-    → Printed last text P → Printed free (codes "(" ++ (text ++ codes ")")) (λ a. Bracketed (P a))
-bracketed stop inside = prefixed (symbol kinds.OpenParen (codes "(") refl)
-    (suffixed inside (ends_as free (λ rest _. refl) (symbol kinds.CloseParen (codes ")") refl)) (λ rest _. stop rest)) (λ rest _. refl)
+pub bracketed : {A : Type 0} {P : A → Form} {last : TokenKind} {text : List ℕ} → runs_on last 41 ≡ false → Printed last text P
+    → Printed free (codes "(" ++ (text ++ codes ")")) (λ a. Bracketed (P a))
+bracketed apart inside = prefixed (mark kinds.OpenParen (codes "(") refl (λ _. refl)) (suffixed inside (mark kinds.CloseParen (codes ")") refl (λ _. refl)) apart)
 
 -- a word, a colon and what follows it
-pub labelled : {A : Type 0} {P : A → Form} {last : TokenKind} {text : List ℕ} (spelling : List ℕ) → HasForm kinds.Word spelling
+pub labelled : {A : Type 0} {P : A → Form} {last : TokenKind} {text : List ℕ} (spelling : List ℕ) → has_name_form spelling ≡ true
     → Printed last text P → Printed last (spelling ++ (codes ": " ++ text)) (λ a. Word spelling ⋯ Of kinds.Colon ⋯ P a)
-labelled spelling form printed = prefixed (word spelling form) (prefixed colon printed (λ rest _. refl)) (λ rest _. refl)
+labelled spelling form printed = led (word spelling form) (prefixed colon printed) refl

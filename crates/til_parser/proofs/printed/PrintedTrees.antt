@@ -1,16 +1,27 @@
 -- Types, bodies, declarations and namespaces are printed so that they are read again.
-use Rattle.std.proofs.Common.{◌≡◌, ℕ, Bool, true, false, List, [], ◌∷◌, ◌++◌, flat_map, Option, Some, None, refl, sym, subst, append-nil, codes}
-use Rattle.std.specs.List.{list_all}
-use Rattle.tydi_base.specs.Name.{has_name_form}
-use Rattle.til_lexer.specs.Spans.{is_space}
-use Rattle.til_lexer.specs.declared.token.TokenKind.{TokenKind}
+use Rattle.til_parser.proofs.rules.Common.{◌≡◌, ℕ, Bool, true, false, List, [], ◌∷◌, ◌++◌, Option, Some, None, refl, sym, subst, codes, list_all, has_name_form, TokenKind, ◌⋯◌}
+use Rattle.til_parser.proofs.rules.Common.{Each, EachIs, AstType, AstKind, AstName, AstNamespace, AstPath, Form, Bracketed, Commas, Doc, Name, Of, Path, Word, SpellsType}
+use Rattle.til_parser.proofs.rules.Common.{SpellsParts, SpellsPort, SpellsPorts, SpellsEnd, SpellsStmt, SpellsBody, SpellsStreamletPorts, SpellsKind, SpellsDecl, SpellsNamespace}
+use Rattle.til_parser.proofs.rules.Common.{direction_word, sync_word, truth_word, way_word, Ltype, null, plain, all_arguments}
+use Rattle.std.proofs.Common.{flat_map}
+use Rattle.tydi_base.specs.Name.{is_name_byte}
+use Rattle.til_lexer.specs.{Spans.is_space, Spelling.runs_on}
 use Rattle.til_lexer.specs.declared.token.TokenKind.TheVariants as kinds
-use Rattle.tydi_reading.specs.Forms.{◌⋯◌}
-use Rattle.tydi_reading.specs.Lists.{Each, EachIs}
-use Rattle.til_parser.specs.declared.ltype.{AstSync.AstSync, AstType.AstType}
+use Rattle.til_parser.specs.declared.ltype.AstSync.{AstSync}
+use Rattle.til_parser.specs.declared.tree.{AstBody.AstBody, AstDecl.AstDecl, AstEnd.AstEnd, AstPort.AstPort, AstPorts.AstPorts, AstStmt.AstStmt}
+use Rattle.til_parser.specs.Canonical.{type_text, but_first, more_parts_text, port_text, ports_text, end_text, stmt_text, spaced_text, body_text, streamlet_text, kind_text}
+use Rattle.til_parser.specs.Canonical.{decl_text, doc_line, names_text, namespace_text}
+use Rattle.til_parser.specs.Grammar.{Arguments}
+use Rattle.til_parser.specs.Same.{Alike, SameName, SameNames, SameType, SameParts, SamePort, SameEnd, SameStmt, SameBody, SamePorts, SameKind, SameDecl, SameNamespace}
+use Rattle.til_parser.specs.Tree.{bits, group, union, stream, path, Parts, no_parts, part, Settings}
+use Rattle.til_parser.specs.Trees.{HasName, IsPath, IsDoc, AreSettings, IsType, AreParts, IsPort, IsEnd, IsStmt, IsBody, ArePorts, IsKind, IsDecl, IsNamespace}
+use Rattle.til_parser.proofs.PlainLemmas.{of_plain, plain-of_plain}
+use Rattle.til_parser.proofs.printed.PrintedForms.{Fixed, Printed, at_end, between_words, bracketed, colon, comma, equals, followed, free, indented, joined, keyword, labelled, led}
+use Rattle.til_parser.proofs.printed.PrintedForms.{made, mark, nothing, prefixed, seen, spaced, suffixed, symbol, word, worded}
+use Rattle.til_parser.proofs.printed.PrintedLeaves.{Again, printed_list, printed_doc, printed_each, printed_level, printed_name, printed_number, printed_path, printed_quoted}
+use Rattle.til_parser.proofs.printed.PrintedLeaves.{printed_whole, with_no_comma}
+use Rattle.til_parser.proofs.rules.StreamFields.{all_arguments-all, all_arguments-apart}
 use Rattle.til_parser.specs.declared.ltype.AstSync.TheVariants as syncs
-use Rattle.til_parser.specs.declared.tree.{AstBody.AstBody, AstDecl.AstDecl, AstEnd.AstEnd, AstKind.AstKind, AstName.AstName, AstNamespace.AstNamespace}
-use Rattle.til_parser.specs.declared.tree.{AstPath.AstPath, AstPort.AstPort, AstPorts.AstPorts, AstStmt.AstStmt}
 use Rattle.til_parser.specs.declared.tree.AstBody.TheVariants as bodies
 use Rattle.til_parser.specs.declared.tree.AstKind.TheVariants as decls
 use Rattle.til_parser.specs.declared.tree.AstPorts.TheVariants as ports
@@ -38,57 +49,40 @@ PrintedAs text Same Spell x = Printed kinds.Word text (λ (a : Again Same x). Sp
 -- ---- words
 
 either_word : (spell : Bool → List ℕ) → has_name_form (spell true) ≡ true → has_name_form (spell false) ≡ true → (b : Bool)
-    → Printed {A = Unit {0}} kinds.Word (spell b) (λ _. Word (spell b))
+    → Fixed kinds.Word (spell b) (Word (spell b))
 either_word spell one other true = word (spell true) one
 either_word spell one other false = word (spell false) other
 
 sync_form : (sync : AstSync) → has_name_form (sync_word sync) ≡ true
 sync_form syncs.Sync = refl
-sync_form syncs.Flatten = refl
-sync_form syncs.Desync = refl
-sync_form syncs.FlatDesync = refl
-
--- a word with a space after it
-keyword : (spelling : List ℕ) → has_name_form spelling ≡ true → Printed {A = Unit {0}} free (spelling ++ codes " ") (λ _. Word spelling)
-keyword spelling form = spaced (codes " ") refl (λ rest. refl) (word spelling form)
-
--- a word with a space before it and after it
-between_words : (spelling : List ℕ) → has_name_form spelling ≡ true
-    → Printed {A = Unit {0}} free (codes " " ++ (spelling ++ codes " ")) (λ _. Word spelling)
-between_words spelling form = indented (codes " ") refl (keyword spelling form)
+sync_form _ = refl
 
 -- ---- types
 
 abbrev PrintedType : Ltype → Type 0
 PrintedType one = PrintedAs (type_text one) SameType SpellsType one
 
-abbrev PrintedParts : Parts → Type 0
-PrintedParts ones = PrintedAs (but_first (more_parts_text ones)) SameParts SpellsParts ones
-
 -- an argument with a comma after it, and then others
 argument : {F : Form} {A : Type 0} {P : A → Form} {last next : TokenKind} {value other : List ℕ} (spelling : List ℕ) → has_name_form spelling ≡ true
-    → ((rest : List ℕ) → Stops last (44 ∷ rest)) → Printed {A = Unit {0}} last value (λ _. F) → Printed next other P
+    → runs_on last 44 ≡ false → Fixed last value F → Printed next other P
     → Printed next ((spelling ++ (codes ": " ++ value)) ++ (codes ", " ++ other)) (λ a. (Word spelling ⋯ Of kinds.Colon ⋯ F) ⋯ Of kinds.Comma ⋯ P a)
-argument {other = other} spelling form stop first more =
-    prefixed (labelled spelling form first) (prefixed comma more (λ rest _. refl)) (λ rest _. stop (32 ∷ other ++ rest))
+argument spelling form apart first more = led (labelled spelling form first) (prefixed comma more) apart
 
 -- a word, and what is inside the round brackets after it
-called : {A : Type 0} {P : A → Form} {last : TokenKind} {text : List ℕ} (spelling : List ℕ) → has_name_form spelling ≡ true
-    → ((rest : List ℕ) → Stops last (41 ∷ rest)) → Printed last text P
-    → Printed kinds.Word (spelling ++ (codes "(" ++ (text ++ codes ")"))) (λ a. Word spelling ⋯ Bracketed (P a))
-called spelling form stop inside =
-    ends_as kinds.Word (λ rest _. refl) (prefixed (word spelling form) (bracketed stop inside) (λ rest _. refl))
+called : {A : Type 0} {P : A → Form} {last : TokenKind} {text : List ℕ} (spelling : List ℕ) → has_name_form spelling ≡ true → runs_on last 41 ≡ false
+    → Printed last text P → Printed kinds.Word (spelling ++ (codes "(" ++ (text ++ codes ")"))) (λ a. Word spelling ⋯ Bracketed (P a))
+called spelling form apart inside = worded (led (word spelling form) (bracketed apart inside) refl)
 
 printed_stream : (element user : Ltype) (settings : Settings) → AreSettings settings → PrintedType element → PrintedType user
     → PrintedType (stream element user settings)
 printed_stream element user settings are of_element of_user =
     let kept = made (λ a. a) (λ a ts is. with_no_comma _ ts is) (labelled (codes "keep") refl (either_word truth_word refl refl settings.keep)) in
-    let used = suffixed (labelled (codes "user") refl of_user) (prefixed comma kept (λ rest _. refl)) (λ rest _. refl) in
-    let directed = argument (codes "direction") refl (λ rest. refl) (either_word direction_word refl refl settings.reverse) used in
-    let levelled = argument (codes "complexity") refl (λ rest. refl) (printed_level settings.level are.level) directed in
-    let tied = argument (codes "synchronicity") refl (λ rest. refl) (word (sync_word settings.sync) (sync_form settings.sync)) levelled in
-    let nested = argument (codes "dimensionality") refl (λ rest. refl) (printed_whole settings.dims are.dims) tied in
-    let counted = argument (codes "throughput") refl (λ rest. refl) (printed_number settings.throughput are.throughput) nested in
+    let used = suffixed (labelled (codes "user") refl of_user) (prefixed comma kept) refl in
+    let directed = argument (codes "direction") refl refl (either_word direction_word refl refl settings.reverse) used in
+    let levelled = argument (codes "complexity") refl refl (printed_level settings.level are.level) directed in
+    let tied = argument (codes "synchronicity") refl refl (word (sync_word settings.sync) (sync_form settings.sync)) levelled in
+    let nested = argument (codes "dimensionality") refl refl (printed_whole settings.dims are.dims) tied in
+    let counted = argument (codes "throughput") refl refl (printed_number settings.throughput are.throughput) nested in
     let arguments = made {Q = λ (a : Again SameType element × Again SameType user). Arguments (SpellsType a.0.0) (SpellsType a.1.0) a.1.0 settings} (λ a. a)
     (λ a ts is. record {
       order = all_arguments;
@@ -96,37 +90,38 @@ printed_stream element user settings are of_element of_user =
       others = λ argument none. absurd (none (all_arguments-all argument));
       written = is;
     })
-    (joined (labelled (codes "data") refl of_element) (prefixed comma counted (λ rest _. refl)) (λ rest _. refl)) in
-    made (λ a. (stream a.0.0 a.1.0 settings, (a.0.1, a.1.1, refl))) (λ a ts is. is) (called (codes "Stream") refl (λ rest. refl) arguments)
+    (joined (labelled (codes "data") refl of_element) (prefixed comma counted) refl) in
+    seen (λ a. (stream a.0.0 a.1.0 settings, (a.0.1, a.1.1, refl))) (called (codes "Stream") refl refl arguments)
 
-parts_again : (next : AstName) (other : Ltype) (more : Parts) (name : AstName) (ltype : Ltype) (rest : Parts) (ts : List Lexeme)
-    → SameParts (part next other more) rest → ((Name name ⋯ Of kinds.Colon ⋯ SpellsType ltype) ⋯ Of kinds.Comma ⋯ SpellsParts rest) ts
-    → SpellsParts (part name ltype rest) ts
-parts_again next other more name ltype no_parts ts same is = absurd same
-parts_again next other more name ltype (part _ _ _) ts same is = is
-
-printed_part : (name : AstName) (ltype : Ltype) → HasName name → PrintedType ltype
-    → Printed kinds.Word (name.name ++ (codes ": " ++ type_text ltype))
+abbrev PrintedPart : AstName → Ltype → Type 0
+PrintedPart name ltype = Printed kinds.Word (name.name ++ (codes ": " ++ type_text ltype))
     (λ (a : Again SameName name × Again SameType ltype). Name a.0.0 ⋯ Of kinds.Colon ⋯ SpellsType a.1.0)
-printed_part name ltype named printed = joined (printed_name name named) (prefixed colon printed (λ rest _. refl)) (λ rest _. refl)
+
+-- a part, and those after it
+abbrev PrintedParts : AstName → Ltype → Parts → Type 0
+PrintedParts name ltype more = Printed kinds.Word ((name.name ++ (codes ": " ++ type_text ltype)) ++ more_parts_text more)
+    (λ (a : (Again SameName name × Again SameType ltype) × Again SameParts more). SpellsParts (part a.0.0.0 a.0.1.0 a.1.0))
 
 mutual
   printed_type : (one : Ltype) → IsType one → PrintedType one
-  printed_type null is = made (λ a. (null, tt)) (λ a ts is. is) (word (codes "Null") refl)
-  printed_type (bits width) is = made (λ a. (bits width, refl)) (λ a ts is. is) (called (codes "Bits") refl (λ rest. refl) (printed_whole width is))
-  printed_type (group parts) is = made (λ a. (group a.0, a.1)) (λ a ts is. is) (called (codes "Group") refl (λ rest. refl) (printed_parts parts is))
-  printed_type (union parts) is = made (λ a. (union a.0, a.1)) (λ a ts is. is) (called (codes "Union") refl (λ rest. refl) (printed_parts parts is))
+  printed_type null is = seen (λ a. (null, tt)) (word (codes "Null") refl)
+  printed_type (bits width) is = seen (λ a. (bits width, refl)) (called (codes "Bits") refl refl (printed_whole width is))
+  printed_type (group parts) is = seen (λ a. (group a.0, a.1)) (called (codes "Group") refl refl (printed_parts parts is))
+  printed_type (union parts) is = seen (λ a. (union a.0, a.1)) (called (codes "Union") refl refl (printed_parts parts is))
   printed_type (stream element user settings) is = printed_stream element user settings is.2 (printed_type element is.0) (printed_type user is.1)
-  printed_type (path names) is = made (λ a. (path a.0, a.1)) (λ a ts is. is) (printed_path names is)
+  printed_type (path names) is = seen (λ a. (path a.0, a.1)) (printed_path names is)
 
-  printed_parts : (ones : Parts) → AreParts ones → PrintedParts ones
-  printed_parts no_parts are = made (λ a. (no_parts, tt)) (λ a ts is. is) nothing
-  printed_parts (part name ltype no_parts) are = of_text (sym (append-nil _))
-      (made (λ a. (part a.0.0 a.1.0 no_parts, (a.0.1, a.1.1, tt))) (λ a ts is. with_no_comma _ ts is) (printed_part name ltype are.0 (printed_type ltype are.1)))
-  printed_parts (part name ltype (part next other more)) are =
-      let rest = prefixed comma (printed_parts (part next other more) are.2) (λ rest _. refl) in
-      made (λ a. (part a.0.0.0 a.0.1.0 a.1.0, (a.0.0.1, a.0.1.1, a.1.1))) (λ a ts is. parts_again next other more a.0.0.0 a.0.1.0 a.1.0 ts a.1.1 is)
-      (joined (printed_part name ltype are.0 (printed_type ltype are.1)) rest (λ rest _. refl))
+  printed_parts : (ones : Parts) → AreParts ones → PrintedAs (but_first (more_parts_text ones)) SameParts SpellsParts ones
+  printed_parts no_parts are = seen (λ a. (no_parts, tt)) nothing
+  printed_parts (part name ltype more) are = seen (λ a. (part a.0.0.0 a.0.1.0 a.1.0, (a.0.0.1, a.0.1.1, a.1.1)))
+      (printed_more name ltype more (joined (printed_name name are.0) (prefixed colon (printed_type ltype are.1)) refl) are.2)
+
+  -- a part with those after it
+  printed_more : (name : AstName) (ltype : Ltype) (more : Parts) → PrintedPart name ltype → AreParts more → PrintedParts name ltype more
+  printed_more name ltype no_parts one are = at_end (made (λ a. (a, (no_parts, tt))) (λ a ts is. with_no_comma _ ts is) one)
+  printed_more name ltype (part next other more) one are =
+      let rest = printed_more next other more (joined (printed_name next are.0) (prefixed colon (printed_type other are.1)) refl) are.2 in
+      seen (λ a. (a.0, (part a.1.0.0.0 a.1.0.1.0 a.1.1.0, (a.1.0.0.1, a.1.0.1.1, a.1.1.1)))) (joined one (prefixed comma rest) refl)
 
 -- two types are the same
 abbrev SameAst : AstType → AstType → Type 0
@@ -140,112 +135,101 @@ printed_ast one is = made (λ a. ((with_plain a.0).0, subst (SameType (plain one
 
 printed_port : (port : AstPort) → IsPort port → PrintedAs (port_text port) SamePort SpellsPort port
 printed_port port is =
-    let ltype = indented (codes " ") refl (printed_ast port.ltype is.ltype) in
-    let typed = prefixed colon (prefixed (either_word way_word refl refl port.inward) ltype (λ rest _. refl)) (λ rest _. refl) in
-    made (λ a. (record { doc = port.doc; name = a.0.0; inward = port.inward; ltype = a.1.0 }, record { doc = refl; name = a.0.1; inward = refl; ltype = a.1.1 }))
-    (λ a ts is. is)
-    (prefixed (printed_doc port.doc (codes " ") refl is.doc) (joined (printed_name port.name is.name) typed (λ rest _. refl)) (λ rest _. refl))
+    let typed = led (either_word way_word refl refl port.inward) (indented (codes " ") refl (printed_ast port.ltype is.ltype)) refl in
+    let named = joined (printed_name port.name is.name) (prefixed colon typed) refl in
+    seen (λ a. (record { doc = port.doc; name = a.0.0; inward = port.inward; ltype = a.1.0 }, record { doc = refl; name = a.0.1; inward = refl; ltype = a.1.1 }))
+    (prefixed (printed_doc port.doc 32 refl is.doc) named)
 
 printed_ports : (all : List AstPort) → EachIs IsPort all → PrintedAs (ports_text all) (Alike SamePort) SpellsPorts all
-printed_ports [] are = made (λ a. ([], tt)) (λ a ts is. is) (ends_as kinds.Word (λ rest _. refl) (bracketed {last = free} (λ rest. refl) nothing))
-printed_ports (first ∷ more) are = ends_as kinds.Word (λ rest _. refl)
-    (bracketed (λ rest. refl) (printed_commas SamePort IsPort SpellsPort port_text first more printed_port are))
+printed_ports [] are = seen (λ a. ([], tt)) (worded (bracketed {last = free} refl nothing))
+printed_ports (first ∷ more) are = seen (λ a. (a.0.0 ∷ a.1.0, (a.0.1, a.1.1))) (worded (bracketed refl
+    (printed_list SamePort IsPort SpellsPort port_text (Commas SpellsPort) (λ _ _ is. with_no_comma _ _ is) (λ _ _ _ _ is. is) comma refl printed_port first more are)))
 
 -- ---- statements and bodies
 
-semicolon : Printed {A = Unit {0}} free (codes ";") (λ _. Of kinds.Semicolon)
-semicolon = ends_as free (λ rest _. refl) (symbol kinds.Semicolon (codes ";") refl)
+semicolon : Fixed free (codes ";") (Of kinds.Semicolon)
+semicolon = mark kinds.Semicolon (codes ";") refl (λ _. refl)
 
 end_printed : (first : AstName) (second : Option AstName) → IsEnd (record { first = first; second = second })
     → PrintedAs (end_text (record { first = first; second = second })) SameEnd SpellsEnd (record { first = first; second = second })
-end_printed first None is = made (λ a. (record { first = a.0; second = None }, (a.1, tt))) (λ a ts is. is)
-    (suffixed (printed_name first is.0) nothing (λ rest stops. stops))
-end_printed first (Some name) is =
-    let after = prefixed (symbol kinds.Point (codes ".") refl) (printed_name name is.1) (λ rest _. refl) in
-    made (λ a. (record { first = a.0.0; second = Some a.1.0 }, (a.0.1, a.1.1))) (λ a ts is. is) (joined (printed_name first is.0) after (λ rest _. refl))
+end_printed first None is = seen (λ a. (record { first = a.0.0; second = None }, (a.0.1, tt))) (followed (printed_name first is.0) nothing (λ _ stops. stops))
+end_printed first (Some name) is = seen (λ a. (record { first = a.0.0; second = Some a.1.0 }, (a.0.1, a.1.1)))
+    (joined (printed_name first is.0) (prefixed (mark kinds.Point (codes ".") refl (λ _. refl)) (printed_name name is.1)) refl)
 
 printed_end : (end : AstEnd) → IsEnd end → PrintedAs (end_text end) SameEnd SpellsEnd end
 printed_end end is = end_printed end.first end.second is
 
 printed_stmt : (stmt : AstStmt) → IsStmt stmt → Printed free (stmt_text stmt) (λ (a : Again SameStmt stmt). SpellsStmt a.0)
-printed_stmt (stmts.Instance name streamlet) is =
-    let target = prefixed equals (suffixed (printed_path streamlet.names is.1) semicolon (λ rest _. refl)) (λ rest _. refl) in
-    made (λ a. (stmts.Instance a.0.0 (record { names = a.1.0 }), (a.0.1, a.1.1))) (λ a ts is. is) (joined (printed_name name is.0) target (λ rest _. refl))
+printed_stmt (stmts.Instance name streamlet) is = seen (λ a. (stmts.Instance a.0.0 (record { names = a.1.0 }), (a.0.1, a.1.1)))
+    (joined (printed_name name is.0) (prefixed equals (suffixed (printed_path streamlet.names is.1) semicolon refl)) refl)
 printed_stmt (stmts.Link first second) is =
-    let dashes = indented (codes " ") refl (spaced (codes " ") refl (λ rest. refl) (symbol kinds.DoubleDash (codes "--") refl)) in
-    let other = prefixed dashes (suffixed (printed_end second is.1) semicolon (λ rest _. refl)) (λ rest _. refl) in
-    made (λ a. (stmts.Link a.0.0 a.1.0, (a.0.1, a.1.1))) (λ a ts is. is) (joined (printed_end first is.0) other (λ rest _. refl))
+    let dashes = indented (codes " ") refl (spaced 32 refl refl (symbol kinds.DoubleDash (codes "--") refl)) in
+    seen (λ a. (stmts.Link a.0.0 a.1.0, (a.0.1, a.1.1)))
+    (joined (printed_end first is.0) (prefixed dashes (suffixed (printed_end second is.1) semicolon refl)) refl)
 
 printed_body : (body : AstBody) → IsBody body → PrintedAs (body_text body) SameBody SpellsBody body
-printed_body (bodies.Linked text) is = made (λ a. (bodies.Linked text, refl)) (λ a ts is. is) (ends_as kinds.Word (λ rest _. refl) (printed_quoted text is))
+printed_body (bodies.Linked text) is = seen (λ a. (bodies.Linked text, refl)) (worded (printed_quoted text is))
 printed_body (bodies.Structural all) is =
-    let spaced_stmt = λ (stmt : AstStmt) (s : IsStmt stmt). indented (codes " ") refl (printed_stmt stmt s) in
-    let inside = printed_each SameStmt IsStmt SpellsStmt spaced_text all spaced_stmt is in
-    let close = ends_as kinds.Word (λ rest _. refl) (indented (codes " ") refl (symbol kinds.CloseBrace (codes "}") refl)) in
-    made (λ a. (bodies.Structural a.0, a.1)) (λ a ts is. is)
-    (prefixed (symbol kinds.OpenBrace (codes "{") refl) (suffixed inside close (λ rest _. refl)) (λ rest _. refl))
+    let inside = printed_each SameStmt IsStmt SpellsStmt spaced_text all (λ stmt s. indented (codes " ") refl (printed_stmt stmt s)) is in
+    let close = indented (codes " ") refl (mark kinds.CloseBrace (codes "}") refl (λ _. refl)) in
+    seen (λ a. (bodies.Structural a.0, a.1)) (worded (prefixed (mark kinds.OpenBrace (codes "{") refl (λ _. refl)) (suffixed inside close refl)))
 
 -- ---- declarations
 
 printed_streamlet : (all : AstPorts) → ArePorts all → PrintedAs (streamlet_text all) SamePorts SpellsStreamletPorts all
-printed_streamlet (ports.Own all) are = made (λ a. (ports.Own a.0, a.1)) (λ a ts is. is) (printed_ports all are)
-printed_streamlet (ports.Named target) are = made (λ a. (ports.Named (record { names = a.0 }), a.1)) (λ a ts is. is) (printed_path target.names are)
+printed_streamlet (ports.Own all) are = seen (λ a. (ports.Own a.0, a.1)) (printed_ports all are)
+printed_streamlet (ports.Named target) are = seen (λ a. (ports.Named (record { names = a.0 }), a.1)) (printed_path target.names are)
 
 -- a name, and what follows it after an `=`
 equated : {A : Type 0} {P : A → Form} {text : List ℕ} (name : AstName) → HasName name → Printed kinds.Word text P
     → Printed kinds.Word (name.name ++ (codes " = " ++ text)) (λ (a : Again SameName name × A). Name a.0.0 ⋯ Of kinds.Equals ⋯ P a.1)
-equated name named printed = joined (printed_name name named) (prefixed equals printed (λ rest _. refl)) (λ rest _. refl)
+equated name named printed = joined (printed_name name named) (prefixed equals printed) refl
 
--- the path after an `of`, and what follows it
-aimed_at : {A : Type 0} {P : A → Form} {text : List ℕ} (target : AstPath) → IsPath target.names → Printed kinds.Word text P
-    → ((rest : List ℕ) → Stops kinds.Word rest → Stops kinds.Word (text ++ rest))
-    → Printed kinds.Word (codes " of " ++ (names_text target.names ++ text))
-    (λ (a : Again SameNames target.names × A). Word (codes "of") ⋯ Path a.0.0 ⋯ P a.1)
-aimed_at target is printed stops = prefixed (between_words (codes "of") refl) (joined (printed_path target.names is) printed stops) (λ rest _. refl)
+-- a name, the path after an `of`, and what follows it
+aimed : {A : Type 0} {P : A → Form} {byte : ℕ} {text : List ℕ} (name : AstName) (target : AstPath) → HasName name → IsPath target.names
+    → Printed kinds.Word (byte ∷ text) P → is_name_byte byte ≡ false
+    → Printed kinds.Word (name.name ++ (codes " of " ++ (names_text target.names ++ (byte ∷ text))))
+    (λ (a : Again SameName name × (Again SameNames target.names × A)). Name a.0.0 ⋯ Word (codes "of") ⋯ Path a.1.0.0 ⋯ P a.1.1)
+aimed name target named is printed apart =
+    joined (printed_name name named) (prefixed (between_words (codes "of") refl) (joined (printed_path target.names is) printed apart)) refl
 
 printed_kind : (name : AstName) (kind : AstKind) → HasName name → IsKind kind
     → Printed kinds.Word (kind_text name.name kind) (λ (a : Again SameName name × Again SameKind kind). SpellsKind a.0.0 a.1.0)
-printed_kind name (decls.Alias ltype) named is = made (λ a. (a.0, (decls.Alias a.1.0, a.1.1))) (λ a ts is. is)
-    (prefixed (keyword (codes "type") refl) (equated name named (printed_ast ltype is)) (λ rest _. refl))
-printed_kind name (decls.Interface all) named is = made (λ a. (a.0, (decls.Interface a.1.0, a.1.1))) (λ a ts is. is)
-    (prefixed (keyword (codes "interface") refl) (equated name named (printed_ports all is)) (λ rest _. refl))
-printed_kind name (decls.Streamlet all) named is = made (λ a. (a.0, (decls.Streamlet a.1.0, a.1.1))) (λ a ts is. is)
-    (prefixed (keyword (codes "streamlet") refl) (equated name named (printed_streamlet all is)) (λ rest _. refl))
+printed_kind name (decls.Alias ltype) named is =
+    seen (λ a. (a.0, (decls.Alias a.1.0, a.1.1))) (prefixed (keyword (codes "type") refl) (equated name named (printed_ast ltype is)))
+printed_kind name (decls.Interface all) named is =
+    seen (λ a. (a.0, (decls.Interface a.1.0, a.1.1))) (prefixed (keyword (codes "interface") refl) (equated name named (printed_ports all is)))
+printed_kind name (decls.Streamlet all) named is =
+    seen (λ a. (a.0, (decls.Streamlet a.1.0, a.1.1))) (prefixed (keyword (codes "streamlet") refl) (equated name named (printed_streamlet all is)))
 printed_kind name (decls.Impl target body) named is =
-    let aimed = aimed_at target is.0 (prefixed equals (printed_body body is.1) (λ rest _. refl)) (λ rest _. refl) in
-    made (λ a. (a.0, (decls.Impl (record { names = a.1.0.0 }) a.1.1.0, (a.1.0.1, a.1.1.1)))) (λ a ts is. is)
-    (prefixed (keyword (codes "impl") refl) (joined (printed_name name named) aimed (λ rest _. refl)) (λ rest _. refl))
+    seen (λ a. (a.0, (decls.Impl (record { names = a.1.0.0 }) a.1.1.0, (a.1.0.1, a.1.1.1))))
+    (prefixed (keyword (codes "impl") refl) (aimed name target named is.0 (prefixed equals (printed_body body is.1)) refl))
 printed_kind name (decls.Test target port value plan) named is =
-    let last = ends_as kinds.Word (λ rest _. refl) (printed_quoted plan is.3) in
-    let valued = prefixed (printed_quoted value is.2) (prefixed (between_words (codes "plan") refl) last (λ rest _. refl)) (λ rest _. refl) in
-    let driven = prefixed (between_words (codes "drive") refl) (equated port is.1 valued) (λ rest _. refl) in
-    made (λ a. (a.0, (decls.Test (record { names = a.1.0.0 }) a.1.1.0.0 value plan, (a.1.0.1, a.1.1.0.1, refl, refl)))) (λ a ts is. is)
-    (prefixed (keyword (codes "test") refl) (joined (printed_name name named) (aimed_at target is.0 driven (λ rest _. refl)) (λ rest _. refl)) (λ rest _. refl))
+    let texts = prefixed (printed_quoted value is.2) (prefixed (between_words (codes "plan") refl) (worded (printed_quoted plan is.3))) in
+    let driven = prefixed (between_words (codes "drive") refl) (equated port is.1 texts) in
+    seen (λ a. (a.0, (decls.Test (record { names = a.1.0.0 }) a.1.1.0.0 value plan, (a.1.0.1, a.1.1.0.1, refl, refl))))
+    (prefixed (keyword (codes "test") refl) (aimed name target named is.0 driven refl))
 
 -- documentation on a line of its own
-printed_doc_line : (indent : List ℕ) (doc : Option (List ℕ)) → list_all is_space indent ≡ true → IsDoc doc
-    → Printed {A = Unit {0}} free (doc_line indent doc) (λ _. Doc doc)
+printed_doc_line : (indent : List ℕ) (doc : Option (List ℕ)) → list_all is_space indent ≡ true → IsDoc doc → Fixed free (doc_line indent doc) (Doc doc)
 printed_doc_line indent None space is = nothing
-printed_doc_line indent (Some text) space is = indented indent space (printed_doc (Some text) (codes "\n") refl is)
+printed_doc_line indent (Some text) space is = indented indent space (printed_doc (Some text) 10 refl is)
 
 printed_decl : (decl : AstDecl) → IsDecl decl → Printed free (decl_text decl) (λ (a : Again SameDecl decl). SpellsDecl a.0)
 printed_decl decl is =
-    let kind = printed_kind decl.name decl.kind is.name is.kind in
-    let line = indented (codes "  ") refl (suffixed kind (spaced (codes "\n") refl (λ rest. refl) semicolon) (λ rest _. refl)) in
-    made (λ a. (record { doc = decl.doc; name = a.0.0; kind = a.1.0 }, record { doc = refl; name = a.0.1; kind = a.1.1 })) (λ a ts is. is)
-    (prefixed (printed_doc_line (codes "  ") decl.doc refl is.doc) line (λ rest _. refl))
+    let kind = suffixed (printed_kind decl.name decl.kind is.name is.kind) (spaced 10 refl refl semicolon) refl in
+    seen (λ a. (record { doc = decl.doc; name = a.0.0; kind = a.1.0 }, record { doc = refl; name = a.0.1; kind = a.1.1 }))
+    (prefixed (printed_doc_line (codes "  ") decl.doc refl is.doc) (indented (codes "  ") refl kind))
 
 -- ---- namespaces
 
 printed_namespace : (one : AstNamespace) → IsNamespace one → Printed free (namespace_text one) (λ (a : Again SameNamespace one). SpellsNamespace a.0)
 printed_namespace one is =
     let inside = printed_each SameDecl IsDecl SpellsDecl decl_text one.decls printed_decl is.decls in
-    let open_brace = indented (codes " ") refl (spaced (codes "\n") refl (λ rest. refl) (symbol kinds.OpenBrace (codes "{") refl)) in
-    let close = spaced (codes "\n") refl (λ rest. refl) (symbol kinds.CloseBrace (codes "}") refl) in
-    let braced = prefixed open_brace (suffixed inside close (λ rest _. refl)) (λ rest _. refl) in
-    let opened = prefixed (keyword (codes "namespace") refl) (joined (printed_path one.path.names is.path) braced (λ rest _. refl)) (λ rest _. refl) in
-    made (λ a. (record { doc = one.doc; path = record { names = a.0.0 }; decls = a.1.0 }, record { doc = refl; path = a.0.1; decls = a.1.1 })) (λ a ts is. is)
-    (prefixed (printed_doc_line [] one.doc refl is.doc) opened (λ rest _. refl))
+    let open_brace = indented (codes " ") refl (spaced 10 refl refl (symbol kinds.OpenBrace (codes "{") refl)) in
+    let braced = prefixed open_brace (suffixed inside (spaced 10 refl refl (symbol kinds.CloseBrace (codes "}") refl)) refl) in
+    seen (λ a. (record { doc = one.doc; path = record { names = a.0.0 }; decls = a.1.0 }, record { doc = refl; path = a.0.1; decls = a.1.1 }))
+    (prefixed (printed_doc_line [] one.doc refl is.doc) (prefixed (keyword (codes "namespace") refl) (joined (printed_path one.path.names is.path) braced refl)))
 
 pub printed_namespaces : (all : List AstNamespace) → EachIs IsNamespace all
     → Printed free (flat_map namespace_text all) (λ (a : Again (Alike SameNamespace) all). Each SpellsNamespace a.0)

@@ -1,19 +1,14 @@
 -- The canonical text of a spellable tree is lexed to the tokens of which it is printed, and so it spells that tree again.
-use Rattle.std.proofs.Common.{◌≡◌, ℕ, List, [], ◌∷◌, ◌++◌, map, refl, sym, ap, subst, ◌∙◌, append-nil, IsUtf8, arith}
+use Rattle.til_parser.proofs.rules.Common.{◌≡◌, ℕ, List, [], ◌∷◌, ◌++◌, refl, sym, ap, subst, ◌∙◌, append-nil, start, Ast, lexemes_of}
+use Rattle.std.proofs.Common.{map, IsUtf8}
 use Rattle.std.proofs.lemmas.Str.{IsUtf8-append}
-use Rattle.til_lexer.specs.{Places.start, Places.place_past, Spelling.own_text, Spelling.spelled_text, Spelling.tokens_spelled, Tokens.tokens_of}
+use Rattle.til_lexer.specs.{Places.place_past, Tokens.tokens_of}
+use Rattle.til_lexer.specs.Spelling.{own_text, spelled_text, tokens_spelled}
 use Rattle.til_lexer.specs.declared.token.Token.{Token}
 use Rattle.til_lexer.proofs.SpelledTokens.{gap_utf8, map-tokens_spelled, opens, spelled_behind-read}
-use Rattle.til_parser.specs.declared.tree.Ast.{Ast}
-use Rattle.til_parser.specs.Canonical.{canonical}
-use Rattle.til_parser.specs.Laws.{AreReadAsPrinted, IsReadAgain}
-use Rattle.til_parser.specs.Lexemes.{lexemes_of}
-use Rattle.til_parser.specs.Same.{SameNamespace}
-use Rattle.til_parser.specs.Trees.{IsSpellable}
-use Rattle.til_parser.proofs.PlacesLemmas.{length-alike, trees_alike}
-use Rattle.til_parser.proofs.printed.PrintedForms.{shown}
-use Rattle.til_parser.proofs.printed.PrintedTrees.{printed_namespaces}
-use Rattle.til_parser.proofs.LawLemmas.{spellable-of}
+use Rattle.til_parser.specs.{Canonical.canonical, Laws.AreReadAsPrinted, Laws.IsReadAgain, Trees.IsSpellable}
+use Rattle.til_parser.proofs.{PlacesLemmas.trees_alike, LawLemmas.spellable-of}
+use Rattle.til_parser.proofs.printed.{PrintedForms.shown, PrintedTrees.printed_namespaces}
 
 lexemes-shown : (text : List ℕ) (tokens : List Token) → map shown (lexemes_of text tokens) ≡ map (λ (token : Token). (token.kind, own_text text token)) tokens
 lexemes-shown text [] = refl
@@ -31,16 +26,17 @@ spellable_read ast is =
     ∙ map-tokens_spelled (λ kind text _. (kind, text)) s.gap s.pieces ∙ s.made (place_past start s.gap) ∙ append-nil printed.tokens in
     let found = printed.reads (lexemes_of (canonical ast) tokens) matches in
     let again : Ast = record { namespaces = found.0.0 } in
+    let alike = trees_alike ast again found.0.1 in
     record {
       again = again;
       spelled = record {
         utf8 = subst IsUtf8 (sym text) (IsUtf8-append s.gap (spelled_text s.pieces) (gap_utf8 s.gap s.space) (opens s.pieces s.spelled).utf8);
         tokens = tokens;
         lexed = ap tokens_of text ∙ spelled_behind-read s.gap s.pieces s.space s.spelled;
-        spelled = record { some = omega (arith, is.some, length-alike SameNamespace ast.namespaces found.0.0 found.0.1); each = found.1 };
+        spelled = record { some = (alike.spellable is).some; each = found.1 };
       };
       same = found.0.1;
-      within = (trees_alike ast again found.0.1).within;
+      within = alike.within;
     }
 
 pub read_as_printed : (ast : Ast) → AreReadAsPrinted ast

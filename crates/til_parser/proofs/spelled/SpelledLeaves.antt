@@ -1,19 +1,13 @@
 -- What spells a name, a path, a number or a marked text has its form.
-use Rattle.std.proofs.Common.{◌≡◌, ℕ, ◌^◌, ◌≤◌, true, List, [], ◌∷◌, length, Option, Some, None, All, IsUtf8, refl, sym, ap, subst, ◌∙◌, append-nil, arith}
-use Rattle.std.specs.{Char.is_ascii_digit, List.list_all}
+use Rattle.til_parser.proofs.rules.Common.{◌≡◌, ℕ, ◌^◌, ◌≤◌, true, List, [], ◌∷◌, length, Option, Some, None, All, refl, sym, ap, subst, ◌∙◌, append-nil, arith, list_all, All-head}
+use Rattle.til_parser.proofs.rules.Common.{Place, HasForm, IsBetween, TokenKind, ◌⋯◌, Each, EachIs, AstName, Form, Bracketed, Commas, Doc, IsNamed, Name, Number, One, Path, Quoted}
+use Rattle.til_parser.proofs.rules.Common.{Whole, Lexeme, IsFormed, between_marks}
+use Rattle.std.proofs.Common.{IsUtf8}
+use Rattle.std.specs.Char.{is_ascii_digit}
 use Rattle.std.proofs.Math.Nat.{pow-le-pow_right}
-use Rattle.std.proofs.lemmas.List.Elements.{All-head}
 use Rattle.tydi_base.specs.{Frac.Fraction, Pieces.Lacks}
-use Rattle.tydi_base.specs.declared.place.Place.{Place}
-use Rattle.til_lexer.specs.Spelling.{HasForm, IsBetween}
-use Rattle.til_lexer.specs.declared.token.TokenKind.{TokenKind}
-use Rattle.til_lexer.specs.declared.token.TokenKind.TheVariants as kinds
-use Rattle.tydi_reading.specs.Forms.{◌⋯◌}
-use Rattle.tydi_reading.specs.Lists.{Each, EachIs}
 use Rattle.tydi_reading.proofs.StepLemmas.{All-front, All-back}
-use Rattle.til_parser.specs.declared.tree.AstName.{AstName}
-use Rattle.til_parser.specs.Grammar.{Form, Bracketed, Commas, Doc, IsNamed, Name, Number, One, Path, Quoted, Whole}
-use Rattle.til_parser.specs.Lexemes.{Lexeme, IsFormed, between_marks}
+use Rattle.til_lexer.specs.declared.token.TokenKind.TheVariants as kinds
 use Rattle.til_parser.specs.Numbers.{digits_before}
 use Rattle.til_parser.specs.Trees.{HasName, PathWith, IsDoc, IsQuote, FitsBetween, IsShort, IsSpelledNumber}
 use Rattle.til_parser.proofs.numbers.NumberLemmas.{AreParts-number, cut_at, read_on-below}

@@ -1,27 +1,23 @@
 -- What spells a tree shows its form.
-use Rattle.std.proofs.Common.{◌≡◌, ◌⊎◌, inl, inr, ◌++◌, List, Option, Some, None, refl, subst, sym, arith}
-use Rattle.tydi_base.specs.declared.place.Place.{Place}
+use Rattle.til_parser.proofs.rules.Common.{◌≡◌, ◌⊎◌, inl, inr, ◌++◌, List, Option, Some, None, refl, subst, sym, arith, Place, EachIs, Argument, AstKind, AstName, AstNamespace}
+use Rattle.til_parser.proofs.rules.Common.{Form, IsDefault, Of, Second, SpellsType, SpellsParts, SpellsPort, SpellsPorts, SpellsEnd, SpellsStmt, SpellsBody, SpellsStreamletPorts}
+use Rattle.til_parser.proofs.rules.Common.{SpellsKind, SpellsDecl, SpellsNamespace, Ltype, null, plain}
+use Rattle.tydi_reading.proofs.{ContainsLemmas.Inside, ContainsLemmas.named-or, StepLemmas.All-front, StepLemmas.All-back}
 use Rattle.til_lexer.specs.declared.token.TokenKind.TheVariants as kinds
-use Rattle.tydi_reading.specs.Lists.{EachIs}
-use Rattle.tydi_reading.proofs.ContainsLemmas.{Inside, named-or}
-use Rattle.tydi_reading.proofs.StepLemmas.{All-front, All-back}
-use Rattle.til_parser.specs.declared.keyword.Argument.{Argument}
-use Rattle.til_parser.specs.declared.keyword.Argument.TheVariants as arguments
-use Rattle.til_parser.specs.declared.tree.{AstBody.AstBody, AstDecl.AstDecl, AstEnd.AstEnd, AstKind.AstKind, AstName.AstName, AstNamespace.AstNamespace}
-use Rattle.til_parser.specs.declared.tree.{AstPort.AstPort, AstPorts.AstPorts, AstStmt.AstStmt}
-use Rattle.til_parser.specs.declared.tree.AstBody.TheVariants as bodies
-use Rattle.til_parser.specs.declared.tree.AstKind.TheVariants as decls
-use Rattle.til_parser.specs.declared.tree.AstPorts.TheVariants as ports
-use Rattle.til_parser.specs.declared.tree.AstStmt.TheVariants as stmts
-use Rattle.til_parser.specs.Grammar.{Form, Arguments, Given, IsDefault, Of, Second, SpellsType, SpellsParts, SpellsPort, SpellsPorts, SpellsEnd, SpellsStmt, SpellsBody}
-use Rattle.til_parser.specs.Grammar.{SpellsStreamletPorts, SpellsKind, SpellsDecl, SpellsNamespace}
-use Rattle.til_parser.specs.Tree.{Ltype, null, bits, group, union, stream, path, Parts, no_parts, part, Settings, plain}
-use Rattle.til_parser.specs.Trees.{IsSpelledNumber, AreSettings, TypeWith, PartsWith, PortWith, SecondWith, EndWith, StmtWith, BodyWith, StreamletWith, KindWith}
-use Rattle.til_parser.specs.Trees.{DeclWith, NamespaceWith}
+use Rattle.til_parser.specs.declared.tree.{AstBody.AstBody, AstDecl.AstDecl, AstEnd.AstEnd, AstPort.AstPort, AstPorts.AstPorts, AstStmt.AstStmt}
+use Rattle.til_parser.specs.Grammar.{Arguments, Given}
+use Rattle.til_parser.specs.Tree.{bits, group, union, stream, path, Parts, no_parts, part, Settings}
+use Rattle.til_parser.specs.Trees.{IsSpelledNumber, AreSettings, TypeWith, PartsWith, PortWith, SecondWith, EndWith, StmtWith, BodyWith, StreamletWith, KindWith, DeclWith}
+use Rattle.til_parser.specs.Trees.{NamespaceWith}
 use Rattle.til_parser.proofs.rules.StreamFields.{one_or_two}
 use Rattle.til_parser.proofs.spelled.SpelledLeaves.{IsAt, Shows, Spelt, first_of, second_of, third_of, inside_of, each_of, commas_of, name_of, path_of, number_of, whole_of}
 use Rattle.til_parser.proofs.spelled.SpelledLeaves.{quote_of, doc_of}
 use Rattle.til_parser.proofs.texts.NumberTextLemmas.{one-is}
+use Rattle.til_parser.specs.declared.keyword.Argument.TheVariants as arguments
+use Rattle.til_parser.specs.declared.tree.AstBody.TheVariants as bodies
+use Rattle.til_parser.specs.declared.tree.AstKind.TheVariants as decls
+use Rattle.til_parser.specs.declared.tree.AstPorts.TheVariants as ports
+use Rattle.til_parser.specs.declared.tree.AstStmt.TheVariants as stmts
 
 -- ---- the arguments of a Stream
 

@@ -1,22 +1,20 @@
 -- The text of a number: the digits of a division, their count and their value, and that the text is read as the number again.
-use Rattle.std.proofs.Common.{◌≡◌, ℕ, zero, suc, ◌+◌, ◌-◌, ◌*◌, ◌/◌, ◌%◌, ◌^◌, ◌<◌, ◌≤◌, Bool, true, false, inl, inr, cond, eqb, List, [], ◌∷◌, ◌++◌, length, decimal}
-use Rattle.std.proofs.Common.{refl, sym, ap, subst, ◌∙◌, arith, append-nil, length-append, pow-add, pow-suc, mod-lt, div-add-mod', div-lt_iff_lt-mul}
-use Rattle.std.proofs.Common.{lt_of_mul-lt-mul_right, mul-lt-mul_of_pos_right}
-use Prim.Native.Nat.{◌∣◌}
-use Rattle.std.specs.{Char.is_ascii_digit, List.list_all}
+use Rattle.til_parser.proofs.rules.Common.{◌≡◌, ℕ, zero, suc, ◌+◌, ◌-◌, ◌*◌, ◌^◌, ◌<◌, ◌≤◌, Bool, true, false, inl, inr, cond, List, [], ◌∷◌, ◌++◌, length, refl, sym, ap, subst}
+use Rattle.til_parser.proofs.rules.Common.{◌∙◌, arith, append-nil, length-append, list_all, HasForm}
+use Rattle.std.proofs.Common.{◌/◌, ◌%◌, eqb, decimal, pow-add, pow-suc, mod-lt, div-add-mod', div-lt_iff_lt-mul, lt_of_mul-lt-mul_right, mul-lt-mul_of_pos_right}
+use Rattle.std.specs.Char.{is_ascii_digit}
 use Rattle.std.proofs.Math.Nat.{div-add-mod, dvd-add_iff_right, dvd-mul_left, dvd-mul_left_of_dvd, dvd-mul_right, dvd-mul_right_of_dvd, one-dvd}
 use Rattle.std.proofs.lemmas.Bool.Decides.{nat_tests}
 use Rattle.std.proofs.lemmas.Fmt.{decimal_nonempty, digits_decimal, digits_value-decimal, length-decimal-le}
 use Rattle.std.proofs.lemmas.List.Folds.{list_all-append}
 use Rattle.std.proofs.lemmas.Nat.Gcd.{IsGcd-swap, le_of_dvd}
+use Prim.Native.Nat.{◌∣◌}
 use Rattle.tydi_base.specs.{Decimal.read_on, Frac.Fraction, Frac.IsLowest}
-use Rattle.tydi_base.proofs.DecimalLaws.{own}
-use Rattle.tydi_base.proofs.FracLaws.{coprime_divides}
-use Rattle.til_lexer.specs.Spelling.{AreDigits, HasForm}
+use Rattle.tydi_base.proofs.{DecimalLaws.own, FracLaws.coprime_divides}
+use Rattle.til_lexer.specs.Spelling.{AreDigits}
 use Rattle.til_lexer.specs.declared.token.TokenKind.TheVariants as kinds
 use Rattle.til_parser.specs.Canonical.{behind_point, digits_of_rest, number_text}
-use Rattle.til_parser.specs.Numbers.{digits_before, digits_behind}
-use Rattle.til_parser.specs.Trees.{IsNumberText}
+use Rattle.til_parser.specs.{Numbers.digits_before, Numbers.digits_behind, Trees.IsNumberText}
 use Rattle.til_parser.proofs.numbers.NumberLemmas.{AreParts-number, cut_at, read_on-append, read_on-below, tens_fit}
 
 -- ---- the digits of a division
