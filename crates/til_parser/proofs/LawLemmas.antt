@@ -1,87 +1,72 @@
 -- The laws of trees and their texts: no text spells two trees, and the tree of a text has its form and its places.
-use Rattle.til_parser.proofs.rules.Common.{◌≡◌, ℕ, ◌≤◌, ◌+◌, List, [], ◌∷◌, All, length, Ok, ap, sym, ◌∙◌, subst, length-append, arith, All-nil, All-cons, All-head, ◌⋯◌, Each}
-use Rattle.til_parser.proofs.rules.Common.{EachIs, Outcome, took, Ast, AstKind, AstName, AstNamespace, Form, Spells, SpellsDecl, SpellsNamespace, PortsWithin, KindWithin, IsWithin}
-use Rattle.til_parser.proofs.rules.Common.{Lexeme, IsFormed, lexemes_of, plain, depth}
-use Rattle.std.proofs.Common.{max, IsUtf8}
-use Rattle.std.proofs.lemmas.List.Elements.{All-tail}
-use Rattle.til_lexer.specs.{Places.IsPlaceIn, Slices.IsTokenOf, Tokens.tokens_of}
+use Rattle.til_parser.proofs.rules.Common.{◌≡◌, ℕ, ◌≤◌, ◌+◌, List, [], ◌∷◌, All, length, Ok, ap, sym, ◌∙◌, subst, length-append, arith, ◌⋯◌, Each, EachIs, Outcome, took, Ast}
+use Rattle.til_parser.proofs.rules.Common.{AstKind, AstName, AstNamespace, Form, Spells, SpellsDecl, SpellsNamespace, PortsWithin, KindWithin, IsWithin, Lexeme, IsFormed}
+use Rattle.til_parser.proofs.rules.Common.{lexemes_of, plain, depth}
+use Rattle.std.proofs.Common.{max, get_or, IsUtf8}
+use Rattle.std.proofs.lemmas.List.Elements.{All-map}
+use Rattle.til_lexer.specs.{Places.IsPlaceIn, Tokens.tokens_of}
 use Rattle.til_lexer.specs.declared.token.Token.{Token}
 use Rattle.til_lexer.proofs.{CountLemmas.tokens_of-few, FormLemmas.tokens-have_form, SliceLemmas.token-stands, SliceLemmas.tokens_of-are}
 use Rattle.til_parser.specs.declared.fault.ParseFault.{ParseFault}
 use Rattle.til_parser.specs.declared.tree.{AstDecl.AstDecl, AstPort.AstPort}
 use Rattle.til_parser.specs.Faults.{NamesToken, IsFaultOf, TreesOrFaults}
 use Rattle.til_parser.specs.Laws.{IsTreeOf, TreesAreApart, TreesHaveTheirForm, TreesHaveTheirPlaces}
-use Rattle.til_parser.specs.Lexemes.{HasFormIn, lexeme_of}
+use Rattle.til_parser.specs.Lexemes.{lexeme_of}
 use Rattle.til_parser.specs.Trees.{NamespaceWith, IsSpellable, number_of_decls}
-use Rattle.til_parser.proofs.LexemeLemmas.{length-lexemes}
+use Rattle.til_parser.proofs.LexemeLemmas.{length-lexemes, lexemes_of-map}
 use Rattle.til_parser.proofs.rules.ParseLemmas.{project_complete, tree_or_fault, named}
 use Rattle.til_parser.proofs.rules.ProjectRules.{decl-filled}
-use Rattle.til_parser.proofs.spelled.SpelledLeaves.{Shows, each_of, shows_name, shows_place}
-use Rattle.til_parser.proofs.spelled.SpelledTrees.{namespace_of}
+use Rattle.til_parser.proofs.SpelledLemmas.{Shows, each_of, namespace_of, shows_name, shows_place}
 use Rattle.til_parser.specs.declared.tree.AstKind.TheVariants as decls
 use Rattle.til_parser.specs.declared.tree.AstPorts.TheVariants as ports
 
--- what holds of each token of a text holds of it as a lexeme
-All-lexemes : (text : List ℕ) (P : Token → Type 0) (Q : Lexeme → Type 0) → ((token : Token) → P token → Q (lexeme_of text token)) → (tokens : List Token)
-    → All P tokens → All Q (lexemes_of text tokens)
-All-lexemes text P Q to [] each = All-nil Q
-All-lexemes text P Q to (token ∷ tokens) each =
-    All-cons Q (lexeme_of text token) (lexemes_of text tokens) (to token (All-head P token tokens each)) (All-lexemes text P Q to tokens (All-tail P token tokens each))
-
 -- the tokens of a text have their form
 pub formed_of : (text : List ℕ) (tokens : List Token) → IsUtf8 text → tokens_of text ≡ Ok tokens → All IsFormed (lexemes_of text tokens)
-formed_of text tokens utf8 lexed = All-lexemes text (HasFormIn text) IsFormed (λ token is. is) tokens (tokens-have_form text tokens utf8 lexed)
+formed_of text tokens utf8 lexed = rw lexemes_of-map (All-map IsFormed (lexeme_of text) tokens (tokens-have_form text tokens utf8 lexed))
 
 -- each stands at its place in the text
 placed_of : (text : List ℕ) (tokens : List Token) → IsUtf8 text → tokens_of text ≡ Ok tokens → All (λ (lexeme : Lexeme). IsPlaceIn text lexeme.place) (lexemes_of text tokens)
-placed_of text tokens utf8 lexed =
-    All-lexemes text (IsTokenOf text) (λ lexeme. IsPlaceIn text lexeme.place) (λ token is. token-stands text token is) tokens (tokens_of-are text tokens utf8 lexed)
+placed_of text tokens utf8 lexed = rw lexemes_of-map (All-map (λ lexeme. IsPlaceIn text lexeme.place) (lexeme_of text) tokens
+    (λ k d within. token-stands text (get_or tokens k d) (tokens_of-are text tokens utf8 lexed k d within)))
 
 -- ---- how deep types nest
 
 -- some types nest no deeper than so many levels, from this count of levels on
-record NestAt (Within : ℕ → Type 0) : Type 0 where
-  least : ℕ
-  within : (levels : ℕ) → least ≤ levels → Within levels
+abbrev NestAt : (ℕ → Type 0) → Type 0
+NestAt Within = (least : ℕ) × ((levels : ℕ) → least ≤ levels → Within levels)
 
 each-nests : {X : Type 0} {Within : ℕ → X → Type 0} → ((x : X) → NestAt (λ n. Within n x)) → (all : List X) → NestAt (λ n. EachIs (Within n) all)
-each-nests one [] = record { least = 0; within = λ n le. tt }
+each-nests one [] = (0, λ n le. tt)
 each-nests one (x ∷ all) =
     let first = one x in
     let more = each-nests one all in
-    record { least = max first.least more.least; within = λ n le. (first.within n (omega arith), more.within n (omega arith)) }
+    (max first.0 more.0, λ n le. (first.1 n (omega arith), more.1 n (omega arith)))
 
 ports-nest : (all : List AstPort) → NestAt (λ n. PortsWithin n all)
-ports-nest = each-nests (λ port. record { least = depth (plain port.ltype); within = λ n le. le })
+ports-nest = each-nests (λ port. (depth (plain port.ltype), λ n le. le))
 
 kind-nests : (kind : AstKind) → NestAt (λ n. KindWithin n kind)
-kind-nests (decls.Alias ltype) = record { least = depth (plain ltype); within = λ n le. le }
+kind-nests (decls.Alias ltype) = (depth (plain ltype), λ n le. le)
 kind-nests (decls.Interface all) = ports-nest all
 kind-nests (decls.Streamlet (ports.Own all)) = ports-nest all
-kind-nests (decls.Streamlet (ports.Named target)) = record { least = 0; within = λ n le. tt }
-kind-nests (decls.Impl target body) = record { least = 0; within = λ n le. tt }
-kind-nests (decls.Test target port value plan) = record { least = 0; within = λ n le. tt }
+kind-nests _ = (0, λ n le. tt)
 
 tree-nests : (ast : Ast) → NestAt (λ n. IsWithin n ast)
 tree-nests ast = each-nests (λ namespace. each-nests (λ decl. kind-nests decl.kind) namespace.decls) ast.namespaces
 
 -- ---- no text spells two trees
 
--- tokens with their form spell one tree at most
-spelled_apart : (ts : List Lexeme) (one other : Ast) → All IsFormed ts → Spells one ts → Spells other ts → one ≡ other
-spelled_apart ts one other formed s s' =
-    let w = tree-nests one in
-    let w' = tree-nests other in
-    let levels = max w.least w'.least in
-    let read = project_complete levels ts one formed (w.within levels (omega arith)) s in
-    let read' = project_complete levels ts other formed (w'.within levels (omega arith)) s' in
-    let same : ◌≡◌ {A = Outcome Lexeme Ast} (took one []) (took other []) = sym read ∙ read' in cc
-
 pub trees_apart : TreesAreApart
 trees_apart text one other s s' =
-    let tokens_are : s'.tokens ≡ s.tokens = (let same = sym s'.lexed ∙ s.lexed in cc) in
-    spelled_apart (lexemes_of text s.tokens) one other (formed_of text s.tokens s.utf8 s.lexed) s.spelled
-    (subst (λ tokens. Spells other (lexemes_of text tokens)) tokens_are s'.spelled)
+    let lexed : s'.tokens ≡ s.tokens = (let same = sym s'.lexed ∙ s.lexed in cc) in
+    let spelled = subst (λ tokens. Spells other (lexemes_of text tokens)) lexed s'.spelled in
+    let formed = formed_of text s.tokens s.utf8 s.lexed in
+    let w = tree-nests one in
+    let w' = tree-nests other in
+    let levels = max w.0 w'.0 in
+    let read = project_complete levels (lexemes_of text s.tokens) one formed (w.1 levels (omega arith)) s.spelled in
+    let read' = project_complete levels (lexemes_of text s.tokens) other formed (w'.1 levels (omega arith)) spelled in
+    let same : ◌≡◌ {A = Outcome Lexeme Ast} (took one []) (took other []) = sym read ∙ read' in cc
 
 pub trees_or_faults : TreesOrFaults
 trees_or_faults text tokens utf8 lexed = tree_or_fault (lexemes_of text tokens) (formed_of text tokens utf8 lexed)

@@ -1,8 +1,8 @@
 -- The tokens that are left.
-use Rattle.til_parser.proofs.rules.Common.{◌≡◌, ◌-◌, ◌≤◌, ◌⊎◌, inl, inr, ℕ, suc, true, false, cond, List, [], ◌∷◌, length, All, length-append, refl, ap, subst, rules, arith}
+use Rattle.til_parser.proofs.rules.Common.{◌≡◌, ◌-◌, ◌≤◌, ◌⊎◌, inl, inr, ◌∙◌, ℕ, true, false, cond, List, [], ◌∷◌, length, All, length-append, refl, ap, subst, rules, arith}
 use Rattle.til_parser.proofs.rules.Common.{All-head, Outcome, stopped, too_deep, tells, HasForm, IsBetween, TokenKind, AstType, Lexeme, lexemes_of, same_kind, begins_type}
-use Rattle.std.proofs.Common.{◌==◌, slice_index_or, IsUtf8, IsCharBoundary}
-use Rattle.std.proofs.lemmas.Str.{IsCharBoundary-at_seam, IsUtf8-append}
+use Rattle.std.proofs.Common.{◌==◌, map, slice_index_or, IsUtf8, IsCharBoundary}
+use Rattle.std.proofs.lemmas.{List.length-map, Str.IsCharBoundary-at_seam, Str.IsUtf8-append}
 use denote.Enum.Bare.{same_true}
 use Rattle.tydi_reading.specs.declared.fault.Fault.TheVariants as reading
 use Rattle.til_lexer.specs.Spelling.{own_text}
@@ -12,10 +12,14 @@ use Rattle.til_lexer.proofs.FormBegins.{ascii_utf8}
 use Rattle.til_lexer.specs.declared.token.TokenKind.TheVariants as kinds
 use Rattle.til_parser.specs.Lexemes.{HasFormIn, lexeme_of}
 
+-- each token makes one
+pub lexemes_of-map : (text : List ℕ) (tokens : List Token) → lexemes_of text tokens ≡ map (lexeme_of text) tokens
+lexemes_of-map text [] = refl
+lexemes_of-map text (token ∷ tokens) = ap (λ l. lexeme_of text token ∷ l) (lexemes_of-map text tokens)
+
 -- as many are left as there are
 pub length-lexemes : (text : List ℕ) (tokens : List Token) → length (lexemes_of text tokens) ≡ length tokens
-length-lexemes text [] = refl
-length-lexemes text (token ∷ tokens) = ap suc (length-lexemes text tokens)
+length-lexemes text tokens = ap length (lexemes_of-map text tokens) ∙ length-map tokens (lexeme_of text)
 
 -- none is left exactly where there are none
 pub at_end-lexemes : (text : List ℕ) (tokens : List Token) → tells (λ _. false) true (lexemes_of text tokens) ≡ (length tokens == 0)

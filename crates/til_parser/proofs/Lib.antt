@@ -2,7 +2,7 @@ mod numbers
 mod texts
 mod printed
 mod rules
-mod spelled
+mod SpelledLemmas
 mod LexemeLemmas
 pub mod PlainLemmas
 mod PlacesLemmas

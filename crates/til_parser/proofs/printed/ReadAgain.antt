@@ -1,18 +1,14 @@
 -- The canonical text of a spellable tree is lexed to the tokens of which it is printed, and so it spells that tree again.
-use Rattle.til_parser.proofs.rules.Common.{◌≡◌, ℕ, List, [], ◌∷◌, ◌++◌, refl, sym, ap, subst, ◌∙◌, append-nil, start, Ast, lexemes_of}
+use Rattle.til_parser.proofs.rules.Common.{◌≡◌, List, [], ◌++◌, refl, sym, ap, subst, ◌∙◌, append-nil, start, Ast, lexemes_of}
 use Rattle.std.proofs.Common.{map, IsUtf8}
-use Rattle.std.proofs.lemmas.Str.{IsUtf8-append}
+use Rattle.std.proofs.lemmas.{Str.IsUtf8-append, Simd.map-map}
 use Rattle.til_lexer.specs.{Places.place_past, Tokens.tokens_of}
 use Rattle.til_lexer.specs.Spelling.{own_text, spelled_text, tokens_spelled}
 use Rattle.til_lexer.specs.declared.token.Token.{Token}
 use Rattle.til_lexer.proofs.SpelledTokens.{gap_utf8, map-tokens_spelled, opens, spelled_behind-read}
-use Rattle.til_parser.specs.{Canonical.canonical, Laws.AreReadAsPrinted, Laws.IsReadAgain, Trees.IsSpellable}
-use Rattle.til_parser.proofs.{PlacesLemmas.trees_alike, LawLemmas.spellable-of}
+use Rattle.til_parser.specs.{Canonical.canonical, Lexemes.lexeme_of, Laws.AreReadAsPrinted, Laws.IsReadAgain, Trees.IsSpellable}
+use Rattle.til_parser.proofs.{LexemeLemmas.lexemes_of-map, PlacesLemmas.trees_alike, LawLemmas.spellable-of}
 use Rattle.til_parser.proofs.printed.{PrintedForms.shown, PrintedTrees.printed_namespaces}
-
-lexemes-shown : (text : List ℕ) (tokens : List Token) → map shown (lexemes_of text tokens) ≡ map (λ (token : Token). (token.kind, own_text text token)) tokens
-lexemes-shown text [] = refl
-lexemes-shown text (token ∷ tokens) = ap (λ l. (token.kind, own_text text token) ∷ l) (lexemes-shown text tokens)
 
 -- a spellable tree is read again
 pub spellable_read : (ast : Ast) → IsSpellable ast → IsReadAgain (canonical ast) ast
@@ -21,8 +17,8 @@ spellable_read ast is =
     let s = printed.before [] [] refl (record { gap = []; pieces = []; is = refl; space = refl; spelled = tt; made = λ place. refl }) in
     let text : canonical ast ≡ s.gap ++ spelled_text s.pieces = sym (append-nil (canonical ast)) ∙ s.is in
     let tokens : List Token = tokens_spelled (place_past start s.gap) s.pieces in
-    let matches : map shown (lexemes_of (canonical ast) tokens) ≡ printed.tokens = lexemes-shown (canonical ast) tokens
-    ∙ ap (λ l. map (λ (token : Token). (token.kind, own_text l token)) tokens) text
+    let matches : map shown (lexemes_of (canonical ast) tokens) ≡ printed.tokens = ap (map shown) (lexemes_of-map (canonical ast) tokens)
+    ∙ map-map shown (lexeme_of (canonical ast)) tokens ∙ ap (λ l. map (λ (token : Token). (token.kind, own_text l token)) tokens) text
     ∙ map-tokens_spelled (λ kind text _. (kind, text)) s.gap s.pieces ∙ s.made (place_past start s.gap) ∙ append-nil printed.tokens in
     let found = printed.reads (lexemes_of (canonical ast) tokens) matches in
     let again : Ast = record { namespaces = found.0.0 } in

@@ -1,6 +1,6 @@
 -- The text of a number: the digits of a division, their count and their value, and that the text is read as the number again.
 use Rattle.til_parser.proofs.rules.Common.{◌≡◌, ℕ, zero, suc, ◌+◌, ◌-◌, ◌*◌, ◌^◌, ◌<◌, ◌≤◌, Bool, true, false, inl, inr, cond, List, [], ◌∷◌, ◌++◌, length, refl, sym, ap, subst}
-use Rattle.til_parser.proofs.rules.Common.{◌∙◌, arith, append-nil, length-append, list_all, HasForm}
+use Rattle.til_parser.proofs.rules.Common.{◌∙◌, arith, append-nil, length-append, list_all, HasForm, codes}
 use Rattle.std.proofs.Common.{◌/◌, ◌%◌, eqb, decimal, pow-add, pow-suc, mod-lt, div-add-mod', div-lt_iff_lt-mul, lt_of_mul-lt-mul_right, mul-lt-mul_of_pos_right}
 use Rattle.std.specs.Char.{is_ascii_digit}
 use Rattle.std.proofs.Math.Nat.{div-add-mod, dvd-add_iff_right, dvd-mul_left, dvd-mul_left_of_dvd, dvd-mul_right, dvd-mul_right_of_dvd, one-dvd}
@@ -14,7 +14,7 @@ use Rattle.tydi_base.proofs.{DecimalLaws.own, FracLaws.coprime_divides}
 use Rattle.til_lexer.specs.Spelling.{AreDigits}
 use Rattle.til_lexer.specs.declared.token.TokenKind.TheVariants as kinds
 use Rattle.til_parser.specs.Canonical.{behind_point, digits_of_rest, number_text}
-use Rattle.til_parser.specs.{Numbers.digits_before, Numbers.digits_behind, Trees.IsNumberText}
+use Rattle.til_parser.specs.{Numbers.digits_before, Numbers.digits_behind, Trees.IsNumberText, Trees.IsSpelledNumber}
 use Rattle.til_parser.proofs.numbers.NumberLemmas.{AreParts-number, cut_at, read_on-append, read_on-below, tens_fit}
 
 -- ---- the digits of a division
@@ -152,8 +152,11 @@ number_text-is number spelling is =
     text_is number (length before) (digits_of_rest 18 (number.num % number.den) number.den) (length behind) terms parts.some parts.few below rest
 
 -- one is read as `1`
-pub one-is : IsNumberText (record { num = 1; den = 1 }) (number_text (record { num = 1; den = 1 }))
-one-is = number_text-is (record { num = 1; den = 1 }) (49 ∷ []) (record {
-  form = inl (record { digits = record { some = omega arith; each = refl }; few = omega arith });
-  value = record { value = refl; terms = record { some = omega arith; lowest = (one-dvd 1, one-dvd 1, λ d one other. one) } };
-})
+pub one-is : IsSpelledNumber (record { num = 1; den = 1 })
+one-is = record {
+  text = codes "1";
+  spelled = record {
+    form = inl (record { digits = record { some = omega arith; each = refl }; few = omega arith });
+    value = record { value = refl; terms = record { some = omega arith; lowest = (one-dvd 1, one-dvd 1, λ d one other. one) } };
+  };
+}

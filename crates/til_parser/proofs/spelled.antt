@@ -1,2 +1,0 @@
-pub mod SpelledLeaves
-pub mod SpelledTrees
