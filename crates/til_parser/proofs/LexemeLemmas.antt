@@ -1,8 +1,10 @@
 -- The tokens that are left.
 use Rattle.til_parser.proofs.rules.Common.{◌≡◌, ◌-◌, ◌≤◌, ◌⊎◌, inl, inr, ◌∙◌, ℕ, true, false, cond, List, [], ◌∷◌, length, All, length-append, refl, ap, subst, rules, arith}
 use Rattle.til_parser.proofs.rules.Common.{All-head, Outcome, stopped, too_deep, tells, HasForm, IsBetween, TokenKind, AstType, Lexeme, lexemes_of, same_kind, begins_type}
-use Rattle.std.proofs.Common.{◌==◌, map, slice_index_or, IsUtf8, IsCharBoundary}
+use Rattle.til_parser.proofs.rules.Common.{between_marks, ◌++◌}
+use Rattle.std.proofs.Common.{◌==◌, map, slice_index_or, IsUtf8, IsCharBoundary, take}
 use Rattle.std.proofs.lemmas.{List.length-map, Str.IsCharBoundary-at_seam, Str.IsUtf8-append}
+use Rattle.std.proofs.Math.Seq.{take-append_seam}
 use denote.Enum.Bare.{same_true}
 use Rattle.tydi_reading.specs.declared.fault.Fault.TheVariants as reading
 use Rattle.til_lexer.specs.Spelling.{own_text}
@@ -49,6 +51,11 @@ TooDeep-first text (t ∷ tokens) token formed some same =
     ap (λ b. stopped (cond b reading.TooDeep reading.Refused) (lexemes_of text (t ∷ tokens))) test
 
 -- ---- what stands between two marks
+
+pub between_marks-of : (mark : ℕ) (text : List ℕ) → between_marks (mark ∷ text ++ mark ∷ []) ≡ text
+between_marks-of mark text =
+    let size : length (mark ∷ text ++ mark ∷ []) - 2 ≡ length text = omega (arith, length-append text (mark ∷ [])) in
+    ap (λ n. take n (text ++ mark ∷ [])) size ∙ take-append_seam text (mark ∷ [])
 
 -- where a text between two marks is cut
 pub record AreCuts (text : List ℕ) : Type 0 where

@@ -3,7 +3,7 @@ use Rattle.til_parser.proofs.rules.Common.{◌≡◌, ℕ, ◌≤◌, suc, List,
 use Rattle.til_parser.proofs.rules.Common.{AstNamespace, PortsWithin, StreamletWithin, KindWithin, DeclsWithin, Ltype, null, depth, depth_of_parts, plain}
 use Rattle.std.proofs.Common.{flat_map, IsTrue}
 use Rattle.til_parser.specs.declared.tree.{AstBody.AstBody, AstDecl.AstDecl, AstEnd.AstEnd, AstPort.AstPort, AstPorts.AstPorts, AstStmt.AstStmt}
-use Rattle.til_parser.specs.Canonical.{◌⁀◌, but_first, names_text, type_text, more_parts_text, port_text, ports_text, second_text, end_text, stmt_text, body_text, streamlet_text}
+use Rattle.til_parser.specs.Canonical.{but_first, names_text, type_text, more_parts_text, port_text, ports_text, second_text, end_text, stmt_text, body_text, streamlet_text}
 use Rattle.til_parser.specs.Canonical.{quoted_text, kind_text, decl_text, namespace_text}
 use Rattle.til_parser.specs.Laws.{AreAlike}
 use Rattle.til_parser.specs.Same.{Alike, SameName, SameNames, SameType, SameParts, SamePort, SameSecond, SameEnd, SameStmt, SameBody, SamePorts, SameKind, SameDecl, SameNamespace}
@@ -62,11 +62,9 @@ mutual
   type-kept null null s = record { text = refl; is = λ is. is; within = λ levels w. w }
   type-kept (bits one) (bits other) s = record { text = ap (λ n. type_text (bits n)) s; is = subst IsShort s; within = λ levels w. w }
   type-kept (group ones) (group others) s =
-      let k = all_parts-kept ones others s in
-      record { text = ap (λ l. codes "Group(" ⁀ but_first l ⁀ codes ")") k.text; is = k.is; within = λ levels w. omega (arith, k.within (depth_of_parts ones)) }
+      let k = all_parts-kept ones others s in record { text = cc; is = k.is; within = λ levels w. omega (arith, k.within (depth_of_parts ones)) }
   type-kept (union ones) (union others) s =
-      let k = all_parts-kept ones others s in
-      record { text = ap (λ l. codes "Union(" ⁀ but_first l ⁀ codes ")") k.text; is = k.is; within = λ levels w. omega (arith, k.within (depth_of_parts ones)) }
+      let k = all_parts-kept ones others s in record { text = cc; is = k.is; within = λ levels w. omega (arith, k.within (depth_of_parts ones)) }
   type-kept (stream element user settings) (stream element' user' settings') s =
       let e = type-kept element element' s.0 in
       let u = type-kept user user' s.1 in
@@ -79,11 +77,8 @@ mutual
   all_parts-kept (part name ltype more) (part name' ltype' more') s =
       let t = type-kept ltype ltype' s.1 in
       let m = all_parts-kept more more' s.2 in
-      record {
-        text = cc;
-        is = λ is. ((name-kept name name' s.0).is is.0, t.is is.1, m.is is.2);
-        within = λ levels w. omega (arith, t.within levels, m.within levels);
-      }
+      let n = name-kept name name' s.0 in
+      record { text = cc; is = λ is. (n.is is.0, t.is is.1, m.is is.2); within = λ levels w. omega (arith, t.within levels, m.within levels) }
   all_parts-kept _ _ s = absurd s
 
 -- ---- bodies
@@ -119,17 +114,15 @@ body-kept _ _ s = absurd s
 port-kept : (one other : AstPort) → SamePort one other → Kept port_text IsPort (λ levels port. depth (plain port.ltype) ≤ levels) one other
 port-kept one other s =
     let t = type-kept (plain one.ltype) (plain other.ltype) s.ltype in
-    record {
-      text = cc;
-      is = λ is. record { doc = subst IsDoc s.doc is.doc; name = (name-kept one.name other.name s.name).is is.name; ltype = t.is is.ltype };
-      within = t.within;
-    }
+    let n = name-kept one.name other.name s.name in
+    record { text = cc; is = λ is. record { doc = subst IsDoc s.doc is.doc; name = n.is is.name; ltype = t.is is.ltype }; within = t.within }
 
 ports-kept : (ones others : List AstPort) → Alike SamePort ones others → Kept ports_text (EachIs IsPort) PortsWithin ones others
 ports-kept [] [] s = record { text = refl; is = λ is. is; within = λ levels w. w }
 ports-kept (one ∷ ones) (other ∷ others) s =
-    let k = each-kept (codes ", ") port-kept (one ∷ ones) (other ∷ others) s in
-    record { text = ap (λ l. codes "(" ⁀ but_first l ⁀ codes ")") k.text; is = k.is; within = k.within }
+    let p = port-kept one other s.0 in
+    let k = each-kept (codes ", ") port-kept ones others s.1 in
+    record { text = cc; is = λ is. (p.is is.0, k.is is.1); within = λ levels w. (p.within levels w.0, k.within levels w.1) }
 ports-kept _ _ s = absurd s
 
 streamlet-kept : (one other : AstPorts) → SamePorts one other → Kept streamlet_text ArePorts StreamletWithin one other
@@ -158,11 +151,8 @@ kind-kept name _ _ s = absurd s
 decl-kept : (one other : AstDecl) → SameDecl one other → Kept decl_text IsDecl (λ levels decl. KindWithin levels decl.kind) one other
 decl-kept one other s =
     let k = kind-kept one.name.name one.kind other.kind s.kind in
-    record {
-      text = cc;
-      is = λ is. record { doc = subst IsDoc s.doc is.doc; name = (name-kept one.name other.name s.name).is is.name; kind = k.is is.kind };
-      within = k.within;
-    }
+    let n = name-kept one.name other.name s.name in
+    record { text = cc; is = λ is. record { doc = subst IsDoc s.doc is.doc; name = n.is is.name; kind = k.is is.kind }; within = k.within }
 
 namespace-kept : (one other : AstNamespace) → SameNamespace one other
     → Kept namespace_text IsNamespace (λ levels namespace. DeclsWithin levels namespace.decls) one other

@@ -14,7 +14,7 @@ use Rattle.til_parser.specs.{Numbers.digits_before, Grammar.Arguments, Grammar.G
 use Rattle.til_parser.specs.Trees.{HasName, PathWith, IsDoc, IsQuote, FitsBetween, IsShort, IsSpelledNumber, AreSettings, TypeWith, PartsWith, PortWith, SecondWith, EndWith}
 use Rattle.til_parser.specs.Trees.{StmtWith, BodyWith, StreamletWith, KindWith, DeclWith, NamespaceWith}
 use Rattle.til_parser.proofs.numbers.NumberLemmas.{AreParts-number, cut_at, read_on-below}
-use Rattle.til_parser.proofs.printed.PrintedLeaves.{between_marks-of}
+use Rattle.til_parser.proofs.LexemeLemmas.{between_marks-of}
 use Rattle.til_parser.specs.declared.tree.{AstBody.AstBody, AstDecl.AstDecl, AstEnd.AstEnd, AstPort.AstPort, AstPorts.AstPorts, AstStmt.AstStmt}
 use Rattle.til_parser.specs.Tree.{bits, group, union, stream, path, Parts, no_parts, part, Settings}
 use Rattle.til_parser.proofs.rules.StreamFields.{one_or_two}

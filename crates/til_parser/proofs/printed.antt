@@ -1,4 +1,3 @@
 pub mod PrintedForms
-pub mod PrintedLeaves
 pub mod PrintedTrees
 pub mod ReadAgain

@@ -76,15 +76,9 @@ seen f printed = made f (λ a ts is. is) printed
 pub at_end : {A : Type 0} {P : A → Form} {last : TokenKind} {text : List ℕ} → Printed last text P → Printed last (text ++ []) P
 at_end {P = P} {last = last} {text = text} printed = subst (λ l. Printed last l P) (sym (append-nil text)) printed
 
--- a kind that goes on with more
-pub ends_as : {A : Type 0} {P : A → Form} {last : TokenKind} {text : List ℕ} (wide : TokenKind)
-    → ((rest : List ℕ) → Stops wide rest → Stops last rest) → Printed last text P → Printed wide text P
-ends_as wide less printed =
-    record { tokens = printed.tokens; before = λ rest more stops. printed.before rest more (less rest stops); reads = printed.reads }
-
 -- what goes on with nothing stands where a word may
 pub worded : {A : Type 0} {P : A → Form} {text : List ℕ} → Printed free text P → Printed kinds.Word text P
-worded printed = ends_as kinds.Word (λ _ _. refl) printed
+worded printed = record { tokens = printed.tokens; before = λ rest more stops. printed.before rest more refl; reads = printed.reads }
 
 -- the one and then the other
 pub followed : {A B : Type 0} {P : A → Form} {Q : B → Form} {last next : TokenKind} {one other : List ℕ}
@@ -159,17 +153,18 @@ one_match kind spelling [] are = absurd cc
 one_match kind spelling (lexeme ∷ []) are = let first = ap (λ l. get_or l 0 (kind, spelling)) are in (lexeme, refl, ap (λ p. p.0) first, ap (λ p. p.1) first)
 one_match kind spelling (lexeme ∷ next ∷ ts) are = absurd cc
 
--- a token, and what it is read as
-pub one_token : {A : Type 0} {Is : A → Lexeme → Type 0} (kind : TokenKind) (spelling : List ℕ) → HasForm kind spelling
-    → ((lexeme : Lexeme) → lexeme.kind ≡ kind → lexeme.spelling ≡ spelling → (a : A) × Is a lexeme) → Printed kind spelling (λ a. One (Is a))
-one_token kind spelling form reads = record {
+-- a token, which goes on with no more than one of the last kind, and what it is read as
+pub one_token : {A : Type 0} {Is : A → Lexeme → Type 0} {last : TokenKind} (kind : TokenKind) (spelling : List ℕ) → HasForm kind spelling
+    → ((byte : ℕ) → runs_on last byte ≡ false → runs_on kind byte ≡ false)
+    → ((lexeme : Lexeme) → lexeme.kind ≡ kind → lexeme.spelling ≡ spelling → (a : A) × Is a lexeme) → Printed last spelling (λ a. One (Is a))
+one_token {last = last} kind spelling form less reads = record {
   tokens = (kind, spelling) ∷ [];
   before = λ rest more stops s. record {
     gap = [];
     pieces = record { kind = kind; spelling = spelling; gap = s.gap } ∷ s.pieces;
     is = ap (λ l. spelling ++ l) s.is ∙ sym (append_assoc spelling s.gap (spelled_text s.pieces));
     space = refl;
-    spelled = (record { form = form; space = s.space }, apart_from kind spelling s.gap s.pieces s.spelled (subst (Stops kind) s.is stops), s.spelled);
+    spelled = (record { form = form; space = s.space }, apart_from kind spelling s.gap s.pieces s.spelled (less _ (subst (Stops last) s.is stops)), s.spelled);
     made = λ place. ap (λ l. (kind, spelling) ∷ l) (s.made (place_past place (spelling ++ s.gap)));
   };
   reads = λ ts are.
@@ -186,16 +181,12 @@ nothing = record { tokens = []; before = λ rest more stops s. s; reads = λ ts 
     no_tokens [] are = refl
     no_tokens (t ∷ ts) are = absurd cc
 
--- a symbol
-pub symbol : (kind : TokenKind) (spelling : List ℕ) → HasForm kind spelling → Fixed kind spelling (Of kind)
-symbol kind spelling form = one_token kind spelling form (λ lexeme kind_is spelling_is. (tt, kind_is))
-
--- one that goes on with nothing
-pub mark : (kind : TokenKind) (spelling : List ℕ) → HasForm kind spelling → ((byte : ℕ) → runs_on kind byte ≡ false) → Fixed free spelling (Of kind)
-mark kind spelling form stops = ends_as free (λ rest _. stops (get_or rest 0 0)) (symbol kind spelling form)
+-- a symbol that goes on with nothing
+pub symbol : (kind : TokenKind) (spelling : List ℕ) → HasForm kind spelling → ((byte : ℕ) → runs_on kind byte ≡ false) → Fixed free spelling (Of kind)
+symbol kind spelling form stops = one_token kind spelling form (λ byte _. stops byte) (λ lexeme kind_is spelling_is. (tt, kind_is))
 
 pub word : (spelling : List ℕ) → has_name_form spelling ≡ true → Fixed kinds.Word spelling (Word spelling)
-word spelling form = one_token kinds.Word spelling form (λ lexeme kind_is spelling_is. (tt, record { kind = kind_is; text = spelling_is }))
+word spelling form = one_token kinds.Word spelling form (λ _ s. s) (λ lexeme kind_is spelling_is. (tt, record { kind = kind_is; text = spelling_is }))
 
 -- a word with a space after it
 pub keyword : (spelling : List ℕ) → has_name_form spelling ≡ true → Fixed free (spelling ++ codes " ") (Word spelling)
@@ -207,19 +198,19 @@ between_words spelling form = indented (codes " ") refl (keyword spelling form)
 
 -- a symbol with a space after it
 pub comma : Fixed free (codes ", ") (Of kinds.Comma)
-comma = spaced 32 refl refl (symbol kinds.Comma (codes ",") refl)
+comma = spaced 32 refl refl (symbol kinds.Comma (codes ",") refl (λ _. refl))
 
 pub colon : Fixed free (codes ": ") (Of kinds.Colon)
-colon = spaced 32 refl refl (symbol kinds.Colon (codes ":") refl)
+colon = spaced {last = kinds.Colon} 32 refl refl (one_token kinds.Colon (codes ":") refl (λ _ s. s) (λ lexeme kind_is spelling_is. (tt, kind_is)))
 
 -- and before it
 pub equals : Fixed free (codes " = ") (Of kinds.Equals)
-equals = indented (codes " ") refl (spaced 32 refl refl (symbol kinds.Equals (codes "=") refl))
+equals = indented (codes " ") refl (spaced 32 refl refl (symbol kinds.Equals (codes "=") refl (λ _. refl)))
 
 -- in round brackets
 pub bracketed : {A : Type 0} {P : A → Form} {last : TokenKind} {text : List ℕ} → runs_on last 41 ≡ false → Printed last text P
     → Printed free (codes "(" ++ (text ++ codes ")")) (λ a. Bracketed (P a))
-bracketed apart inside = prefixed (mark kinds.OpenParen (codes "(") refl (λ _. refl)) (suffixed inside (mark kinds.CloseParen (codes ")") refl (λ _. refl)) apart)
+bracketed apart inside = prefixed (symbol kinds.OpenParen (codes "(") refl (λ _. refl)) (suffixed inside (symbol kinds.CloseParen (codes ")") refl (λ _. refl)) apart)
 
 -- a word, a colon and what follows it
 pub labelled : {A : Type 0} {P : A → Form} {last : TokenKind} {text : List ℕ} (spelling : List ℕ) → has_name_form spelling ≡ true

@@ -1,25 +1,29 @@
--- Types, bodies, declarations and namespaces are printed so that they are read again.
-use Rattle.til_parser.proofs.rules.Common.{◌≡◌, ℕ, Bool, true, false, List, [], ◌∷◌, ◌++◌, Option, Some, None, refl, sym, subst, codes, list_all, has_name_form, TokenKind, ◌⋯◌}
-use Rattle.til_parser.proofs.rules.Common.{Each, EachIs, AstType, AstKind, AstName, AstNamespace, AstPath, Form, Bracketed, Commas, Doc, Name, Of, Path, Word, SpellsType}
+-- Names, numbers, marked texts, lists, and from them whole trees are printed so that they are read again.
+use Rattle.til_parser.proofs.rules.Common.{◌≡◌, ℕ, ◌^◌, ◌<◌, inl, true, false, List, [], ◌∷◌, ◌++◌, Option, Some, None, codes, refl, sym, ap, subst, ◌∙◌, arith, append-nil}
+use Rattle.til_parser.proofs.rules.Common.{list_all, is_name, has_name_form, HasForm, TokenKind, AstName, ◌⋯◌, Each, EachIs, Form, Doc, IsMarked, Level, Name, Number, One, Path}
+use Rattle.til_parser.proofs.rules.Common.{Quoted, Whole, Lexeme, between_marks, Bool, AstType, AstKind, AstNamespace, AstPath, Bracketed, Commas, Of, Word, SpellsType}
 use Rattle.til_parser.proofs.rules.Common.{SpellsParts, SpellsPort, SpellsPorts, SpellsEnd, SpellsStmt, SpellsBody, SpellsStreamletPorts, SpellsKind, SpellsDecl, SpellsNamespace}
 use Rattle.til_parser.proofs.rules.Common.{direction_word, sync_word, truth_word, way_word, Ltype, null, plain, all_arguments}
-use Rattle.std.proofs.Common.{flat_map}
-use Rattle.tydi_base.specs.Name.{is_name_byte}
+use Rattle.std.proofs.Common.{flat_map, decimal}
+use Rattle.std.proofs.lemmas.Bool.Decides.{nat_tests}
+use Rattle.std.proofs.lemmas.Fmt.{decimal_nonempty, digits_decimal, digits_value-decimal, length-decimal-le}
+use Rattle.tydi_base.specs.{Frac.Fraction, Level.IsLevel, Name.is_name_byte}
+use Rattle.tydi_base.proofs.DecimalLaws.{own}
 use Rattle.til_lexer.specs.{Spans.is_space, Spelling.runs_on}
 use Rattle.til_lexer.specs.declared.token.TokenKind.TheVariants as kinds
+use Rattle.til_parser.specs.Canonical.{doc_text, names_text, number_text, quoted_text, type_text, but_first, more_parts_text, port_text, ports_text, stmt_text, spaced_text}
+use Rattle.til_parser.specs.Canonical.{body_text, streamlet_text, kind_text, decl_text, doc_line, namespace_text, second_text}
+use Rattle.til_parser.specs.Grammar.{LastComma, Arguments}
+use Rattle.til_parser.specs.Same.{Alike, SameName, SameNames, SameType, SameParts, SamePort, SameEnd, SameStmt, SameBody, SamePorts, SameKind, SameDecl, SameNamespace}
+use Rattle.til_parser.specs.Trees.{HasName, IsPath, IsDoc, IsQuote, IsShort, IsSpelledNumber, AreSettings, IsType, AreParts, IsPort, IsEnd, IsStmt, IsBody, ArePorts, IsKind}
+use Rattle.til_parser.specs.Trees.{IsDecl, IsNamespace, IsSecond}
+use Rattle.til_parser.proofs.texts.NumberTextLemmas.{number_text-is, power_fits}
+use Rattle.til_parser.proofs.printed.PrintedForms.{Fixed, Printed, at_end, followed, free, joined, made, nothing, one_token, prefixed, seen, spaced, between_words, bracketed}
+use Rattle.til_parser.proofs.printed.PrintedForms.{colon, comma, equals, indented, keyword, labelled, led, suffixed, symbol, word, worded}
 use Rattle.til_parser.specs.declared.ltype.AstSync.{AstSync}
 use Rattle.til_parser.specs.declared.tree.{AstBody.AstBody, AstDecl.AstDecl, AstEnd.AstEnd, AstPort.AstPort, AstPorts.AstPorts, AstStmt.AstStmt}
-use Rattle.til_parser.specs.Canonical.{type_text, but_first, more_parts_text, port_text, ports_text, end_text, stmt_text, spaced_text, body_text, streamlet_text, kind_text}
-use Rattle.til_parser.specs.Canonical.{decl_text, doc_line, names_text, namespace_text}
-use Rattle.til_parser.specs.Grammar.{Arguments}
-use Rattle.til_parser.specs.Same.{Alike, SameName, SameNames, SameType, SameParts, SamePort, SameEnd, SameStmt, SameBody, SamePorts, SameKind, SameDecl, SameNamespace}
 use Rattle.til_parser.specs.Tree.{bits, group, union, stream, path, Parts, no_parts, part, Settings}
-use Rattle.til_parser.specs.Trees.{HasName, IsPath, IsDoc, AreSettings, IsType, AreParts, IsPort, IsEnd, IsStmt, IsBody, ArePorts, IsKind, IsDecl, IsNamespace}
-use Rattle.til_parser.proofs.PlainLemmas.{of_plain, plain-of_plain}
-use Rattle.til_parser.proofs.printed.PrintedForms.{Fixed, Printed, at_end, between_words, bracketed, colon, comma, equals, followed, free, indented, joined, keyword, labelled, led}
-use Rattle.til_parser.proofs.printed.PrintedForms.{made, mark, nothing, prefixed, seen, spaced, suffixed, symbol, word, worded}
-use Rattle.til_parser.proofs.printed.PrintedLeaves.{Again, printed_list, printed_doc, printed_each, printed_level, printed_name, printed_number, printed_path, printed_quoted}
-use Rattle.til_parser.proofs.printed.PrintedLeaves.{printed_whole, with_no_comma}
+use Rattle.til_parser.proofs.{PlainLemmas.of_plain, PlainLemmas.plain-of_plain, LexemeLemmas.between_marks-of}
 use Rattle.til_parser.proofs.rules.StreamFields.{all_arguments-all, all_arguments-apart}
 use Rattle.til_parser.specs.declared.ltype.AstSync.TheVariants as syncs
 use Rattle.til_parser.specs.declared.tree.AstBody.TheVariants as bodies
@@ -41,6 +45,82 @@ use Rattle.til_parser.proofs.printed.PrintedForms.{prefixed, spaced, suffixed, s
 use Rattle.til_parser.proofs.printed.PrintedLeaves.{Again, printed_commas, printed_doc, printed_each, printed_level, printed_name, printed_number, printed_path}
 use Rattle.til_parser.proofs.printed.PrintedLeaves.{printed_quoted, printed_whole, with_no_comma}
 use Rattle.til_parser.proofs.rules.StreamFields.{all_arguments-all, all_arguments-apart}
+
+-- what is read again, which is the same as this
+abbrev Again : {X : Type 0} → (X → X → Type 0) → X → Type 0
+Again {X} Same x = (again : X) × Same x again
+
+-- ---- names
+
+name_form : (name : List ℕ) → is_name name ≡ true → has_name_form name ≡ true
+name_form name is = grind (arith, nat_tests)
+
+printed_name : (name : AstName) → HasName name → Printed kinds.Word name.name (λ (a : Again SameName name). Name a.0)
+printed_name name named = one_token kinds.Word name.name (name_form name.name named) (λ _ s. s) (λ lexeme kind_is text_is.
+    ((record { name = name.name; place = lexeme.place }, refl), record { kind = kind_is; text = text_is; place = refl; named = named }))
+
+-- ---- numbers
+
+printed_whole : (whole : ℕ) → IsShort whole → Fixed kinds.Number (decimal whole) (Whole whole)
+printed_whole whole below =
+    let fits : whole < 2 ^ 64 = power_fits 18 whole (omega arith) below in
+    let each = digits_decimal own whole fits in
+    one_token kinds.Number (decimal whole)
+    (inl (record { digits = record { some = decimal_nonempty whole fits; each = each }; few = length-decimal-le 18 whole (omega arith) below fits })) (λ _ s. s)
+    (λ lexeme kind_is text_is. (tt, record { kind = kind_is; digits = rw text_is each; value = rw text_is (sym (digits_value-decimal own whole fits)) }))
+
+printed_level : (level : ℕ) → IsLevel level → Fixed kinds.Number (decimal level) (Level level)
+printed_level level within = made (λ a. a) (λ a ts is. record { whole = is; within = within }) (printed_whole level (let high = within.1 in omega arith))
+
+printed_number : (number : Fraction) → IsSpelledNumber number → Fixed kinds.Number (number_text number) (Number number)
+printed_number number is =
+    let shown = number_text-is number is.text is.spelled in
+    one_token kinds.Number (number_text number) shown.form (λ _ s. s) (λ lexeme kind_is text_is. (tt, record { kind = kind_is; value = rw text_is shown.value }))
+
+-- ---- marked texts
+
+printed_marked : (kind : TokenKind) (mark : ℕ) (text : List ℕ) → HasForm kind (mark ∷ text ++ mark ∷ []) → ((byte : ℕ) → runs_on kind byte ≡ false)
+    → Fixed free (mark ∷ text ++ mark ∷ []) (One (IsMarked kind text))
+printed_marked kind mark text form stops = one_token kind (mark ∷ text ++ mark ∷ []) form (λ byte _. stops byte)
+    (λ lexeme kind_is text_is. (tt, record { kind_is = kind_is; text_is = sym (ap between_marks text_is ∙ between_marks-of mark text) }))
+
+printed_quoted : (text : List ℕ) → IsQuote text → Fixed free (quoted_text text) (Quoted text)
+printed_quoted text is = printed_marked kinds.Quoted 34 text (record { inside = text; marked = refl; lacks = is.lacks; utf8 = is.utf8 }) (λ _. refl)
+
+-- documentation, and a byte of white space after it
+printed_doc : (doc : Option (List ℕ)) (gap : ℕ) → is_space gap ≡ true → IsDoc doc → Fixed free (doc_text doc (gap ∷ [])) (Doc doc)
+printed_doc None gap space is = nothing
+printed_doc (Some text) gap space is =
+    spaced gap space refl (printed_marked kinds.Doc 35 text (record { inside = text; marked = refl; lacks = is.lacks; utf8 = is.utf8 }) (λ _. refl))
+
+-- ---- lists
+
+with_no_comma : (P : Form) (ts : List Lexeme) → P ts → (P ⋯ LastComma) ts
+with_no_comma P ts is = record { front = ts; back = []; all = sym (append-nil ts); begins = is; ends = inl refl }
+
+module _ {X : Type 0} (Same : X → X → Type 0) (Is : X → Type 0) (Spell : X → Form) (text : X → List ℕ) where
+  -- items one after another, each with white space at its end
+  printed_each : (all : List X) → ((one : X) → Is one → Printed free (text one) (λ (a : Again Same one). Spell a.0))
+      → EachIs Is all → Printed free (flat_map text all) (λ (a : Again (Alike Same) all). Each Spell a.0)
+  printed_each [] printed are = seen (λ a. ([], tt)) nothing
+  printed_each (one ∷ all) printed are = seen (λ a. (a.0.0 ∷ a.1.0, (a.0.1, a.1.1))) (followed (printed one are.0) (printed_each all printed are.1) (λ _ _. refl))
+
+  module _ {byte second : ℕ} {Separator : Form} (All : List X → Form) (alone : (x : X) (ts : List Lexeme) → Spell x ts → All (x ∷ []) ts)
+      (before : (x next : X) (more : List X) (ts : List Lexeme) → (Spell x ⋯ Separator ⋯ All (next ∷ more)) ts → All (x ∷ next ∷ more) ts)
+      (separator : Fixed free (byte ∷ second ∷ []) Separator) (apart : runs_on kinds.Word byte ≡ false)
+      (printed : (one : X) → Is one → Printed kinds.Word (text one) (λ (a : Again Same one). Spell a.0)) where
+    -- items with a separator of two bytes between each two
+    printed_list : (one : X) (all : List X) → EachIs Is (one ∷ all)
+        → Printed kinds.Word (text one ++ flat_map (λ next. (byte ∷ second ∷ []) ++ text next) all)
+        (λ (a : Again Same one × Again (Alike Same) all). All (a.0.0 ∷ a.1.0))
+    printed_list one [] are = at_end (made (λ a. (a, ([], tt))) (λ a ts is. alone a.0 ts is) (printed one are.0))
+    printed_list one (next ∷ all) are = made (λ a. (a.0, (a.1.0.0 ∷ a.1.1.0, (a.1.0.1, a.1.1.1)))) (λ a ts is. before a.0.0 a.1.0.0 a.1.1.0 ts is)
+        (joined (printed one are.0) (prefixed separator (printed_list next all are.1)) apart)
+
+printed_path : (names : List AstName) → IsPath names → Printed kinds.Word (names_text names) (λ (a : Again SameNames names). Path a.0)
+printed_path [] is = absurd (let some = is.some in omega arith)
+printed_path (name ∷ names) is = seen (λ a. (a.0.0 ∷ a.1.0, (a.0.1, a.1.1)))
+    (printed_list SameName HasName Name (λ name. name.name) Path (λ _ _ s. s) (λ _ _ _ _ s. s) (symbol kinds.DoubleColon (codes "::") refl (λ _. refl)) refl printed_name name names is.each)
 
 -- a thing with this text is read again, where its last token goes on as a word does at most
 abbrev PrintedAs : {X : Type 0} → List ℕ → (X → X → Type 0) → (X → Form) → X → Type 0
@@ -84,23 +164,13 @@ printed_stream element user settings are of_element of_user =
     let nested = argument (codes "dimensionality") refl refl (printed_whole settings.dims are.dims) tied in
     let counted = argument (codes "throughput") refl refl (printed_number settings.throughput are.throughput) nested in
     let arguments = made {Q = λ (a : Again SameType element × Again SameType user). Arguments (SpellsType a.0.0) (SpellsType a.1.0) a.1.0 settings} (λ a. a)
-    (λ a ts is. record {
-      order = all_arguments;
-      apart = all_arguments-apart;
-      others = λ argument none. absurd (none (all_arguments-all argument));
-      written = is;
-    })
+    (λ a ts is. record { order = all_arguments; apart = all_arguments-apart; others = λ argument none. absurd (none (all_arguments-all argument)); written = is })
     (joined (labelled (codes "data") refl of_element) (prefixed comma counted) refl) in
     seen (λ a. (stream a.0.0 a.1.0 settings, (a.0.1, a.1.1, refl))) (called (codes "Stream") refl refl arguments)
 
-abbrev PrintedPart : AstName → Ltype → Type 0
-PrintedPart name ltype = Printed kinds.Word (name.name ++ (codes ": " ++ type_text ltype))
-    (λ (a : Again SameName name × Again SameType ltype). Name a.0.0 ⋯ Of kinds.Colon ⋯ SpellsType a.1.0)
-
--- a part, and those after it
-abbrev PrintedParts : AstName → Ltype → Parts → Type 0
-PrintedParts name ltype more = Printed kinds.Word ((name.name ++ (codes ": " ++ type_text ltype)) ++ more_parts_text more)
-    (λ (a : (Again SameName name × Again SameType ltype) × Again SameParts more). SpellsParts (part a.0.0.0 a.0.1.0 a.1.0))
+-- a part, which is read again
+abbrev AgainPart : AstName → Ltype → Type 0
+AgainPart name ltype = Again SameName name × Again SameType ltype
 
 mutual
   printed_type : (one : Ltype) → IsType one → PrintedType one
@@ -117,7 +187,10 @@ mutual
       (printed_more name ltype more (joined (printed_name name are.0) (prefixed colon (printed_type ltype are.1)) refl) are.2)
 
   -- a part with those after it
-  printed_more : (name : AstName) (ltype : Ltype) (more : Parts) → PrintedPart name ltype → AreParts more → PrintedParts name ltype more
+  printed_more : (name : AstName) (ltype : Ltype) (more : Parts)
+      → Printed kinds.Word (name.name ++ (codes ": " ++ type_text ltype)) (λ (a : AgainPart name ltype). Name a.0.0 ⋯ Of kinds.Colon ⋯ SpellsType a.1.0) → AreParts more
+      → Printed kinds.Word ((name.name ++ (codes ": " ++ type_text ltype)) ++ more_parts_text more)
+      (λ (a : AgainPart name ltype × Again SameParts more). SpellsParts (part a.0.0.0 a.0.1.0 a.1.0))
   printed_more name ltype no_parts one are = at_end (made (λ a. (a, (no_parts, tt))) (λ a ts is. with_no_comma _ ts is) one)
   printed_more name ltype (part next other more) one are =
       let rest = printed_more next other more (joined (printed_name next are.0) (prefixed colon (printed_type other are.1)) refl) are.2 in
@@ -148,31 +221,29 @@ printed_ports (first ∷ more) are = seen (λ a. (a.0.0 ∷ a.1.0, (a.0.1, a.1.1
 -- ---- statements and bodies
 
 semicolon : Fixed free (codes ";") (Of kinds.Semicolon)
-semicolon = mark kinds.Semicolon (codes ";") refl (λ _. refl)
+semicolon = symbol kinds.Semicolon (codes ";") refl (λ _. refl)
 
-end_printed : (first : AstName) (second : Option AstName) → IsEnd (record { first = first; second = second })
-    → PrintedAs (end_text (record { first = first; second = second })) SameEnd SpellsEnd (record { first = first; second = second })
-end_printed first None is = seen (λ a. (record { first = a.0.0; second = None }, (a.0.1, tt))) (followed (printed_name first is.0) nothing (λ _ stops. stops))
-end_printed first (Some name) is = seen (λ a. (record { first = a.0.0; second = Some a.1.0 }, (a.0.1, a.1.1)))
-    (joined (printed_name first is.0) (prefixed (mark kinds.Point (codes ".") refl (λ _. refl)) (printed_name name is.1)) refl)
-
-printed_end : (end : AstEnd) → IsEnd end → PrintedAs (end_text end) SameEnd SpellsEnd end
-printed_end end is = end_printed end.first end.second is
+printed_end : (first : AstName) (second : Option AstName) → HasName first → IsSecond second
+    → PrintedAs (first.name ++ second_text second) SameEnd SpellsEnd (record { first = first; second = second })
+printed_end first None one other = seen (λ a. (record { first = a.0.0; second = None }, (a.0.1, a.1))) (followed (printed_name first one) nothing (λ _ stops. stops))
+printed_end first (Some name) one other = seen (λ a. (record { first = a.0.0; second = Some a.1.0 }, (a.0.1, a.1.1)))
+    (joined (printed_name first one) (prefixed (symbol kinds.Point (codes ".") refl (λ _. refl)) (printed_name name other)) refl)
 
 printed_stmt : (stmt : AstStmt) → IsStmt stmt → Printed free (stmt_text stmt) (λ (a : Again SameStmt stmt). SpellsStmt a.0)
 printed_stmt (stmts.Instance name streamlet) is = seen (λ a. (stmts.Instance a.0.0 (record { names = a.1.0 }), (a.0.1, a.1.1)))
     (joined (printed_name name is.0) (prefixed equals (suffixed (printed_path streamlet.names is.1) semicolon refl)) refl)
 printed_stmt (stmts.Link first second) is =
-    let dashes = indented (codes " ") refl (spaced 32 refl refl (symbol kinds.DoubleDash (codes "--") refl)) in
+    let link_end = λ (end : AstEnd) (is : IsEnd end). printed_end end.first end.second is.0 is.1 in
+    let dashes = indented (codes " ") refl (spaced 32 refl refl (symbol kinds.DoubleDash (codes "--") refl (λ _. refl))) in
     seen (λ a. (stmts.Link a.0.0 a.1.0, (a.0.1, a.1.1)))
-    (joined (printed_end first is.0) (prefixed dashes (suffixed (printed_end second is.1) semicolon refl)) refl)
+    (joined (link_end first is.0) (prefixed dashes (suffixed (link_end second is.1) semicolon refl)) refl)
 
 printed_body : (body : AstBody) → IsBody body → PrintedAs (body_text body) SameBody SpellsBody body
 printed_body (bodies.Linked text) is = seen (λ a. (bodies.Linked text, refl)) (worded (printed_quoted text is))
 printed_body (bodies.Structural all) is =
     let inside = printed_each SameStmt IsStmt SpellsStmt spaced_text all (λ stmt s. indented (codes " ") refl (printed_stmt stmt s)) is in
-    let close = indented (codes " ") refl (mark kinds.CloseBrace (codes "}") refl (λ _. refl)) in
-    seen (λ a. (bodies.Structural a.0, a.1)) (worded (prefixed (mark kinds.OpenBrace (codes "{") refl (λ _. refl)) (suffixed inside close refl)))
+    let close = indented (codes " ") refl (symbol kinds.CloseBrace (codes "}") refl (λ _. refl)) in
+    seen (λ a. (bodies.Structural a.0, a.1)) (worded (prefixed (symbol kinds.OpenBrace (codes "{") refl (λ _. refl)) (suffixed inside close refl)))
 
 -- ---- declarations
 
@@ -226,8 +297,8 @@ printed_decl decl is =
 printed_namespace : (one : AstNamespace) → IsNamespace one → Printed free (namespace_text one) (λ (a : Again SameNamespace one). SpellsNamespace a.0)
 printed_namespace one is =
     let inside = printed_each SameDecl IsDecl SpellsDecl decl_text one.decls printed_decl is.decls in
-    let open_brace = indented (codes " ") refl (spaced 10 refl refl (symbol kinds.OpenBrace (codes "{") refl)) in
-    let braced = prefixed open_brace (suffixed inside (spaced 10 refl refl (symbol kinds.CloseBrace (codes "}") refl)) refl) in
+    let open_brace = indented (codes " ") refl (spaced 10 refl refl (symbol kinds.OpenBrace (codes "{") refl (λ _. refl))) in
+    let braced = prefixed open_brace (suffixed inside (spaced 10 refl refl (symbol kinds.CloseBrace (codes "}") refl (λ _. refl))) refl) in
     seen (λ a. (record { doc = one.doc; path = record { names = a.0.0 }; decls = a.1.0 }, record { doc = refl; path = a.0.1; decls = a.1.1 }))
     (prefixed (printed_doc_line [] one.doc refl is.doc) (prefixed (keyword (codes "namespace") refl) (joined (printed_path one.path.names is.path) braced refl)))
 
