@@ -7,23 +7,9 @@ use Rattle.til_parser.specs.Canonical.{behind_point, digits_of_rest, listed_text
 use Rattle.til_parser.specs.Grammar.{truth_word}
 use Rattle.til_parser.specs.Tree.{Settings, plain, settings_of}
 use Rattle.til_parser.proofs.PlainLemmas.{plain_parts}
+use Rattle.til_parser.proofs.texts.NumberTextLemmas.{digits_more, digits_none}
 
 -- ---- the digits behind a point
-
--- one more digit, where something is left
-digits_more : (at rest den : ℕ) → at < 18 → (rest ≡ 0 → ⊥)
-    → digits_of_rest (18 - at) rest den ≡ (48 + 10 * rest / den) ∷ digits_of_rest (18 - (at + 1)) (10 * rest % den) den
-unfolding digits_of_rest
-digits_more at rest den below some =
-    let turn : 18 - at ≡ suc (18 - (at + 1)) = omega arith in
-    ap (λ n. digits_of_rest n rest den) turn ∙ search (rules, some)
-
--- no more, where no more are allowed, or nothing is left
-pub digits_none : (turns rest den : ℕ) → (turns ≡ 0) ⊎ (rest ≡ 0) → digits_of_rest turns rest den ≡ []
-unfolding digits_of_rest
-digits_none zero rest den done = refl
-digits_none (suc turns) rest den (inl none) = absurd (omega arith)
-digits_none (suc turns) rest den (inr none) = rw none refl
 
 -- those that are written are all then
 pub digits-written : (before whole : List ℕ) (turns rest den : ℕ) → (turns ≡ 0) ⊎ (rest ≡ 0) → before ++ digits_of_rest turns rest den ≡ whole → before ≡ whole
@@ -34,12 +20,13 @@ pub digit-written : (before pushed whole : List ℕ) (at rest den digit left : �
     → pushed ≡ before ++ (48 + digit) ∷ [] → digit ≡ 10 * rest / den → left ≡ 10 * rest % den
     → before ++ digits_of_rest (18 - at) rest den ≡ whole → pushed ++ digits_of_rest (18 - (at + 1)) left den ≡ whole
 digit-written before pushed whole at rest den digit left below some push is next all =
-    rw (push, is, next) (append_assoc before _ _ ∙ ap (λ ds. before ++ ds) (sym (digits_more at rest den below some)) ∙ all)
+    let turn : 18 - at ≡ suc (18 - (at + 1)) = omega arith in
+    rw (push, is, next) (append_assoc before _ _ ∙ rw (turn, digits_more (18 - (at + 1)) rest den some) at all)
 
 pub point-written : (rest den : ℕ) (before pointed whole : List ℕ) → (rest ≡ 0 → ⊥) → pointed ≡ before ++ codes "."
     → whole ≡ pointed ++ digits_of_rest 18 rest den → whole ≡ before ++ behind_point (digits_of_rest 18 rest den)
 point-written rest den before pointed whole some point all =
-    rw (all, point) (append_assoc before (codes ".") _ ∙ rw (digits_more 0 rest den (omega arith) some) refl)
+    rw (all, point) (append_assoc before (codes ".") _ ∙ rw (digits_more 17 rest den some) refl)
 
 -- ---- types
 

@@ -1,6 +1,6 @@
 use Rattle.std.proofs.Common.{inr, sym, append-nil}
 use Rattle.std.proofs.lemmas.Result.{on_ok_weaker}
-use Rattle.til_parser.proofs.texts.WrittenLemmas.{digits_none, point-written}
+use Rattle.til_parser.proofs.texts.{NumberTextLemmas.digits_none, WrittenLemmas.point-written}
 use Rattle.til_parser.proofs.written.write_behind_point.Goals as goal
 
 pub returns-then-rest-eq0-clause-ok : goal.returns-then-rest-eq0-clause-ok
