@@ -2,7 +2,7 @@
 use Rattle.til_parser.proofs.rules.Common.{◌≡◌, ℕ, ◌≤◌, ◌+◌, List, [], ◌∷◌, All, length, Ok, ap, sym, ◌∙◌, subst, length-append, arith, ◌⋯◌, Each, EachIs, Outcome, took, Ast}
 use Rattle.til_parser.proofs.rules.Common.{AstKind, AstName, AstNamespace, Form, Spells, SpellsDecl, SpellsNamespace, PortsWithin, KindWithin, IsWithin, Lexeme, IsFormed}
 use Rattle.til_parser.proofs.rules.Common.{lexemes_of, plain, depth}
-use Rattle.std.proofs.Common.{max, get_or, IsUtf8}
+use Rattle.std.proofs.Common.{max, IsUtf8}
 use Rattle.std.proofs.lemmas.List.Elements.{All-map}
 use Rattle.til_lexer.specs.{Places.IsPlaceIn, Tokens.tokens_of}
 use Rattle.til_lexer.specs.declared.token.Token.{Token}
@@ -16,18 +16,13 @@ use Rattle.til_parser.specs.Trees.{NamespaceWith, IsSpellable, number_of_decls}
 use Rattle.til_parser.proofs.LexemeLemmas.{length-lexemes, lexemes_of-map}
 use Rattle.til_parser.proofs.rules.ParseLemmas.{project_complete, tree_or_fault, named}
 use Rattle.til_parser.proofs.rules.ProjectRules.{decl-filled}
-use Rattle.til_parser.proofs.SpelledLemmas.{Shows, each_of, namespace_of, shows_name, shows_place}
+use Rattle.til_parser.proofs.SpelledLemmas.{IsAt, Shows, each_of, namespace_of, shows_name, shows_place}
 use Rattle.til_parser.specs.declared.tree.AstKind.TheVariants as decls
 use Rattle.til_parser.specs.declared.tree.AstPorts.TheVariants as ports
 
 -- the tokens of a text have their form
 pub formed_of : (text : List ℕ) (tokens : List Token) → IsUtf8 text → tokens_of text ≡ Ok tokens → All IsFormed (lexemes_of text tokens)
 formed_of text tokens utf8 lexed = rw lexemes_of-map (All-map IsFormed (lexeme_of text) tokens (tokens-have_form text tokens utf8 lexed))
-
--- each stands at its place in the text
-placed_of : (text : List ℕ) (tokens : List Token) → IsUtf8 text → tokens_of text ≡ Ok tokens → All (λ (lexeme : Lexeme). IsPlaceIn text lexeme.place) (lexemes_of text tokens)
-placed_of text tokens utf8 lexed = rw lexemes_of-map (All-map (λ lexeme. IsPlaceIn text lexeme.place) (lexeme_of text) tokens
-    (λ k d within. token-stands text (get_or tokens k d) (tokens_of-are text tokens utf8 lexed k d within)))
 
 -- ---- how deep types nest
 
@@ -98,14 +93,14 @@ namespaces-few (one ∷ all) ts s =
 -- what the tokens of a text show of the tree that they spell
 shown-of : {Named : AstName → Type 0} (text : List ℕ) → Shows (IsPlaceIn text) Named → (ast : Ast) → IsTreeOf text ast
     → EachIs (NamespaceWith Named) ast.namespaces
-shown-of {Named} text shows ast is =
-    let formed = formed_of text is.tokens is.utf8 is.lexed in
-    let placed = placed_of text is.tokens is.utf8 is.lexed in
-    each_of (NamespaceWith Named) SpellsNamespace (namespace_of shows) ast.namespaces (record {
-      tokens = lexemes_of text is.tokens;
-      each = λ k d within. record { formed = formed k d within; placed = placed k d within };
-      spelled = is.spelled.each;
-    })
+shown-of {Named} text shows ast is = each_of (NamespaceWith Named) SpellsNamespace (namespace_of shows) ast.namespaces (record {
+  tokens = lexemes_of text is.tokens;
+  each = rw lexemes_of-map (All-map (IsAt (IsPlaceIn text)) (lexeme_of text) is.tokens (λ k d within. record {
+    formed = tokens-have_form text is.tokens is.utf8 is.lexed k d within;
+    placed = token-stands text _ (tokens_of-are text is.tokens is.utf8 is.lexed k d within);
+  }));
+  spelled = is.spelled.each;
+})
 
 pub spellable-of : (text : List ℕ) (ast : Ast) → IsTreeOf text ast → IsSpellable ast
 spellable-of text ast is = record { some = is.spelled.some; each = shown-of text (shows_name (IsPlaceIn text)) ast is }

@@ -5,14 +5,13 @@ use Rattle.til_parser.proofs.rules.Common.{between_marks, ◌++◌}
 use Rattle.std.proofs.Common.{◌==◌, map, slice_index_or, IsUtf8, IsCharBoundary, take}
 use Rattle.std.proofs.lemmas.{List.length-map, Str.IsCharBoundary-at_seam, Str.IsUtf8-append}
 use Rattle.std.proofs.Math.Seq.{take-append_seam}
-use denote.Enum.Bare.{same_true}
 use Rattle.tydi_reading.specs.declared.fault.Fault.TheVariants as reading
 use Rattle.til_lexer.specs.Spelling.{own_text}
-use Rattle.til_lexer.specs.contracts.token.TokenKind.{the_type}
 use Rattle.til_lexer.specs.declared.token.Token.{Token}
 use Rattle.til_lexer.proofs.FormBegins.{ascii_utf8}
 use Rattle.til_lexer.specs.declared.token.TokenKind.TheVariants as kinds
 use Rattle.til_parser.specs.Lexemes.{HasFormIn, lexeme_of}
+use Rattle.til_parser.proofs.rules.TokenRules.{kind_is}
 
 -- each token makes one
 pub lexemes_of-map : (text : List ℕ) (tokens : List Token) → lexemes_of text tokens ≡ map (lexeme_of text) tokens
@@ -27,10 +26,6 @@ length-lexemes text tokens = ap length (lexemes_of-map text tokens) ∙ length-m
 pub at_end-lexemes : (text : List ℕ) (tokens : List Token) → tells (λ _. false) true (lexemes_of text tokens) ≡ (length tokens == 0)
 at_end-lexemes text [] = refl
 at_end-lexemes text (token ∷ tokens) = search rules
-
-kind_is : (one other : TokenKind) → same_kind one other ≡ true → one ≡ other
-unfolding same_kind
-kind_is one other same = same_true the_type tt one other same
 
 -- a token of this kind has its form
 pub HasForm-first : (text : List ℕ) (tokens : List Token) (token : Token) (kind : TokenKind) (spelling : List ℕ) → All (HasFormIn text) tokens

@@ -76,9 +76,14 @@ seen f printed = made f (λ a ts is. is) printed
 pub at_end : {A : Type 0} {P : A → Form} {last : TokenKind} {text : List ℕ} → Printed last text P → Printed last (text ++ []) P
 at_end {P = P} {last = last} {text = text} printed = subst (λ l. Printed last l P) (sym (append-nil text)) printed
 
+-- of the same tokens, what is read is the same
+retold : {A : Type 0} {P : A → Form} {last wide : TokenKind} {text other : List ℕ} (printed : Printed last text P)
+    → ((rest : List ℕ) (more : List Shown) → Stops wide rest → IsSplit rest more → IsSplit (other ++ rest) (printed.tokens ++ more)) → Printed wide other P
+retold printed before = record { tokens = printed.tokens; before = before; reads = printed.reads }
+
 -- what goes on with nothing stands where a word may
 pub worded : {A : Type 0} {P : A → Form} {text : List ℕ} → Printed free text P → Printed kinds.Word text P
-worded printed = record { tokens = printed.tokens; before = λ rest more stops. printed.before rest more refl; reads = printed.reads }
+worded printed = retold printed (λ rest more stops. printed.before rest more refl)
 
 -- the one and then the other
 pub followed : {A B : Type 0} {P : A → Form} {Q : B → Form} {last next : TokenKind} {one other : List ℕ}
@@ -130,20 +135,14 @@ with_gap gap space s = record {
 -- a byte of white space after what is printed
 pub spaced : {A : Type 0} {P : A → Form} {last : TokenKind} {text : List ℕ} (gap : ℕ) → is_space gap ≡ true → runs_on last gap ≡ false
     → Printed last text P → Printed free (text ++ gap ∷ []) P
-spaced {text = text} gap space apart printed = record {
-  tokens = printed.tokens;
-  before = λ rest more stops s. rw (append_assoc text (gap ∷ []) rest) (printed.before (gap ∷ rest) more apart (with_gap (gap ∷ []) (rw space refl) s));
-  reads = printed.reads;
-}
+spaced {text = text} gap space apart printed = retold printed (λ rest more stops s.
+    rw (append_assoc text (gap ∷ []) rest) (printed.before (gap ∷ rest) more apart (with_gap (gap ∷ []) (rw space refl) s)))
 
 -- white space before what is printed
 pub indented : {A : Type 0} {P : A → Form} {last : TokenKind} {text : List ℕ} (gap : List ℕ) → list_all is_space gap ≡ true
     → Printed last text P → Printed last (gap ++ text) P
-indented {text = text} gap space printed = record {
-  tokens = printed.tokens;
-  before = λ rest more stops s. rw (append_assoc gap text rest) (with_gap gap space (printed.before rest more stops s));
-  reads = printed.reads;
-}
+indented {text = text} gap space printed =
+    retold printed (λ rest more stops s. rw (append_assoc gap text rest) (with_gap gap space (printed.before rest more stops s)))
 
 -- ---- tokens
 

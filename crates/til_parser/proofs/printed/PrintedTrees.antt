@@ -1,13 +1,13 @@
 -- Names, numbers, marked texts, lists, and from them whole trees are printed so that they are read again.
-use Rattle.til_parser.proofs.rules.Common.{◌≡◌, ℕ, ◌^◌, ◌<◌, inl, true, false, List, [], ◌∷◌, ◌++◌, Option, Some, None, codes, refl, sym, ap, subst, ◌∙◌, arith, append-nil}
-use Rattle.til_parser.proofs.rules.Common.{list_all, is_name, has_name_form, HasForm, TokenKind, AstName, ◌⋯◌, Each, EachIs, Form, Doc, IsMarked, Level, Name, Number, One, Path}
-use Rattle.til_parser.proofs.rules.Common.{Quoted, Whole, Lexeme, between_marks, Bool, AstType, AstKind, AstNamespace, AstPath, Bracketed, Commas, Of, Word, SpellsType}
-use Rattle.til_parser.proofs.rules.Common.{SpellsParts, SpellsPort, SpellsPorts, SpellsEnd, SpellsStmt, SpellsBody, SpellsStreamletPorts, SpellsKind, SpellsDecl, SpellsNamespace}
-use Rattle.til_parser.proofs.rules.Common.{direction_word, sync_word, truth_word, way_word, Ltype, null, plain, all_arguments}
+use Rattle.til_parser.proofs.rules.Common.{◌≡◌, ℕ, ◌^◌, ◌<◌, inl, true, false, List, [], ◌∷◌, ◌++◌, Option, Some, None, codes, refl, sym, ap, ◌∙◌, arith, append-nil, list_all}
+use Rattle.til_parser.proofs.rules.Common.{has_name_form, HasForm, TokenKind, AstName, ◌⋯◌, Each, EachIs, Form, Doc, IsMarked, Level, Name, Number, One, Path, Quoted, Whole}
+use Rattle.til_parser.proofs.rules.Common.{Lexeme, between_marks, Bool, AstType, AstKind, AstNamespace, Bracketed, Commas, Of, Word, SpellsType, SpellsParts, SpellsPort}
+use Rattle.til_parser.proofs.rules.Common.{SpellsPorts, SpellsEnd, SpellsStmt, SpellsBody, SpellsStreamletPorts, SpellsKind, SpellsDecl, SpellsNamespace, direction_word, sync_word}
+use Rattle.til_parser.proofs.rules.Common.{truth_word, way_word, Ltype, null, plain, all_arguments}
 use Rattle.std.proofs.Common.{flat_map, decimal}
 use Rattle.std.proofs.lemmas.Bool.Decides.{nat_tests}
 use Rattle.std.proofs.lemmas.Fmt.{decimal_nonempty, digits_decimal, digits_value-decimal, length-decimal-le}
-use Rattle.tydi_base.specs.{Frac.Fraction, Level.IsLevel, Name.is_name_byte}
+use Rattle.tydi_base.specs.{Frac.Fraction, Level.IsLevel}
 use Rattle.tydi_base.proofs.DecimalLaws.{own}
 use Rattle.til_lexer.specs.{Spans.is_space, Spelling.runs_on}
 use Rattle.til_lexer.specs.declared.token.TokenKind.TheVariants as kinds
@@ -52,11 +52,8 @@ Again {X} Same x = (again : X) × Same x again
 
 -- ---- names
 
-name_form : (name : List ℕ) → is_name name ≡ true → has_name_form name ≡ true
-name_form name is = grind (arith, nat_tests)
-
 printed_name : (name : AstName) → HasName name → Printed kinds.Word name.name (λ (a : Again SameName name). Name a.0)
-printed_name name named = one_token kinds.Word name.name (name_form name.name named) (λ _ s. s) (λ lexeme kind_is text_is.
+printed_name name named = one_token kinds.Word name.name (grind (arith, nat_tests)) (λ _ s. s) (λ lexeme kind_is text_is.
     ((record { name = name.name; place = lexeme.place }, refl), record { kind = kind_is; text = text_is; place = refl; named = named }))
 
 -- ---- numbers
@@ -256,14 +253,6 @@ equated : {A : Type 0} {P : A → Form} {text : List ℕ} (name : AstName) → H
     → Printed kinds.Word (name.name ++ (codes " = " ++ text)) (λ (a : Again SameName name × A). Name a.0.0 ⋯ Of kinds.Equals ⋯ P a.1)
 equated name named printed = joined (printed_name name named) (prefixed equals printed) refl
 
--- a name, the path after an `of`, and what follows it
-aimed : {A : Type 0} {P : A → Form} {byte : ℕ} {text : List ℕ} (name : AstName) (target : AstPath) → HasName name → IsPath target.names
-    → Printed kinds.Word (byte ∷ text) P → is_name_byte byte ≡ false
-    → Printed kinds.Word (name.name ++ (codes " of " ++ (names_text target.names ++ (byte ∷ text))))
-    (λ (a : Again SameName name × (Again SameNames target.names × A)). Name a.0.0 ⋯ Word (codes "of") ⋯ Path a.1.0.0 ⋯ P a.1.1)
-aimed name target named is printed apart =
-    joined (printed_name name named) (prefixed (between_words (codes "of") refl) (joined (printed_path target.names is) printed apart)) refl
-
 printed_kind : (name : AstName) (kind : AstKind) → HasName name → IsKind kind
     → Printed kinds.Word (kind_text name.name kind) (λ (a : Again SameName name × Again SameKind kind). SpellsKind a.0.0 a.1.0)
 printed_kind name (decls.Alias ltype) named is =
@@ -273,13 +262,15 @@ printed_kind name (decls.Interface all) named is =
 printed_kind name (decls.Streamlet all) named is =
     seen (λ a. (a.0, (decls.Streamlet a.1.0, a.1.1))) (prefixed (keyword (codes "streamlet") refl) (equated name named (printed_streamlet all is)))
 printed_kind name (decls.Impl target body) named is =
+    let aimed = joined (printed_path target.names is.0) (prefixed equals (printed_body body is.1)) refl in
     seen (λ a. (a.0, (decls.Impl (record { names = a.1.0.0 }) a.1.1.0, (a.1.0.1, a.1.1.1))))
-    (prefixed (keyword (codes "impl") refl) (aimed name target named is.0 (prefixed equals (printed_body body is.1)) refl))
+    (prefixed (keyword (codes "impl") refl) (joined (printed_name name named) (prefixed (between_words (codes "of") refl) aimed) refl))
 printed_kind name (decls.Test target port value plan) named is =
     let texts = prefixed (printed_quoted value is.2) (prefixed (between_words (codes "plan") refl) (worded (printed_quoted plan is.3))) in
     let driven = prefixed (between_words (codes "drive") refl) (equated port is.1 texts) in
+    let aimed = joined (printed_path target.names is.0) driven refl in
     seen (λ a. (a.0, (decls.Test (record { names = a.1.0.0 }) a.1.1.0.0 value plan, (a.1.0.1, a.1.1.0.1, refl, refl))))
-    (prefixed (keyword (codes "test") refl) (aimed name target named is.0 driven refl))
+    (prefixed (keyword (codes "test") refl) (joined (printed_name name named) (prefixed (between_words (codes "of") refl) aimed) refl))
 
 -- documentation on a line of its own
 printed_doc_line : (indent : List ℕ) (doc : Option (List ℕ)) → list_all is_space indent ≡ true → IsDoc doc → Fixed free (doc_line indent doc) (Doc doc)

@@ -36,20 +36,11 @@ front_before old more mid new added front =
     let within : length old ≤ length mid = omega (arith, ap length added, length-append old more) in
     sym (take-take (length old) (length mid) new within) ∙ ap (take (length old)) (front ∙ added) ∙ take_at old more (length old) refl
 
--- a Stream, part after part
-pub stream-written : (one : AstStream) (old t1 t2 t3 t4 t5 keep : List ℕ) → t1 ≡ old ++ codes "Stream(data: " → t2 ≡ t1 ++ type_text (plain one.element)
-    → t3 ≡ t2 ++ settings_text (settings_of one) [] → t4 ≡ t3 ++ type_text (plain one.user) → keep ≡ truth_word one.keep
-    → t5 ≡ t4 ++ (codes ", keep: " ++ (keep ++ codes ")")) → t5 ≡ old ++ stream_text one
-stream-written one old t1 t2 t3 t4 t5 keep e1 e2 e3 e4 k e5 =
-    e5 ∙ rw (e4, e3, e2, e1, k) (nested old (codes "Stream(data: ") (type_text (plain one.element)) (type_text (plain one.user)) (codes ", keep: ")
-    (truth_word one.keep) (codes ")") (settings_text (settings_of one)) (settings-then (settings_of one)))
-  where
-    settings-then : (s : Settings) (after : List ℕ) → settings_text s [] ++ after ≡ settings_text s after
-    settings-then s after = simp append_assoc refl
-
-    nested : (old a b c d e f : List ℕ) (after : List ℕ → List ℕ) → ((l : List ℕ) → after [] ++ l ≡ after l)
-        → ((((old ++ a) ++ b) ++ after []) ++ c) ++ (d ++ (e ++ f)) ≡ old ++ (a ++ ((b ++ after (c ++ (d ++ e))) ++ f))
-    nested old a b c d e f after then = rw (← then (c ++ (d ++ e))) (simp append_assoc refl)
+-- a Stream, part after part: `after` is the text of its arguments, and what follows them
+pub stream-written : (old a b c d e f t1 t2 t3 t4 t5 : List ℕ) (after : List ℕ → List ℕ) → ((l : List ℕ) → after [] ++ l ≡ after l)
+    → t1 ≡ old ++ a → t2 ≡ t1 ++ b → t3 ≡ t2 ++ after [] → t4 ≡ t3 ++ c → t5 ≡ t4 ++ (d ++ (e ++ f))
+    → t5 ≡ old ++ (a ++ ((b ++ after (c ++ (d ++ e))) ++ f))
+stream-written old a b c d e f t1 t2 t3 t4 t5 after then e1 e2 e3 e4 e5 = rw (e5, e4, e3, e2, e1, ← then (c ++ (d ++ e))) (simp append_assoc refl)
 
 -- parts as plain data have the text of the list of them
 more-listed : (parts : List AstPart) → flat_map next_part_text parts ≡ more_parts_text (plain_parts parts)

@@ -1,6 +1,6 @@
-use Rattle.std.proofs.Common.{◌++◌, ap, ◌∙◌, refl, rules}
+use Rattle.std.proofs.Common.{◌++◌, ap, ◌∙◌, refl, rules, codes, append_assoc}
 use Rattle.std.proofs.lemmas.Result.{on_ok_weaker}
-use Rattle.til_parser.specs.Canonical.{stream_text}
+use Rattle.til_parser.specs.{Canonical.stream_text, Canonical.settings_text, Canonical.type_text, Grammar.truth_word, Tree.plain, Tree.settings_of}
 use Rattle.til_parser.proofs.PlainLemmas.{plain-Group, plain-Stream, plain-Union}
 use Rattle.til_parser.proofs.texts.WrittenLemmas.{front_before, listed, stream-written}
 use Rattle.til_parser.proofs.printing.+ltype.Goals as goal
