@@ -2,21 +2,15 @@
 use Rattle.til_parser.proofs.rules.Common.{◌≡◌, ℕ, ◌≤◌, ◌+◌, List, [], ◌∷◌, All, length, Ok, ap, sym, ◌∙◌, subst, length-append, arith, ◌⋯◌, Each, EachIs, Outcome, took, Ast}
 use Rattle.til_parser.proofs.rules.Common.{AstKind, AstName, AstNamespace, Form, Spells, SpellsDecl, SpellsNamespace, PortsWithin, KindWithin, IsWithin, Lexeme, IsFormed}
 use Rattle.til_parser.proofs.rules.Common.{lexemes_of, plain, depth}
-use Rattle.std.proofs.Common.{max, IsUtf8}
-use Rattle.std.proofs.lemmas.List.Elements.{All-map}
-use Rattle.til_lexer.specs.{Places.IsPlaceIn, Tokens.tokens_of}
-use Rattle.til_lexer.specs.declared.token.Token.{Token}
+use Rattle.std.proofs.{Common.max, Common.IsUtf8, lemmas.List.Elements.All-map}
+use Rattle.til_lexer.specs.{Places.IsPlaceIn, Tokens.tokens_of, declared.token.Token.Token}
 use Rattle.til_lexer.proofs.{CountLemmas.tokens_of-few, FormLemmas.tokens-have_form, SliceLemmas.token-stands, SliceLemmas.tokens_of-are}
-use Rattle.til_parser.specs.declared.fault.ParseFault.{ParseFault}
-use Rattle.til_parser.specs.declared.tree.{AstDecl.AstDecl, AstPort.AstPort}
-use Rattle.til_parser.specs.Faults.{NamesToken, IsFaultOf, TreesOrFaults}
 use Rattle.til_parser.specs.Laws.{IsTreeOf, TreesAreApart, TreesHaveTheirForm, TreesHaveTheirPlaces}
-use Rattle.til_parser.specs.Lexemes.{lexeme_of}
-use Rattle.til_parser.specs.Trees.{NamespaceWith, IsSpellable, number_of_decls}
-use Rattle.til_parser.proofs.LexemeLemmas.{length-lexemes, lexemes_of-map}
-use Rattle.til_parser.proofs.rules.ParseLemmas.{project_complete, tree_or_fault, named}
-use Rattle.til_parser.proofs.rules.ProjectRules.{decl-filled}
+use Rattle.til_parser.specs.{declared.fault.ParseFault.ParseFault, declared.tree.AstDecl.AstDecl, declared.tree.AstPort.AstPort, Faults.NamesToken, Faults.IsFaultOf}
+use Rattle.til_parser.specs.{Faults.TreesOrFaults, Lexemes.lexeme_of, Trees.NamespaceWith, Trees.IsSpellable, Trees.number_of_decls}
 use Rattle.til_parser.proofs.SpelledLemmas.{IsAt, Shows, each_of, namespace_of, shows_name, shows_place}
+use Rattle.til_parser.proofs.{LexemeLemmas.length-lexemes, LexemeLemmas.lexemes_of-map, rules.ParseLemmas.project_complete, rules.ParseLemmas.tree_or_fault}
+use Rattle.til_parser.proofs.{rules.ParseLemmas.named, rules.ProjectRules.decl-filled}
 use Rattle.til_parser.specs.declared.tree.AstKind.TheVariants as decls
 use Rattle.til_parser.specs.declared.tree.AstPorts.TheVariants as ports
 

@@ -3,15 +3,13 @@ use Rattle.til_parser.proofs.rules.Common.{◌≡◌, ◌-◌, ◌≤◌, ◌⊎
 use Rattle.til_parser.proofs.rules.Common.{All-head, Outcome, stopped, too_deep, tells, HasForm, IsBetween, TokenKind, AstType, Lexeme, lexemes_of, same_kind, begins_type}
 use Rattle.til_parser.proofs.rules.Common.{between_marks, ◌++◌}
 use Rattle.std.proofs.Common.{◌==◌, map, slice_index_or, IsUtf8, IsCharBoundary, take}
-use Rattle.std.proofs.lemmas.{List.length-map, Str.IsCharBoundary-at_seam, Str.IsUtf8-append}
-use Rattle.std.proofs.Math.Seq.{take-append_seam}
-use Rattle.tydi_reading.specs.declared.fault.Fault.TheVariants as reading
-use Rattle.til_lexer.specs.Spelling.{own_text}
-use Rattle.til_lexer.specs.declared.token.Token.{Token}
+use Rattle.std.proofs.{lemmas.List.length-map, lemmas.Str.IsCharBoundary-at_seam, lemmas.Str.IsUtf8-append, Math.Seq.take-append_seam}
+use Rattle.til_lexer.specs.{Spelling.own_text, declared.token.Token.Token}
 use Rattle.til_lexer.proofs.FormBegins.{ascii_utf8}
-use Rattle.til_lexer.specs.declared.token.TokenKind.TheVariants as kinds
 use Rattle.til_parser.specs.Lexemes.{HasFormIn, lexeme_of}
 use Rattle.til_parser.proofs.rules.TokenRules.{kind_is}
+use Rattle.tydi_reading.specs.declared.fault.Fault.TheVariants as reading
+use Rattle.til_lexer.specs.declared.token.TokenKind.TheVariants as kinds
 
 -- each token makes one
 pub lexemes_of-map : (text : List ℕ) (tokens : List Token) → lexemes_of text tokens ≡ map (lexeme_of text) tokens

@@ -2,15 +2,13 @@
 use Rattle.til_parser.proofs.rules.Common.{◌≡◌, ℕ, ◌≤◌, suc, List, [], ◌∷◌, ◌++◌, length, Option, Some, None, refl, ap, subst, arith, codes, is_name, EachIs, Ast, AstKind, AstName}
 use Rattle.til_parser.proofs.rules.Common.{AstNamespace, PortsWithin, StreamletWithin, KindWithin, DeclsWithin, Ltype, null, depth, depth_of_parts, plain}
 use Rattle.std.proofs.Common.{flat_map, IsTrue}
-use Rattle.til_parser.specs.declared.tree.{AstBody.AstBody, AstDecl.AstDecl, AstEnd.AstEnd, AstPort.AstPort, AstPorts.AstPorts, AstStmt.AstStmt}
 use Rattle.til_parser.specs.Canonical.{but_first, names_text, type_text, more_parts_text, port_text, ports_text, second_text, end_text, stmt_text, body_text, streamlet_text}
 use Rattle.til_parser.specs.Canonical.{quoted_text, kind_text, decl_text, namespace_text}
-use Rattle.til_parser.specs.Laws.{AreAlike}
 use Rattle.til_parser.specs.Same.{Alike, SameName, SameNames, SameType, SameParts, SamePort, SameSecond, SameEnd, SameStmt, SameBody, SamePorts, SameKind, SameDecl, SameNamespace}
-use Rattle.til_parser.specs.Same.{SameTree}
 use Rattle.til_parser.specs.Tree.{bits, group, union, stream, path, Parts, no_parts, part}
 use Rattle.til_parser.specs.Trees.{HasName, IsPath, IsDoc, IsQuote, IsShort, AreSettings, IsType, AreParts, IsPort, IsSecond, IsEnd, IsStmt, IsBody, ArePorts, IsKind, IsDecl}
-use Rattle.til_parser.specs.Trees.{IsNamespace}
+use Rattle.til_parser.specs.declared.tree.{AstBody.AstBody, AstDecl.AstDecl, AstEnd.AstEnd, AstPort.AstPort, AstPorts.AstPorts, AstStmt.AstStmt}
+use Rattle.til_parser.specs.{Laws.AreAlike, Same.SameTree, Trees.IsNamespace}
 use Rattle.til_parser.specs.declared.tree.AstBody.TheVariants as bodies
 use Rattle.til_parser.specs.declared.tree.AstKind.TheVariants as decls
 use Rattle.til_parser.specs.declared.tree.AstPorts.TheVariants as ports

@@ -4,21 +4,18 @@ use Rattle.til_parser.proofs.rules.Common.{Place, HasForm, IsBetween, TokenKind,
 use Rattle.til_parser.proofs.rules.Common.{Whole, Lexeme, IsFormed, between_marks, ◌⊎◌, inl, inr, ◌++◌, Argument, AstKind, AstNamespace, IsDefault, Of, Second, SpellsType}
 use Rattle.til_parser.proofs.rules.Common.{SpellsParts, SpellsPort, SpellsPorts, SpellsEnd, SpellsStmt, SpellsBody, SpellsStreamletPorts, SpellsKind, SpellsDecl, SpellsNamespace}
 use Rattle.til_parser.proofs.rules.Common.{Ltype, null, plain, ⊎_elim}
-use Rattle.std.proofs.Common.{IsUtf8}
+use Rattle.std.proofs.{Common.IsUtf8, Math.Nat.pow-le-pow_right}
 use Rattle.std.specs.Char.{is_ascii_digit}
-use Rattle.std.proofs.Math.Nat.{pow-le-pow_right}
 use Rattle.tydi_base.specs.{Frac.Fraction, Pieces.Lacks}
 use Rattle.tydi_reading.proofs.{StepLemmas.All-front, StepLemmas.All-back, ContainsLemmas.Inside, ContainsLemmas.named-or}
-use Rattle.til_lexer.specs.declared.token.TokenKind.TheVariants as kinds
-use Rattle.til_parser.specs.{Numbers.digits_before, Grammar.Arguments, Grammar.Given}
 use Rattle.til_parser.specs.Trees.{HasName, PathWith, IsDoc, IsQuote, FitsBetween, IsShort, IsSpelledNumber, AreSettings, TypeWith, PartsWith, PortWith, SecondWith, EndWith}
 use Rattle.til_parser.specs.Trees.{StmtWith, BodyWith, StreamletWith, KindWith, DeclWith, NamespaceWith}
-use Rattle.til_parser.proofs.numbers.NumberLemmas.{AreParts-number, cut_at, read_on-below}
-use Rattle.til_parser.proofs.LexemeLemmas.{between_marks-of}
-use Rattle.til_parser.specs.declared.tree.{AstBody.AstBody, AstDecl.AstDecl, AstEnd.AstEnd, AstPort.AstPort, AstPorts.AstPorts, AstStmt.AstStmt}
 use Rattle.til_parser.specs.Tree.{bits, group, union, stream, path, Parts, no_parts, part, Settings}
-use Rattle.til_parser.proofs.rules.StreamFields.{one_or_two}
-use Rattle.til_parser.proofs.texts.NumberTextLemmas.{one-is}
+use Rattle.til_parser.specs.declared.tree.{AstBody.AstBody, AstDecl.AstDecl, AstEnd.AstEnd, AstPort.AstPort, AstPorts.AstPorts, AstStmt.AstStmt}
+use Rattle.til_parser.specs.{Numbers.digits_before, Grammar.Arguments, Grammar.Given, Grammar.Level}
+use Rattle.til_parser.proofs.{numbers.NumberLemmas.AreParts-number, numbers.NumberLemmas.cut_at, numbers.NumberLemmas.read_on-below, LexemeLemmas.between_marks-of}
+use Rattle.til_parser.proofs.{rules.StreamFields.one_or_two, texts.NumberTextLemmas.one-is}
+use Rattle.til_lexer.specs.declared.token.TokenKind.TheVariants as kinds
 use Rattle.til_parser.specs.declared.keyword.Argument.TheVariants as arguments
 use Rattle.til_parser.specs.declared.tree.AstBody.TheVariants as bodies
 use Rattle.til_parser.specs.declared.tree.AstKind.TheVariants as decls
@@ -148,7 +145,7 @@ module _ {At : Place → Type 0} (Element User : Form) (user : Ltype) (settings 
     record {
       throughput = ⊎_elim (λ found. number_of settings.throughput (third_of found)) (λ default. subst IsSpelledNumber (sym default) one-is) (has arguments.Throughput);
       dims = ⊎_elim (λ found. whole_of settings.dims (third_of found)) (λ default. omega (arith, default)) (has arguments.Dimensionality);
-      level = ⊎_elim (λ (found : Spelt At (Given Element User settings arguments.Complexity)). (third_of found).spelled.within) (λ default. omega (arith, default)) (has arguments.Complexity);
+      level = ⊎_elim (λ found. (third_of {H = Level settings.level} found).spelled.within) (λ default. omega (arith, default)) (has arguments.Complexity);
     },
   )
 

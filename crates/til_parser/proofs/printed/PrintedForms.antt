@@ -2,11 +2,10 @@
 use Rattle.til_parser.proofs.rules.Common.{◌≡◌, true, false, ℕ, List, [], ◌∷◌, ◌++◌, length, drop, refl, sym, ap, subst, ◌∙◌, codes, append-nil, list_all, Place, HasForm}
 use Rattle.til_parser.proofs.rules.Common.{has_name_form, TokenKind, ◌⋯◌, Nothing, Form, Bracketed, Of, One, Word, Lexeme}
 use Rattle.std.proofs.Common.{get_or, map, take, append_assoc, take-append-drop}
-use Rattle.std.proofs.Math.Seq.{drop-append_seam, take-append_seam}
-use Rattle.std.proofs.lemmas.List.{drop-map, take-map}
-use Rattle.std.proofs.lemmas.List.Folds.{list_all-append}
-use Rattle.til_lexer.specs.{Places.place_past, Spans.is_space}
+use Rattle.std.proofs.{Math.Seq.drop-append_seam, Math.Seq.take-append_seam, lemmas.List.drop-map, lemmas.List.length-map, lemmas.List.take-map}
+use Rattle.std.proofs.lemmas.List.{nil_from_length, Folds.list_all-append}
 use Rattle.til_lexer.specs.Spelling.{AreSpelled, IsApart, Spelled, runs_on, spelled_text}
+use Rattle.til_lexer.specs.{Places.place_past, Spans.is_space}
 use Rattle.til_lexer.proofs.SpelledTokens.{first_spelled, made_of}
 use Rattle.til_lexer.specs.declared.token.TokenKind.TheVariants as kinds
 
@@ -55,10 +54,6 @@ Fixed last text F = Printed {A = Unit {0}} last text (λ _. F)
 abbrev pub free : TokenKind
 free = kinds.Comma
 
--- a text that does not go on with what follows the text after it
-abbrev pub Between : TokenKind → List ℕ → TokenKind → Type 0
-Between last other next = (rest : List ℕ) → Stops next rest → Stops last (other ++ rest)
-
 -- what is read is something else too
 pub made : {A B : Type 0} {P : A → Form} {Q : B → Form} {last : TokenKind} {text : List ℕ} (f : A → B) → ((a : A) (ts : List Lexeme) → P a ts → Q (f a) ts)
     → Printed last text P → Printed last text Q
@@ -85,9 +80,9 @@ retold printed before = record { tokens = printed.tokens; before = before; reads
 pub worded : {A : Type 0} {P : A → Form} {text : List ℕ} → Printed free text P → Printed kinds.Word text P
 worded printed = retold printed (λ rest more stops. printed.before rest more refl)
 
--- the one and then the other
+-- the one and then the other, with which the one does not go on, whatever follows
 pub followed : {A B : Type 0} {P : A → Form} {Q : B → Form} {last next : TokenKind} {one other : List ℕ}
-    → Printed last one P → Printed next other Q → Between last other next
+    → Printed last one P → Printed next other Q → ((rest : List ℕ) → Stops next rest → Stops last (other ++ rest))
     → Printed next (one ++ other) (λ (both : A × B). P both.0 ⋯ Q both.1)
 followed {one = one} {other = other} first second between = record {
   tokens = first.tokens ++ second.tokens;
@@ -174,11 +169,11 @@ one_token {last = last} kind spelling form less reads = record {
 
 -- nothing is printed
 pub nothing : {last : TokenKind} → Fixed last [] Nothing
-nothing = record { tokens = []; before = λ rest more stops s. s; reads = λ ts are. (tt, no_tokens ts are) }
-  where
-    no_tokens : (ts : List Lexeme) → map shown ts ≡ [] → ts ≡ []
-    no_tokens [] are = refl
-    no_tokens (t ∷ ts) are = absurd cc
+nothing = record {
+  tokens = [];
+  before = λ rest more stops s. s;
+  reads = λ ts are. (tt, nil_from_length ts (sym (length-map ts shown) ∙ ap length are));
+}
 
 -- a symbol that goes on with nothing
 pub symbol : (kind : TokenKind) (spelling : List ℕ) → HasForm kind spelling → ((byte : ℕ) → runs_on kind byte ≡ false) → Fixed free spelling (Of kind)

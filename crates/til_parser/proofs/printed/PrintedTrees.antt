@@ -4,27 +4,23 @@ use Rattle.til_parser.proofs.rules.Common.{has_name_form, HasForm, TokenKind, As
 use Rattle.til_parser.proofs.rules.Common.{Lexeme, between_marks, Bool, AstType, AstKind, AstNamespace, Bracketed, Commas, Of, Word, SpellsType, SpellsParts, SpellsPort}
 use Rattle.til_parser.proofs.rules.Common.{SpellsPorts, SpellsEnd, SpellsStmt, SpellsBody, SpellsStreamletPorts, SpellsKind, SpellsDecl, SpellsNamespace, direction_word, sync_word}
 use Rattle.til_parser.proofs.rules.Common.{truth_word, way_word, Ltype, null, plain, all_arguments}
-use Rattle.std.proofs.Common.{flat_map, decimal}
-use Rattle.std.proofs.lemmas.Bool.Decides.{nat_tests}
 use Rattle.std.proofs.lemmas.Fmt.{decimal_nonempty, digits_decimal, digits_value-decimal, length-decimal-le}
+use Rattle.std.proofs.{Common.flat_map, Common.decimal, lemmas.Bool.Decides.nat_tests}
 use Rattle.tydi_base.specs.{Frac.Fraction, Level.IsLevel}
 use Rattle.tydi_base.proofs.DecimalLaws.{own}
 use Rattle.til_lexer.specs.{Spans.is_space, Spelling.runs_on}
-use Rattle.til_lexer.specs.declared.token.TokenKind.TheVariants as kinds
 use Rattle.til_parser.specs.Canonical.{doc_text, names_text, number_text, quoted_text, type_text, but_first, more_parts_text, port_text, ports_text, stmt_text, spaced_text}
 use Rattle.til_parser.specs.Canonical.{body_text, streamlet_text, kind_text, decl_text, doc_line, namespace_text, second_text}
-use Rattle.til_parser.specs.Grammar.{LastComma, Arguments}
 use Rattle.til_parser.specs.Same.{Alike, SameName, SameNames, SameType, SameParts, SamePort, SameEnd, SameStmt, SameBody, SamePorts, SameKind, SameDecl, SameNamespace}
 use Rattle.til_parser.specs.Trees.{HasName, IsPath, IsDoc, IsQuote, IsShort, IsSpelledNumber, AreSettings, IsType, AreParts, IsPort, IsEnd, IsStmt, IsBody, ArePorts, IsKind}
-use Rattle.til_parser.specs.Trees.{IsDecl, IsNamespace, IsSecond}
-use Rattle.til_parser.proofs.texts.NumberTextLemmas.{number_text-is, power_fits}
+use Rattle.til_parser.specs.Tree.{bits, group, union, stream, path, Parts, no_parts, part, Settings}
+use Rattle.til_parser.specs.declared.tree.{AstBody.AstBody, AstDecl.AstDecl, AstEnd.AstEnd, AstPort.AstPort, AstPorts.AstPorts, AstStmt.AstStmt}
+use Rattle.til_parser.specs.{Grammar.LastComma, Grammar.Arguments, Trees.IsDecl, Trees.IsNamespace, Trees.IsSecond, declared.ltype.AstSync.AstSync}
 use Rattle.til_parser.proofs.printed.PrintedForms.{Fixed, Printed, at_end, followed, free, joined, made, nothing, one_token, prefixed, seen, spaced, between_words, bracketed}
 use Rattle.til_parser.proofs.printed.PrintedForms.{colon, comma, equals, indented, keyword, labelled, led, suffixed, symbol, word, worded}
-use Rattle.til_parser.specs.declared.ltype.AstSync.{AstSync}
-use Rattle.til_parser.specs.declared.tree.{AstBody.AstBody, AstDecl.AstDecl, AstEnd.AstEnd, AstPort.AstPort, AstPorts.AstPorts, AstStmt.AstStmt}
-use Rattle.til_parser.specs.Tree.{bits, group, union, stream, path, Parts, no_parts, part, Settings}
-use Rattle.til_parser.proofs.{PlainLemmas.of_plain, PlainLemmas.plain-of_plain, LexemeLemmas.between_marks-of}
-use Rattle.til_parser.proofs.rules.StreamFields.{all_arguments-all, all_arguments-apart}
+use Rattle.til_parser.proofs.{texts.NumberTextLemmas.number_text-is, texts.NumberTextLemmas.power_fits, PlainLemmas.of_plain, PlainLemmas.plain-of_plain}
+use Rattle.til_parser.proofs.{LexemeLemmas.between_marks-of, rules.StreamFields.all_arguments-all, rules.StreamFields.all_arguments-apart}
+use Rattle.til_lexer.specs.declared.token.TokenKind.TheVariants as kinds
 use Rattle.til_parser.specs.declared.ltype.AstSync.TheVariants as syncs
 use Rattle.til_parser.specs.declared.tree.AstBody.TheVariants as bodies
 use Rattle.til_parser.specs.declared.tree.AstKind.TheVariants as decls
@@ -116,8 +112,10 @@ module _ {X : Type 0} (Same : X → X → Type 0) (Is : X → Type 0) (Spell : X
 
 printed_path : (names : List AstName) → IsPath names → Printed kinds.Word (names_text names) (λ (a : Again SameNames names). Path a.0)
 printed_path [] is = absurd (let some = is.some in omega arith)
-printed_path (name ∷ names) is = seen (λ a. (a.0.0 ∷ a.1.0, (a.0.1, a.1.1)))
-    (printed_list SameName HasName Name (λ name. name.name) Path (λ _ _ s. s) (λ _ _ _ _ s. s) (symbol kinds.DoubleColon (codes "::") refl (λ _. refl)) refl printed_name name names is.each)
+printed_path (name ∷ names) is =
+    let joint = symbol kinds.DoubleColon (codes "::") refl (λ _. refl) in
+    seen (λ a. (a.0.0 ∷ a.1.0, (a.0.1, a.1.1)))
+    (printed_list SameName HasName Name (λ name. name.name) Path (λ _ _ s. s) (λ _ _ _ _ s. s) joint refl printed_name name names is.each)
 
 -- a thing with this text is read again, where its last token goes on as a word does at most
 abbrev PrintedAs : {X : Type 0} → List ℕ → (X → X → Type 0) → (X → Form) → X → Type 0

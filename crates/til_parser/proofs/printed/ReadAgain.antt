@@ -1,14 +1,10 @@
 -- The canonical text of a spellable tree is lexed to the tokens of which it is printed, and so it spells that tree again.
 use Rattle.til_parser.proofs.rules.Common.{◌≡◌, List, [], ◌++◌, refl, sym, ap, subst, ◌∙◌, append-nil, start, Ast, lexemes_of}
-use Rattle.std.proofs.Common.{map, IsUtf8}
-use Rattle.std.proofs.lemmas.{Str.IsUtf8-append, Simd.map-map}
-use Rattle.til_lexer.specs.{Places.place_past, Tokens.tokens_of}
-use Rattle.til_lexer.specs.Spelling.{own_text, spelled_text, tokens_spelled}
-use Rattle.til_lexer.specs.declared.token.Token.{Token}
+use Rattle.std.proofs.{Common.map, Common.IsUtf8, lemmas.Str.IsUtf8-append, lemmas.Simd.map-map}
+use Rattle.til_lexer.specs.{Places.place_past, Tokens.tokens_of, Spelling.own_text, Spelling.spelled_text, Spelling.tokens_spelled, declared.token.Token.Token}
 use Rattle.til_lexer.proofs.SpelledTokens.{gap_utf8, map-tokens_spelled, opens, spelled_behind-read}
 use Rattle.til_parser.specs.{Canonical.canonical, Lexemes.lexeme_of, Laws.AreReadAsPrinted, Laws.IsReadAgain, Trees.IsSpellable}
-use Rattle.til_parser.proofs.{LexemeLemmas.lexemes_of-map, PlacesLemmas.trees_alike, LawLemmas.spellable-of}
-use Rattle.til_parser.proofs.printed.{PrintedForms.shown, PrintedTrees.printed_namespaces}
+use Rattle.til_parser.proofs.{LexemeLemmas.lexemes_of-map, PlacesLemmas.trees_alike, LawLemmas.spellable-of, printed.PrintedForms.shown, printed.PrintedTrees.printed_namespaces}
 
 -- a spellable tree is read again
 pub spellable_read : (ast : Ast) → IsSpellable ast → IsReadAgain (canonical ast) ast

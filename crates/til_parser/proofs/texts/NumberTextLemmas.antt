@@ -2,20 +2,18 @@
 use Rattle.til_parser.proofs.rules.Common.{◌≡◌, ◌⊎◌, rules, ℕ, zero, suc, ◌+◌, ◌-◌, ◌*◌, ◌^◌, ◌<◌, ◌≤◌, true, inl, inr, List, [], ◌∷◌, ◌++◌, length, refl, sym, ap, subst, ◌∙◌}
 use Rattle.til_parser.proofs.rules.Common.{arith, append-nil, length-append, list_all, HasForm, codes}
 use Rattle.std.proofs.Common.{◌/◌, ◌%◌, decimal, pow-add, pow-suc, mod-lt, div-add-mod', div-lt_iff_lt-mul, lt_of_mul-lt-mul_right, mul-lt-mul_of_pos_right}
-use Rattle.std.specs.Char.{is_ascii_digit}
 use Rattle.std.proofs.Math.Nat.{div-add-mod, dvd-add_iff_right, dvd-mul_left, mod-eq_of_lt, mul-one, dvd-mul_right, dvd-mul_right_of_dvd, one-dvd}
-use Rattle.std.proofs.lemmas.Bool.Decides.{nat_tests}
 use Rattle.std.proofs.lemmas.Fmt.{decimal_nonempty, digits_decimal, digits_value-decimal, length-decimal-le}
-use Rattle.std.proofs.lemmas.List.Folds.{list_all-append}
-use Rattle.std.proofs.lemmas.Nat.Gcd.{mod-eq-zero_of_dvd}
+use Rattle.std.proofs.{lemmas.Bool.Decides.nat_tests, lemmas.List.Folds.list_all-append, lemmas.Nat.Gcd.mod-eq-zero_of_dvd}
+use Rattle.std.specs.Char.{is_ascii_digit}
 use Prim.Native.Nat.{◌∣◌}
 use Rattle.tydi_base.specs.{Decimal.read_on, Frac.Fraction}
 use Rattle.tydi_base.proofs.DecimalLaws.{own}
 use Rattle.til_lexer.specs.Spelling.{AreDigits}
-use Rattle.til_lexer.specs.declared.token.TokenKind.TheVariants as kinds
-use Rattle.til_parser.specs.Canonical.{behind_point, digits_of_rest, number_text}
-use Rattle.til_parser.specs.{Numbers.digits_before, Numbers.digits_behind, Trees.IsNumberText, Trees.IsSpelledNumber}
+use Rattle.til_parser.specs.{Canonical.behind_point, Canonical.digits_of_rest, Canonical.number_text, Numbers.digits_before, Numbers.digits_behind, Trees.IsNumberText}
+use Rattle.til_parser.specs.Trees.{IsSpelledNumber}
 use Rattle.til_parser.proofs.numbers.NumberLemmas.{AreParts-number, cut_at, read_on-append, read_on-below, tens_fit}
+use Rattle.til_lexer.specs.declared.token.TokenKind.TheVariants as kinds
 
 -- ---- the digits of a division
 
