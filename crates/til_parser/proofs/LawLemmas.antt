@@ -8,7 +8,7 @@ use Rattle.til_lexer.proofs.{CountLemmas.tokens_of-few, FormLemmas.tokens-have_f
 use Rattle.til_parser.specs.Laws.{IsTreeOf, TreesAreApart, TreesHaveTheirForm, TreesHaveTheirPlaces}
 use Rattle.til_parser.specs.{declared.fault.ParseFault.ParseFault, declared.tree.AstDecl.AstDecl, declared.tree.AstPort.AstPort, Faults.NamesToken, Faults.IsFaultOf}
 use Rattle.til_parser.specs.{Faults.TreesOrFaults, Lexemes.lexeme_of, Trees.NamespaceWith, Trees.IsSpellable, Trees.number_of_decls}
-use Rattle.til_parser.proofs.SpelledLemmas.{IsAt, Shows, each_of, namespace_of, shows_name, shows_place}
+use Rattle.til_parser.proofs.SpelledLemmas.{IsAt, Shows, each_of, namespace_of}
 use Rattle.til_parser.proofs.{LexemeLemmas.length-lexemes, LexemeLemmas.lexemes_of-map, rules.ParseLemmas.project_complete, rules.ParseLemmas.tree_or_fault}
 use Rattle.til_parser.proofs.{rules.ParseLemmas.named, rules.ProjectRules.decl-filled}
 use Rattle.til_parser.specs.declared.tree.AstKind.TheVariants as decls
@@ -97,18 +97,15 @@ shown-of {Named} text shows ast is = each_of (NamespaceWith Named) SpellsNamespa
 })
 
 pub spellable-of : (text : List ℕ) (ast : Ast) → IsTreeOf text ast → IsSpellable ast
-spellable-of text ast is = record { some = is.spelled.some; each = shown-of text (shows_name (IsPlaceIn text)) ast is }
+spellable-of text ast is = record { some = is.spelled.some; each = shown-of text (λ _ _ name _. name.named) ast is }
 
 pub trees-have_places : TreesHaveTheirPlaces
-trees-have_places text ast is = shown-of text (shows_place (IsPlaceIn text)) ast is
+trees-have_places text ast is = shown-of text (λ _ _ name at. subst (IsPlaceIn text) name.place at) ast is
 
 pub trees-have_form : TreesHaveTheirForm
-trees-have_form text ast is = record {
-  spellable = spellable-of text ast is;
-  tree = λ short within. record {
-    spellable = spellable-of text ast is;
-    within = within;
-    few = let few = namespaces-few ast.namespaces (lexemes_of text is.tokens) is.spelled.each in
-        omega (arith, length-lexemes text is.tokens, tokens_of-few text is.tokens is.lexed, short);
-  };
-}
+trees-have_form text ast is =
+    let spellable = spellable-of text ast is in
+    let few = namespaces-few ast.namespaces (lexemes_of text is.tokens) is.spelled.each in
+    let tokens = length-lexemes text is.tokens in
+    let bytes = tokens_of-few text is.tokens is.lexed in
+    record { spellable = spellable; tree = λ short within. record { spellable = spellable; within = within; few = omega arith } }

@@ -1,14 +1,13 @@
 -- What spells a name, a path, a number, a marked text or a tree shows its form.
-use Rattle.til_parser.proofs.rules.Common.{◌≡◌, ℕ, ◌^◌, ◌≤◌, true, List, [], ◌∷◌, length, Option, Some, None, All, refl, sym, ap, subst, ◌∙◌, append-nil, arith, list_all, All-head}
+use Rattle.til_parser.proofs.rules.Common.{◌≡◌, ℕ, ◌^◌, ◌≤◌, List, [], ◌∷◌, length, Option, Some, None, All, refl, sym, ap, subst, ◌∙◌, append-nil, arith, All-head}
 use Rattle.til_parser.proofs.rules.Common.{Place, HasForm, IsBetween, TokenKind, ◌⋯◌, Each, EachIs, AstName, Form, Bracketed, Commas, Doc, IsNamed, Name, Number, One, Path, Quoted}
 use Rattle.til_parser.proofs.rules.Common.{Whole, Lexeme, IsFormed, between_marks, ◌⊎◌, inl, inr, ◌++◌, Argument, AstKind, AstNamespace, IsDefault, Of, Second, SpellsType}
 use Rattle.til_parser.proofs.rules.Common.{SpellsParts, SpellsPort, SpellsPorts, SpellsEnd, SpellsStmt, SpellsBody, SpellsStreamletPorts, SpellsKind, SpellsDecl, SpellsNamespace}
 use Rattle.til_parser.proofs.rules.Common.{Ltype, null, plain, ⊎_elim}
 use Rattle.std.proofs.{Common.IsUtf8, Math.Nat.pow-le-pow_right}
-use Rattle.std.specs.Char.{is_ascii_digit}
 use Rattle.tydi_base.specs.{Frac.Fraction, Pieces.Lacks}
 use Rattle.tydi_reading.proofs.{StepLemmas.All-front, StepLemmas.All-back, ContainsLemmas.Inside, ContainsLemmas.named-or}
-use Rattle.til_parser.specs.Trees.{HasName, PathWith, IsDoc, IsQuote, FitsBetween, IsShort, IsSpelledNumber, AreSettings, TypeWith, PartsWith, PortWith, SecondWith, EndWith}
+use Rattle.til_parser.specs.Trees.{PathWith, IsDoc, IsQuote, FitsBetween, IsShort, IsSpelledNumber, AreSettings, TypeWith, PartsWith, PortWith, SecondWith, EndWith}
 use Rattle.til_parser.specs.Trees.{StmtWith, BodyWith, StreamletWith, KindWith, DeclWith, NamespaceWith}
 use Rattle.til_parser.specs.Tree.{bits, group, union, stream, path, Parts, no_parts, part, Settings}
 use Rattle.til_parser.specs.declared.tree.{AstBody.AstBody, AstDecl.AstDecl, AstEnd.AstEnd, AstPort.AstPort, AstPorts.AstPorts, AstStmt.AstStmt}
@@ -71,19 +70,11 @@ module _ {At : Place → Type 0} {X : Type 0} (Is : X → Type 0) (Spell : X →
 -- ---- names and paths
 
 -- what a name's token shows of the name
-pub record Shows (At : Place → Type 0) (Named : AstName → Type 0) : Type 0 where
-  pub named : (name : AstName) (lexeme : Lexeme) → IsNamed name lexeme → At lexeme.place → Named name
-
--- that it is one
-pub shows_name : (At : Place → Type 0) → Shows At HasName
-shows_name At = record { named = λ name lexeme is at. is.named }
-
--- its place
-pub shows_place : (At : Place → Type 0) → Shows At (λ name. At name.place)
-shows_place At = record { named = λ name lexeme is at. subst At is.place at }
+abbrev pub Shows : (Place → Type 0) → (AstName → Type 0) → Type 0
+Shows At Named = (name : AstName) (lexeme : Lexeme) → IsNamed name lexeme → At lexeme.place → Named name
 
 pub name_of : {At : Place → Type 0} {Named : AstName → Type 0} → Shows At Named → (name : AstName) → Spelt At (Name name) → Named name
-name_of shows name spelt = shows.named name spelt.spelled.lexeme spelt.spelled.is (one_at spelt).placed
+name_of shows name spelt = shows name spelt.spelled.lexeme spelt.spelled.is (one_at spelt).placed
 
 pub path_of : {At : Place → Type 0} {Named : AstName → Type 0} → Shows At Named → (names : List AstName) → Spelt At (Path names) → PathWith Named names
 path_of shows [] spelt = absurd spelt.spelled
@@ -93,15 +84,13 @@ path_of shows (name ∷ next ∷ names) spelt =
 
 -- ---- numbers
 
-few_digits : (text : List ℕ) → HasForm kinds.Number text → list_all is_ascii_digit text ≡ true → length text ≤ 18
-few_digits text form all =
-    let same : digits_before text ≡ text = rw append-nil at (cut_at text [] all refl).0 in omega (arith, (AreParts-number text form).few, ap length same)
-
 pub whole_of : {At : Place → Type 0} → (whole : ℕ) → Spelt At (Whole whole) → IsShort whole
 whole_of whole spelt =
     let is = spelt.spelled.is in
     let text : List ℕ = spelt.spelled.lexeme.spelling in
-    let wide : 10 ^ length text ≤ 10 ^ 18 = pow-le-pow_right (omega arith) (few_digits text (one_form kinds.Number spelt is.kind) is.digits) in
+    let all : digits_before text ≡ text = rw append-nil at (cut_at text [] is.digits refl).0 in
+    let few : length text ≤ 18 = omega (arith, (AreParts-number text (one_form kinds.Number spelt is.kind)).few, ap length all) in
+    let wide : 10 ^ length text ≤ 10 ^ 18 = pow-le-pow_right (omega arith) few in
     omega (arith, is.value, read_on-below text is.digits)
 
 pub number_of : {At : Place → Type 0} → (number : Fraction) → Spelt At (Number number) → IsSpelledNumber number
@@ -126,16 +115,13 @@ doc_of (Some text) spelt = fits_between 35 text spelt.spelled.lexeme.spelling (o
 
 -- ---- the arguments of a Stream
 
-inside : {At : Place → Type 0} {F G : Form} (spelt : Spelt At F) → Inside G spelt.tokens → Spelt At G
-inside {At} spelt i = record {
-  tokens = i.middle;
-  each = All-front (IsAt At) (i.middle ++ i.back) i.middle i.back refl (All-back (IsAt At) spelt.tokens i.front (i.middle ++ i.back) i.all spelt.each);
-  spelled = i.spelled;
-}
-
 module _ {At : Place → Type 0} (Element User : Form) (user : Ltype) (settings : Settings) (spelt : Spelt At (Arguments Element User user settings)) where
   has : (argument : Argument) → Spelt At (Given Element User settings argument) ⊎ IsDefault user settings argument
-  has argument = ⊎_elim (λ i. inl (inside spelt i)) inr (named-or one_or_two (Of kinds.Comma) _ _ spelt.tokens spelt.spelled argument)
+  has argument = ⊎_elim (λ (i : Inside (Given Element User settings argument) spelt.tokens). inl (record {
+    tokens = i.middle;
+    each = All-front (IsAt At) (i.middle ++ i.back) i.middle i.back refl (All-back (IsAt At) spelt.tokens i.front (i.middle ++ i.back) i.all spelt.each);
+    spelled = i.spelled;
+  })) inr (named-or one_or_two (Of kinds.Comma) _ _ spelt.tokens spelt.spelled argument)
 
   -- what spells the types of the arguments of a Stream, and the form of the others
   arguments-found : Spelt At Element × (Spelt At User ⊎ (user ≡ null)) × AreSettings settings

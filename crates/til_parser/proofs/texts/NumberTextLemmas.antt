@@ -7,7 +7,7 @@ use Rattle.std.proofs.lemmas.Fmt.{decimal_nonempty, digits_decimal, digits_value
 use Rattle.std.proofs.{lemmas.Bool.Decides.nat_tests, lemmas.List.Folds.list_all-append, lemmas.Nat.Gcd.mod-eq-zero_of_dvd}
 use Rattle.std.specs.Char.{is_ascii_digit}
 use Prim.Native.Nat.{◌∣◌}
-use Rattle.tydi_base.specs.{Decimal.read_on, Frac.Fraction}
+use Rattle.tydi_base.specs.{Decimal.read_on, Frac.Fraction, Frac.IsReduced}
 use Rattle.tydi_base.proofs.DecimalLaws.{own}
 use Rattle.til_lexer.specs.Spelling.{AreDigits}
 use Rattle.til_parser.specs.{Canonical.behind_point, Canonical.digits_of_rest, Canonical.number_text, Numbers.digits_before, Numbers.digits_behind, Trees.IsNumberText}
@@ -42,9 +42,6 @@ left_divides den quotient left whole power parts divides =
     let sum : whole * power ≡ den * quotient * power + left * power = omega (arith, ap (λ n. n * power) parts) in
     (dvd-add_iff_right den (dvd-mul_right_of_dvd den (dvd-mul_right den quotient) power)).1 (subst (λ n. den ∣ n) sum divides)
 
-digit_is : (digit : ℕ) → digit < 10 → is_ascii_digit (48 + digit) ≡ true
-digit_is digit below = grind (arith, nat_tests)
-
 digits_of_rest-are : (most count rest den : ℕ) → count ≤ most → rest < den → den ∣ rest * 10 ^ count
     → AreRest (digits_of_rest most rest den) count rest den
 digits_of_rest-are most count zero den within below divides =
@@ -56,7 +53,8 @@ digits_of_rest-are (suc most) (suc count) (suc rest) den within below divides =
     let next : ℕ = 10 * suc rest / den in
     let left : ℕ = 10 * suc rest % den in
     let parts : den * next + left ≡ 10 * suc rest = div-add-mod (10 * suc rest) den in
-    let digit : next < 10 = (div-lt_iff_lt-mul {k = den} {x = 10 * suc rest} {y = 10} (omega arith)).1 (omega arith) in
+    let small : next < 10 = (div-lt_iff_lt-mul {k = den} {x = 10 * suc rest} {y = 10} (omega arith)).1 (omega arith) in
+    let digit : is_ascii_digit (48 + next) ≡ true = grind (arith, nat_tests) in
     let power : suc rest * 10 ^ suc count ≡ 10 * suc rest * 10 ^ count = rw (pow-suc 10 count) (omega arith) in
     let are = digits_of_rest-are most count left den (omega arith) (mod-lt (10 * suc rest) (omega arith))
     (left_divides den next left (10 * suc rest) (10 ^ count) parts (subst (λ n. den ∣ n) power divides)) in
@@ -65,39 +63,30 @@ digits_of_rest-are (suc most) (suc count) (suc rest) den within below divides =
     let times : (den * next + left) * 10 ^ length digits ≡ 10 * suc rest * 10 ^ length digits = ap (λ n. n * 10 ^ length digits) parts in
     rw (digits_more most (suc rest) den (λ none. omega arith)) (record {
       few = omega (arith, are.few);
-      each = rw (digit_is next digit) are.each;
+      each = rw digit are.each;
       value = λ whole. ap (λ n. read_on (10 * whole + n) digits * den) back ∙ are.value (10 * whole + next) ∙ rw (pow-suc 10 (length digits)) (omega (arith, times));
     })
 
 -- ---- the digits of a number before and behind its point
 
--- these digits with a point between them are a number, of these parts
-record IsCut (before behind : List ℕ) : Type 0 where
-  form : HasForm kinds.Number (before ++ behind_point behind)
-  parts : (digits_before (before ++ behind_point behind) ≡ before) × (digits_behind (before ++ behind_point behind) ≡ behind)
-
-digits_cut : (before behind : List ℕ) → AreDigits before → list_all is_ascii_digit behind ≡ true → length before + length behind ≤ 18 → IsCut before behind
-digits_cut before [] digits each few = record {
-  form = subst (HasForm kinds.Number) (sym (append-nil before)) (inl (record { digits = digits; few = omega arith }));
-  parts = cut_at before [] digits.each refl;
-}
-digits_cut before (digit ∷ behind) digits each few =
+-- these digits with a point between them are a number, of the value of all of them
+digits_cut : (number : Fraction) (before behind : List ℕ) → AreDigits before → list_all is_ascii_digit behind ≡ true → length before + length behind ≤ 18
+    → IsReduced (read_on 0 (before ++ behind)) (10 ^ length behind) number → IsNumberText number (before ++ behind_point behind)
+digits_cut number before [] digits each few reduced =
+    let cut = cut_at before [] digits.each refl in
+    record { form = subst (HasForm kinds.Number) (sym (append-nil before)) (inl (record { digits = digits; few = omega arith })); value = rw (cut.0, cut.1) reduced }
+digits_cut number before (digit ∷ behind) digits each few reduced =
+    let cut = cut_at before (46 ∷ digit ∷ behind) digits.each refl in
     let after : AreDigits (digit ∷ behind) = record { some = omega arith; each = each } in
     record {
       form = inr (record { before = before; behind = digit ∷ behind; parts = refl; digits_before = digits; digits_behind = after; few = few });
-      parts = cut_at before (46 ∷ digit ∷ behind) digits.each refl;
+      value = rw (cut.0, cut.1) reduced;
     }
 
 pub power_fits : (count n : ℕ) → count ≤ 18 → n < 10 ^ count → n < 2 ^ 64
 power_fits count n few below = let fits = tens_fit count few in omega arith
 
 -- ---- the text of a number
-
--- the whole part of a number has no more digits than stand before its point
-whole_below : (num den value before behind : ℕ) → 0 < den → value < 10 ^ (before + behind) → num * 10 ^ behind ≡ value * den → num / den < 10 ^ before
-whole_below num den value before behind some below same =
-    let times = rw (pow-add 10 before behind) at (mul-lt-mul_of_pos_right below some) in
-    (div-lt_iff_lt-mul some).1 (lt_of_mul-lt-mul_right (10 ^ behind) (omega (arith, times, same)))
 
 -- the text of a number that some text is read as, is read as the number again
 pub number_text-is : (number : Fraction) (spelling : List ℕ) → IsNumberText number spelling → IsNumberText number (number_text number)
@@ -111,18 +100,18 @@ number_text-is number spelling is =
     let some : 0 < number.den = let one = is.value.terms.some in omega arith in
     let each : list_all is_ascii_digit (before ++ behind) ≡ true = list_all-append is_ascii_digit before behind ∙ rw (parts.before, parts.behind) refl in
     let small = rw (length-append before behind) at (read_on-below (before ++ behind) each) in
-    let below = whole_below number.num number.den (read_on 0 (before ++ behind)) (length before) (length behind) some small is.value.value in
+    let times = rw (pow-add 10 (length before) (length behind)) at (mul-lt-mul_of_pos_right small some) in
+    let below : whole < 10 ^ length before = (div-lt_iff_lt-mul some).1 (lt_of_mul-lt-mul_right (10 ^ length behind) (omega (arith, times, is.value.value))) in
     let divides = left_divides number.den whole rest number.num (10 ^ length behind) (div-add-mod number.num number.den)
     (subst (λ n. number.den ∣ n) (sym is.value.value) (dvd-mul_left number.den (read_on 0 (before ++ behind)))) in
     let are = digits_of_rest-are 18 (length behind) rest number.den (omega (arith, parts.few)) (mod-lt number.num some) divides in
     let fits : whole < 2 ^ 64 = power_fits (length before) whole (omega (arith, parts.few)) below in
-    let cut = digits_cut (decimal whole) digits (record { some = decimal_nonempty whole fits; each = digits_decimal own whole fits }) are.each
-    (omega (arith, are.few, parts.few, length-decimal-le (length before) whole parts.some below fits)) in
     let value : number.num * 10 ^ length digits ≡ read_on whole digits * number.den =
     sym (are.value whole ∙ ap (λ n. n * 10 ^ length digits) (div-add-mod' number.num number.den)) in
     let num : read_on 0 (decimal whole ++ digits) ≡ read_on whole digits =
     sym (read_on-append 0 (decimal whole) digits) ∙ ap (λ n. read_on n digits) (digits_value-decimal own whole fits) in
-    record { form = cut.form; value = record { value = rw (cut.parts.0, cut.parts.1, num) value; terms = is.value.terms } }
+    digits_cut number (decimal whole) digits (record { some = decimal_nonempty whole fits; each = digits_decimal own whole fits }) are.each
+    (omega (arith, are.few, parts.few, length-decimal-le (length before) whole parts.some below fits)) (record { value = rw num value; terms = is.value.terms })
 
 -- one is read as `1`
 pub one-is : IsSpelledNumber (record { num = 1; den = 1 })
