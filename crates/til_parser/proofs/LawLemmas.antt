@@ -78,9 +78,7 @@ namespaces-few [] ts s = omega arith
 namespaces-few (one ∷ all) ts s =
     let n = s.begins in
     let inside = n.ends.ends.ends.ends in
-    let few = decls-few one.decls inside.front inside.begins in
-    let more = namespaces-few all s.back s.ends in
-    omega (arith, sum s, sum n, sum n.ends, sum n.ends.ends, sum n.ends.ends.ends, sum inside)
+    omega (arith, sum s, sum n, sum n.ends, sum n.ends.ends, sum n.ends.ends.ends, sum inside, decls-few one.decls inside.front inside.begins, namespaces-few all s.back s.ends)
 
 -- ---- the form of the tree, and its places
 

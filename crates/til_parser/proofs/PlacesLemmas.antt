@@ -75,8 +75,7 @@ mutual
   all_parts-kept (part name ltype more) (part name' ltype' more') s =
       let t = type-kept ltype ltype' s.1 in
       let m = all_parts-kept more more' s.2 in
-      let n = name-kept name name' s.0 in
-      record { text = cc; is = λ is. (n.is is.0, t.is is.1, m.is is.2); within = λ levels w. omega (arith, t.within levels, m.within levels) }
+      record { text = cc; is = λ is. (rw s.0 at is.0, t.is is.1, m.is is.2); within = λ levels w. omega (arith, t.within levels, m.within levels) }
   all_parts-kept _ _ s = absurd s
 
 -- ---- bodies
@@ -89,12 +88,12 @@ second-kept _ _ s = absurd s
 end-kept : (one other : AstEnd) → SameEnd one other → Kept end_text IsEnd NoBounds one other
 end-kept one other s =
     let k = second-kept one.second other.second s.1 in
-    record { text = cc; is = λ is. ((name-kept one.first other.first s.0).is is.0, k.is is.1); within = λ levels w. w }
+    record { text = cc; is = λ is. (rw s.0 at is.0, k.is is.1); within = λ levels w. w }
 
 stmt-kept : (one other : AstStmt) → SameStmt one other → Kept stmt_text IsStmt NoBounds one other
 stmt-kept (stmts.Instance name streamlet) (stmts.Instance name' streamlet') s =
     let k = path-kept streamlet.names streamlet'.names s.1 in
-    record { text = cc; is = λ is. ((name-kept name name' s.0).is is.0, k.is is.1); within = λ levels w. w }
+    record { text = cc; is = λ is. (rw s.0 at is.0, k.is is.1); within = λ levels w. w }
 stmt-kept (stmts.Link first second) (stmts.Link first' second') s =
     let one = end-kept first first' s.0 in
     let two = end-kept second second' s.1 in
@@ -112,8 +111,7 @@ body-kept _ _ s = absurd s
 port-kept : (one other : AstPort) → SamePort one other → Kept port_text IsPort (λ levels port. depth (plain port.ltype) ≤ levels) one other
 port-kept one other s =
     let t = type-kept (plain one.ltype) (plain other.ltype) s.ltype in
-    let n = name-kept one.name other.name s.name in
-    record { text = cc; is = λ is. record { doc = subst IsDoc s.doc is.doc; name = n.is is.name; ltype = t.is is.ltype }; within = t.within }
+    record { text = cc; is = λ is. record { doc = subst IsDoc s.doc is.doc; name = rw s.name at is.name; ltype = t.is is.ltype }; within = t.within }
 
 ports-kept : (ones others : List AstPort) → Alike SamePort ones others → Kept ports_text (EachIs IsPort) PortsWithin ones others
 ports-kept [] [] s = record { text = refl; is = λ is. is; within = λ levels w. w }
@@ -142,15 +140,13 @@ kind-kept name (decls.Impl target body) (decls.Impl target' body') s =
     record { text = cc; is = λ is. (t.is is.0, k.is is.1); within = λ levels w. w }
 kind-kept name (decls.Test target port value plan) (decls.Test target' port' value' plan') s =
     let t = path-kept target.names target'.names s.0 in
-    let p = name-kept port port' s.1 in
-    record { text = cc; is = λ is. (t.is is.0, p.is is.1, subst IsQuote s.2 is.2, subst IsQuote s.3 is.3); within = λ levels w. w }
+    record { text = cc; is = λ is. (t.is is.0, rw s.1 at is.1, subst IsQuote s.2 is.2, subst IsQuote s.3 is.3); within = λ levels w. w }
 kind-kept name _ _ s = absurd s
 
 decl-kept : (one other : AstDecl) → SameDecl one other → Kept decl_text IsDecl (λ levels decl. KindWithin levels decl.kind) one other
 decl-kept one other s =
     let k = kind-kept one.name.name one.kind other.kind s.kind in
-    let n = name-kept one.name other.name s.name in
-    record { text = cc; is = λ is. record { doc = subst IsDoc s.doc is.doc; name = n.is is.name; kind = k.is is.kind }; within = k.within }
+    record { text = cc; is = λ is. record { doc = subst IsDoc s.doc is.doc; name = rw s.name at is.name; kind = k.is is.kind }; within = k.within }
 
 namespace-kept : (one other : AstNamespace) → SameNamespace one other
     → Kept namespace_text IsNamespace (λ levels namespace. DeclsWithin levels namespace.decls) one other

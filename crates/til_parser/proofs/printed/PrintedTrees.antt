@@ -12,8 +12,8 @@ use Rattle.til_lexer.specs.{Spans.is_space, Spelling.runs_on}
 use Rattle.til_parser.specs.Canonical.{doc_text, names_text, number_text, quoted_text, type_text, but_first, more_parts_text, port_text, ports_text, stmt_text, spaced_text}
 use Rattle.til_parser.specs.Canonical.{body_text, streamlet_text, kind_text, decl_text, doc_line, namespace_text, second_text}
 use Rattle.til_parser.specs.Same.{Alike, SameName, SameNames, SameType, SameParts, SamePort, SameEnd, SameStmt, SameBody, SamePorts, SameKind, SameDecl, SameNamespace}
-use Rattle.til_parser.specs.Trees.{HasName, IsPath, IsDoc, IsQuote, IsShort, IsSpelledNumber, AreSettings, IsType, AreParts, IsPort, IsEnd, IsStmt, IsBody, ArePorts, IsKind}
-use Rattle.til_parser.specs.Tree.{bits, group, union, stream, path, Parts, no_parts, part, Settings}
+use Rattle.til_parser.specs.Trees.{HasName, IsPath, IsDoc, IsQuote, IsShort, IsSpelledNumber, IsType, AreParts, IsPort, IsEnd, IsStmt, IsBody, ArePorts, IsKind}
+use Rattle.til_parser.specs.Tree.{bits, group, union, stream, path, Parts, no_parts, part}
 use Rattle.til_parser.specs.declared.tree.{AstBody.AstBody, AstDecl.AstDecl, AstEnd.AstEnd, AstPort.AstPort, AstPorts.AstPorts, AstStmt.AstStmt}
 use Rattle.til_parser.specs.{Grammar.LastComma, Grammar.Arguments, Trees.IsDecl, Trees.IsNamespace, Trees.IsSecond, declared.ltype.AstSync.AstSync}
 use Rattle.til_parser.proofs.printed.PrintedForms.{Fixed, Printed, at_end, followed, free, joined, made, nothing, one_token, prefixed, seen, spaced, between_words, bracketed}
@@ -134,46 +134,29 @@ sync_form _ = refl
 
 -- ---- types
 
-abbrev PrintedType : Ltype → Type 0
-PrintedType one = PrintedAs (type_text one) SameType SpellsType one
-
--- an argument with a comma after it, and then others
-argument : {F : Form} {A : Type 0} {P : A → Form} {last next : TokenKind} {value other : List ℕ} (spelling : List ℕ) → has_name_form spelling ≡ true
-    → runs_on last 44 ≡ false → Fixed last value F → Printed next other P
-    → Printed next ((spelling ++ (codes ": " ++ value)) ++ (codes ", " ++ other)) (λ a. (Word spelling ⋯ Of kinds.Colon ⋯ F) ⋯ Of kinds.Comma ⋯ P a)
-argument spelling form apart first more = led (labelled spelling form first) (prefixed comma more) apart
-
 -- a word, and what is inside the round brackets after it
 called : {A : Type 0} {P : A → Form} {last : TokenKind} {text : List ℕ} (spelling : List ℕ) → has_name_form spelling ≡ true → runs_on last 41 ≡ false
     → Printed last text P → Printed kinds.Word (spelling ++ (codes "(" ++ (text ++ codes ")"))) (λ a. Word spelling ⋯ Bracketed (P a))
 called spelling form apart inside = worded (led (word spelling form) (bracketed apart inside) refl)
 
-printed_stream : (element user : Ltype) (settings : Settings) → AreSettings settings → PrintedType element → PrintedType user
-    → PrintedType (stream element user settings)
-printed_stream element user settings are of_element of_user =
-    let kept = made (λ a. a) (λ a ts is. with_no_comma _ ts is) (labelled (codes "keep") refl (either_word truth_word refl refl settings.keep)) in
-    let used = suffixed (labelled (codes "user") refl of_user) (prefixed comma kept) refl in
-    let directed = argument (codes "direction") refl refl (either_word direction_word refl refl settings.reverse) used in
-    let levelled = argument (codes "complexity") refl refl (printed_level settings.level are.level) directed in
-    let tied = argument (codes "synchronicity") refl refl (word (sync_word settings.sync) (sync_form settings.sync)) levelled in
-    let nested = argument (codes "dimensionality") refl refl (printed_whole settings.dims are.dims) tied in
-    let counted = argument (codes "throughput") refl refl (printed_number settings.throughput are.throughput) nested in
-    let arguments = made {Q = λ (a : Again SameType element × Again SameType user). Arguments (SpellsType a.0.0) (SpellsType a.1.0) a.1.0 settings} (λ a. a)
-    (λ a ts is. record { order = all_arguments; apart = all_arguments-apart; others = λ argument none. absurd (none (all_arguments-all argument)); written = is })
-    (joined (labelled (codes "data") refl of_element) (prefixed comma counted) refl) in
-    seen (λ a. (stream a.0.0 a.1.0 settings, (a.0.1, a.1.1, refl))) (called (codes "Stream") refl refl arguments)
-
--- a part, which is read again
-abbrev AgainPart : AstName → Ltype → Type 0
-AgainPart name ltype = Again SameName name × Again SameType ltype
-
 mutual
-  printed_type : (one : Ltype) → IsType one → PrintedType one
+  printed_type : (one : Ltype) → IsType one → PrintedAs (type_text one) SameType SpellsType one
   printed_type null is = seen (λ a. (null, tt)) (word (codes "Null") refl)
   printed_type (bits width) is = seen (λ a. (bits width, refl)) (called (codes "Bits") refl refl (printed_whole width is))
   printed_type (group parts) is = seen (λ a. (group a.0, a.1)) (called (codes "Group") refl refl (printed_parts parts is))
   printed_type (union parts) is = seen (λ a. (union a.0, a.1)) (called (codes "Union") refl refl (printed_parts parts is))
-  printed_type (stream element user settings) is = printed_stream element user settings is.2 (printed_type element is.0) (printed_type user is.1)
+  printed_type (stream element user settings) is =
+      let kept = made (λ a. a) (λ a ts s. with_no_comma _ ts s) (labelled (codes "keep") refl (either_word truth_word refl refl settings.keep)) in
+      let used = suffixed (labelled (codes "user") refl (printed_type user is.1)) (prefixed comma kept) refl in
+      let directed = led (labelled (codes "direction") refl (either_word direction_word refl refl settings.reverse)) (prefixed comma used) refl in
+      let levelled = led (labelled (codes "complexity") refl (printed_level settings.level is.2.level)) (prefixed comma directed) refl in
+      let tied = led (labelled (codes "synchronicity") refl (word (sync_word settings.sync) (sync_form settings.sync))) (prefixed comma levelled) refl in
+      let nested = led (labelled (codes "dimensionality") refl (printed_whole settings.dims is.2.dims)) (prefixed comma tied) refl in
+      let counted = led (labelled (codes "throughput") refl (printed_number settings.throughput is.2.throughput)) (prefixed comma nested) refl in
+      let arguments = made {Q = λ (a : Again SameType element × Again SameType user). Arguments (SpellsType a.0.0) (SpellsType a.1.0) a.1.0 settings} (λ a. a)
+      (λ a ts s. record { order = all_arguments; apart = all_arguments-apart; others = λ argument none. absurd (none (all_arguments-all argument)); written = s })
+      (joined (labelled (codes "data") refl (printed_type element is.0)) (prefixed comma counted) refl) in
+      seen (λ a. (stream a.0.0 a.1.0 settings, (a.0.1, a.1.1, refl))) (called (codes "Stream") refl refl arguments)
   printed_type (path names) is = seen (λ a. (path a.0, a.1)) (printed_path names is)
 
   printed_parts : (ones : Parts) → AreParts ones → PrintedAs (but_first (more_parts_text ones)) SameParts SpellsParts ones
@@ -183,9 +166,9 @@ mutual
 
   -- a part with those after it
   printed_more : (name : AstName) (ltype : Ltype) (more : Parts)
-      → Printed kinds.Word (name.name ++ (codes ": " ++ type_text ltype)) (λ (a : AgainPart name ltype). Name a.0.0 ⋯ Of kinds.Colon ⋯ SpellsType a.1.0) → AreParts more
-      → Printed kinds.Word ((name.name ++ (codes ": " ++ type_text ltype)) ++ more_parts_text more)
-      (λ (a : AgainPart name ltype × Again SameParts more). SpellsParts (part a.0.0.0 a.0.1.0 a.1.0))
+      → Printed kinds.Word (name.name ++ (codes ": " ++ type_text ltype)) (λ (a : Again SameName name × Again SameType ltype). Name a.0.0 ⋯ Of kinds.Colon ⋯ SpellsType a.1.0)
+      → AreParts more → Printed kinds.Word ((name.name ++ (codes ": " ++ type_text ltype)) ++ more_parts_text more)
+      (λ (a : (Again SameName name × Again SameType ltype) × Again SameParts more). SpellsParts (part a.0.0.0 a.0.1.0 a.1.0))
   printed_more name ltype no_parts one are = at_end (made (λ a. (a, (no_parts, tt))) (λ a ts is. with_no_comma _ ts is) one)
   printed_more name ltype (part next other more) one are =
       let rest = printed_more next other more (joined (printed_name next are.0) (prefixed colon (printed_type other are.1)) refl) are.2 in
