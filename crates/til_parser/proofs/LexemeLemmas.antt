@@ -1,6 +1,6 @@
 -- The tokens that are left.
 use Rattle.til_parser.proofs.rules.Common.{◌≡◌, ◌-◌, ◌≤◌, ◌⊎◌, inl, inr, ◌∙◌, ℕ, true, false, cond, List, [], ◌∷◌, length, All, length-append, refl, ap, subst, rules, arith}
-use Rattle.til_parser.proofs.rules.Common.{All-head, Outcome, stopped, too_deep, tells, HasForm, IsBetween, TokenKind, AstType, Lexeme, lexemes_of, same_kind, begins_type}
+use Rattle.til_parser.proofs.rules.Common.{Outcome, stopped, too_deep, tells, HasForm, IsBetween, TokenKind, AstType, Lexeme, lexemes_of, same_kind, begins_type}
 use Rattle.til_parser.proofs.rules.Common.{between_marks, ◌++◌}
 use Rattle.std.proofs.Common.{◌==◌, map, slice_index_or, IsUtf8, IsCharBoundary, take}
 use Rattle.std.proofs.{lemmas.List.length-map, lemmas.Str.IsCharBoundary-at_seam, lemmas.Str.IsUtf8-append, Math.Seq.take-append_seam}
@@ -38,8 +38,7 @@ pub TooDeep-first : (text : List ℕ) (tokens : List Token) (token : Token) → 
     → ◌≡◌ {A = Outcome Lexeme AstType} (too_deep begins_type (lexemes_of text tokens)) (stopped reading.TooDeep (lexemes_of text tokens))
 TooDeep-first text [] token formed some same = absurd (omega arith)
 TooDeep-first text (t ∷ tokens) token formed some same =
-    let is : t.kind ≡ kinds.Word = kind_is t.kind kinds.Word same in
-    let form = subst (λ kind. HasForm kind (own_text text t)) is (All-head (HasFormIn text) t tokens formed) in
+    let form = HasForm-first text (t ∷ tokens) t kinds.Word (own_text text t) formed some same refl in
     let test : begins_type (lexeme_of text t) ≡ true = rw (same) form in
     ap (λ b. stopped (cond b reading.TooDeep reading.Refused) (lexemes_of text (t ∷ tokens))) test
 

@@ -1,13 +1,13 @@
 -- What holds of a tree holds of each that is the same, places aside.
 use Rattle.til_parser.proofs.rules.Common.{◌≡◌, ℕ, ◌≤◌, suc, List, [], ◌∷◌, ◌++◌, length, Option, Some, None, refl, ap, subst, arith, codes, is_name, EachIs, Ast, AstKind, AstName}
-use Rattle.til_parser.proofs.rules.Common.{AstNamespace, PortsWithin, StreamletWithin, KindWithin, DeclsWithin, Ltype, null, depth, depth_of_parts, plain}
+use Rattle.til_parser.proofs.rules.Common.{AstNamespace, PortsWithin, KindWithin, DeclsWithin, Ltype, null, depth, depth_of_parts, plain}
 use Rattle.std.proofs.Common.{flat_map, IsTrue}
-use Rattle.til_parser.specs.Canonical.{but_first, names_text, type_text, more_parts_text, port_text, ports_text, second_text, end_text, stmt_text, body_text, streamlet_text}
+use Rattle.til_parser.specs.Canonical.{but_first, names_text, type_text, more_parts_text, port_text, ports_text, second_text, end_text, stmt_text, body_text}
 use Rattle.til_parser.specs.Canonical.{quoted_text, kind_text, decl_text, namespace_text}
-use Rattle.til_parser.specs.Same.{Alike, SameName, SameNames, SameType, SameParts, SamePort, SameSecond, SameEnd, SameStmt, SameBody, SamePorts, SameKind, SameDecl, SameNamespace}
+use Rattle.til_parser.specs.Same.{Alike, SameName, SameNames, SameType, SameParts, SamePort, SameSecond, SameEnd, SameStmt, SameBody, SameKind, SameDecl, SameNamespace}
 use Rattle.til_parser.specs.Tree.{bits, group, union, stream, path, Parts, no_parts, part}
-use Rattle.til_parser.specs.Trees.{HasName, IsPath, IsDoc, IsQuote, IsShort, AreSettings, IsType, AreParts, IsPort, IsSecond, IsEnd, IsStmt, IsBody, ArePorts, IsKind, IsDecl}
-use Rattle.til_parser.specs.declared.tree.{AstBody.AstBody, AstDecl.AstDecl, AstEnd.AstEnd, AstPort.AstPort, AstPorts.AstPorts, AstStmt.AstStmt}
+use Rattle.til_parser.specs.Trees.{HasName, IsPath, IsDoc, IsQuote, IsShort, AreSettings, IsType, AreParts, IsPort, IsSecond, IsEnd, IsStmt, IsBody, IsKind, IsDecl}
+use Rattle.til_parser.specs.declared.tree.{AstBody.AstBody, AstDecl.AstDecl, AstEnd.AstEnd, AstPort.AstPort, AstStmt.AstStmt}
 use Rattle.til_parser.specs.{Laws.AreAlike, Same.SameTree, Trees.IsNamespace}
 use Rattle.til_parser.specs.declared.tree.AstBody.TheVariants as bodies
 use Rattle.til_parser.specs.declared.tree.AstKind.TheVariants as decls
@@ -26,20 +26,15 @@ NoBounds levels one = Unit {0}
 
 -- ---- lists
 
-length-alike : {A : Type 0} (Same : A → A → Type 0) (ones others : List A) → Alike Same ones others → length ones ≡ length others
-length-alike Same [] [] s = refl
-length-alike Same (one ∷ ones) (other ∷ others) s = ap suc (length-alike Same ones others s.1)
-length-alike Same _ _ s = absurd s
-
--- things with this text before each
+-- things with this text before each; there are as many of both
 each-kept : {A : Type 0} {Text : A → List ℕ} {Is : A → Type 0} {Within : ℕ → A → Type 0} {Same : A → A → Type 0} (before : List ℕ)
     → ((one other : A) → Same one other → Kept Text Is Within one other) → (ones others : List A) → Alike Same ones others
-    → Kept (flat_map (λ a. before ++ Text a)) (EachIs Is) (λ levels. EachIs (Within levels)) ones others
-each-kept before kept [] [] s = record { text = refl; is = λ is. is; within = λ levels w. w }
+    → Kept (flat_map (λ a. before ++ Text a)) (EachIs Is) (λ levels. EachIs (Within levels)) ones others × (length ones ≡ length others)
+each-kept before kept [] [] s = (record { text = refl; is = λ is. is; within = λ levels w. w }, refl)
 each-kept before kept (one ∷ ones) (other ∷ others) s =
     let k = kept one other s.0 in
     let more = each-kept before kept ones others s.1 in
-    record { text = cc; is = λ is. (k.is is.0, more.is is.1); within = λ levels w. (k.within levels w.0, more.within levels w.1) }
+    (record { text = cc; is = λ is. (k.is is.0, more.0.is is.1); within = λ levels w. (k.within levels w.0, more.0.within levels w.1) }, ap suc more.1)
 each-kept before kept _ _ s = absurd s
 
 -- ---- names and paths
@@ -50,8 +45,7 @@ name-kept one other s = record { text = s; is = subst (λ l. IsTrue (is_name l))
 path-kept : (ones others : List AstName) → SameNames ones others → Kept names_text IsPath NoBounds ones others
 path-kept ones others s =
     let k = each-kept (codes "::") name-kept ones others s in
-    let size = length-alike SameName ones others s in
-    record { text = ap but_first k.text; is = λ is. record { some = omega (arith, is.some); each = k.is is.each }; within = λ levels w. w }
+    record { text = ap but_first k.0.text; is = λ is. record { some = omega (arith, is.some, k.1); each = k.0.is is.each }; within = λ levels w. w }
 
 -- ---- types
 
@@ -103,7 +97,7 @@ stmt-kept _ _ s = absurd s
 body-kept : (one other : AstBody) → SameBody one other → Kept body_text IsBody NoBounds one other
 body-kept (bodies.Linked one) (bodies.Linked other) s = record { text = ap quoted_text s; is = subst IsQuote s; within = λ levels w. w }
 body-kept (bodies.Structural ones) (bodies.Structural others) s =
-    let k = each-kept (codes " ") stmt-kept ones others s in record { text = cc; is = k.is; within = λ levels w. w }
+    let k = each-kept (codes " ") stmt-kept ones others s in record { text = cc; is = k.0.is; within = λ levels w. w }
 body-kept _ _ s = absurd s
 
 -- ---- what types stand in
@@ -118,22 +112,18 @@ ports-kept [] [] s = record { text = refl; is = λ is. is; within = λ levels w.
 ports-kept (one ∷ ones) (other ∷ others) s =
     let p = port-kept one other s.0 in
     let k = each-kept (codes ", ") port-kept ones others s.1 in
-    record { text = cc; is = λ is. (p.is is.0, k.is is.1); within = λ levels w. (p.within levels w.0, k.within levels w.1) }
+    record { text = cc; is = λ is. (p.is is.0, k.0.is is.1); within = λ levels w. (p.within levels w.0, k.0.within levels w.1) }
 ports-kept _ _ s = absurd s
-
-streamlet-kept : (one other : AstPorts) → SamePorts one other → Kept streamlet_text ArePorts StreamletWithin one other
-streamlet-kept (ports.Own ones) (ports.Own others) s = let k = ports-kept ones others s in record { text = k.text; is = k.is; within = k.within }
-streamlet-kept (ports.Named one) (ports.Named other) s =
-    let k = path-kept one.names other.names s in record { text = k.text; is = k.is; within = λ levels w. w }
-streamlet-kept _ _ s = absurd s
 
 kind-kept : (name : List ℕ) (one other : AstKind) → SameKind one other → Kept (kind_text name) IsKind KindWithin one other
 kind-kept name (decls.Alias one) (decls.Alias other) s =
     let t = type-kept (plain one) (plain other) s in record { text = cc; is = t.is; within = t.within }
 kind-kept name (decls.Interface ones) (decls.Interface others) s =
     let k = ports-kept ones others s in record { text = cc; is = k.is; within = k.within }
-kind-kept name (decls.Streamlet one) (decls.Streamlet other) s =
-    let k = streamlet-kept one other s in record { text = cc; is = k.is; within = k.within }
+kind-kept name (decls.Streamlet (ports.Own ones)) (decls.Streamlet (ports.Own others)) s =
+    let k = ports-kept ones others s in record { text = cc; is = k.is; within = k.within }
+kind-kept name (decls.Streamlet (ports.Named one)) (decls.Streamlet (ports.Named other)) s =
+    let k = path-kept one.names other.names s in record { text = cc; is = k.is; within = λ levels w. w }
 kind-kept name (decls.Impl target body) (decls.Impl target' body') s =
     let t = path-kept target.names target'.names s.0 in
     let k = body-kept body body' s.1 in
@@ -153,10 +143,9 @@ namespace-kept : (one other : AstNamespace) → SameNamespace one other
 namespace-kept one other s =
     let p = path-kept one.path.names other.path.names s.path in
     let k = each-kept [] decl-kept one.decls other.decls s.decls in
-    record { text = cc; is = λ is. record { doc = subst IsDoc s.doc is.doc; path = p.is is.path; decls = k.is is.decls }; within = k.within }
+    record { text = cc; is = λ is. record { doc = subst IsDoc s.doc is.doc; path = p.is is.path; decls = k.0.is is.decls }; within = k.0.within }
 
 pub trees_alike : (one other : Ast) → SameTree one other → AreAlike one other
 trees_alike one other s =
-    let kept = each-kept [] namespace-kept one.namespaces other.namespaces s in
-    let size = length-alike SameNamespace one.namespaces other.namespaces s in
-    record { text = kept.text; spellable = λ is. record { some = omega (arith, is.some); each = kept.is is.each }; within = kept.within }
+    let k = each-kept [] namespace-kept one.namespaces other.namespaces s in
+    record { text = k.0.text; spellable = λ is. record { some = omega (arith, is.some, k.1); each = k.0.is is.each }; within = k.0.within }

@@ -2,15 +2,15 @@
 use Rattle.til_parser.proofs.rules.Common.{◌≡◌, ℕ, ◌^◌, ◌≤◌, List, [], ◌∷◌, length, Option, Some, None, All, refl, sym, ap, subst, ◌∙◌, append-nil, arith, All-head}
 use Rattle.til_parser.proofs.rules.Common.{Place, HasForm, IsBetween, TokenKind, ◌⋯◌, Each, EachIs, AstName, Form, Bracketed, Commas, Doc, IsNamed, Name, Number, One, Path, Quoted}
 use Rattle.til_parser.proofs.rules.Common.{Whole, Lexeme, IsFormed, between_marks, ◌⊎◌, inl, inr, ◌++◌, Argument, AstKind, AstNamespace, IsDefault, Of, Second, SpellsType}
-use Rattle.til_parser.proofs.rules.Common.{SpellsParts, SpellsPort, SpellsPorts, SpellsEnd, SpellsStmt, SpellsBody, SpellsStreamletPorts, SpellsKind, SpellsDecl, SpellsNamespace}
+use Rattle.til_parser.proofs.rules.Common.{SpellsParts, SpellsPort, SpellsPorts, SpellsEnd, SpellsStmt, SpellsBody, SpellsKind, SpellsDecl, SpellsNamespace}
 use Rattle.til_parser.proofs.rules.Common.{Ltype, null, plain, ⊎_elim}
 use Rattle.std.proofs.{Common.IsUtf8, Math.Nat.pow-le-pow_right}
 use Rattle.tydi_base.specs.{Frac.Fraction, Pieces.Lacks}
 use Rattle.tydi_reading.proofs.{StepLemmas.All-front, StepLemmas.All-back, ContainsLemmas.Inside, ContainsLemmas.named-or}
 use Rattle.til_parser.specs.Trees.{PathWith, IsDoc, IsQuote, FitsBetween, IsShort, IsSpelledNumber, AreSettings, TypeWith, PartsWith, PortWith, SecondWith, EndWith}
-use Rattle.til_parser.specs.Trees.{StmtWith, BodyWith, StreamletWith, KindWith, DeclWith, NamespaceWith}
+use Rattle.til_parser.specs.Trees.{StmtWith, BodyWith, KindWith, DeclWith, NamespaceWith}
 use Rattle.til_parser.specs.Tree.{bits, group, union, stream, path, Parts, no_parts, part, Settings}
-use Rattle.til_parser.specs.declared.tree.{AstBody.AstBody, AstDecl.AstDecl, AstEnd.AstEnd, AstPort.AstPort, AstPorts.AstPorts, AstStmt.AstStmt}
+use Rattle.til_parser.specs.declared.tree.{AstBody.AstBody, AstDecl.AstDecl, AstEnd.AstEnd, AstPort.AstPort, AstStmt.AstStmt}
 use Rattle.til_parser.specs.{Numbers.digits_before, Grammar.Arguments, Grammar.Given, Grammar.Level}
 use Rattle.til_parser.proofs.{numbers.NumberLemmas.AreParts-number, numbers.NumberLemmas.cut_at, numbers.NumberLemmas.read_on-below, LexemeLemmas.between_marks-of}
 use Rattle.til_parser.proofs.{rules.StreamFields.one_or_two, texts.NumberTextLemmas.one-is}
@@ -184,15 +184,13 @@ module _ {At : Place → Type 0} {Named : AstName → Type 0} (shows : Shows At 
 
   -- ---- declarations
 
-  streamlet_of : (all : AstPorts) → Spelt At (SpellsStreamletPorts all) → StreamletWith Named all
-  streamlet_of (ports.Own all) spelt = ports_of all spelt
-  streamlet_of (ports.Named target) spelt = path_of shows target.names spelt
-
   -- the name of a declaration, and what follows it
   kind_of : (name : AstName) (kind : AstKind) → Spelt At (SpellsKind name kind) → Named name × KindWith Named kind
   kind_of name (decls.Alias ltype) spelt = (name_of shows name (first_of (second_of spelt)), type_of (plain ltype) (second_of (third_of spelt)))
   kind_of name (decls.Interface all) spelt = (name_of shows name (first_of (second_of spelt)), ports_of all (second_of (third_of spelt)))
-  kind_of name (decls.Streamlet all) spelt = (name_of shows name (first_of (second_of spelt)), streamlet_of all (second_of (third_of spelt)))
+  kind_of name (decls.Streamlet (ports.Own all)) spelt = (name_of shows name (first_of (second_of spelt)), ports_of all (second_of (third_of spelt)))
+  kind_of name (decls.Streamlet (ports.Named target)) spelt =
+      (name_of shows name (first_of (second_of spelt)), path_of shows target.names (second_of (third_of spelt)))
   kind_of name (decls.Impl target body) spelt =
       let after = second_of (third_of spelt) in
       (name_of shows name (first_of (second_of spelt)), (path_of shows target.names (first_of after), body_of body (third_of after)))
