@@ -18,7 +18,7 @@ use Rattle.til_parser.specs.declared.tree.{AstBody.AstBody, AstDecl.AstDecl, Ast
 use Rattle.til_parser.specs.{Grammar.LastComma, Grammar.Arguments, Trees.IsDecl, Trees.IsNamespace, Trees.IsSecond, declared.ltype.AstSync.AstSync}
 use Rattle.til_parser.proofs.printed.PrintedForms.{Fixed, Printed, at_end, followed, free, joined, made, nothing, one_token, prefixed, seen, spaced, between_words, bracketed}
 use Rattle.til_parser.proofs.printed.PrintedForms.{colon, comma, equals, indented, keyword, labelled, led, suffixed, symbol, word, worded}
-use Rattle.til_parser.proofs.{texts.NumberTextLemmas.number_text-is, texts.NumberTextLemmas.power_fits, PlainLemmas.of_plain, PlainLemmas.plain-of_plain}
+use Rattle.til_parser.proofs.{texts.NumberTextLemmas.number_text-is, texts.NumberTextLemmas.power_fits, PlainLemmas.with_plain}
 use Rattle.til_parser.proofs.{LexemeLemmas.between_marks-of, rules.StreamFields.all_arguments-all, rules.StreamFields.all_arguments-apart}
 use Rattle.til_lexer.specs.declared.token.TokenKind.TheVariants as kinds
 use Rattle.til_parser.specs.declared.ltype.AstSync.TheVariants as syncs
@@ -26,21 +26,6 @@ use Rattle.til_parser.specs.declared.tree.AstBody.TheVariants as bodies
 use Rattle.til_parser.specs.declared.tree.AstKind.TheVariants as decls
 use Rattle.til_parser.specs.declared.tree.AstPorts.TheVariants as ports
 use Rattle.til_parser.specs.declared.tree.AstStmt.TheVariants as stmts
-use Rattle.til_parser.specs.Canonical.{type_text, but_first, more_parts_text, port_text, ports_text, end_text, stmt_text, spaced_text, body_text, streamlet_text, kind_text}
-use Rattle.til_parser.specs.Canonical.{decl_text, doc_line, names_text, namespace_text}
-use Rattle.til_parser.specs.Grammar.{Form, Arguments, Bracketed, Doc, Name, Of, Path, Word, SpellsType, SpellsParts, SpellsPort, SpellsPorts, SpellsEnd, SpellsStmt}
-use Rattle.til_parser.specs.Grammar.{SpellsBody, SpellsStreamletPorts, SpellsKind, SpellsDecl, SpellsNamespace, direction_word, sync_word, truth_word, way_word}
-use Rattle.til_parser.specs.Lexemes.{Lexeme}
-use Rattle.til_parser.specs.Same.{Alike, SameName, SameNames, SameType, SameParts, SamePort, SameEnd, SameStmt, SameBody, SamePorts, SameKind, SameDecl, SameNamespace}
-use Rattle.til_parser.specs.Tree.{Ltype, null, bits, group, union, stream, path, Parts, no_parts, part, Settings, plain}
-use Rattle.til_parser.specs.Trees.{HasName, IsPath, IsDoc, AreSettings, IsType, AreParts, IsPort, IsEnd, IsStmt, IsBody, ArePorts, IsKind, IsDecl, IsNamespace}
-use Rattle.til_parser.specs.Words.{all_arguments}
-use Rattle.til_parser.proofs.PlainLemmas.{with_plain}
-use Rattle.til_parser.proofs.printed.PrintedForms.{Printed, Stops, bracketed, colon, comma, ends_as, equals, free, indented, joined, labelled, made, nothing, of_text}
-use Rattle.til_parser.proofs.printed.PrintedForms.{prefixed, spaced, suffixed, symbol, word}
-use Rattle.til_parser.proofs.printed.PrintedLeaves.{Again, printed_commas, printed_doc, printed_each, printed_level, printed_name, printed_number, printed_path}
-use Rattle.til_parser.proofs.printed.PrintedLeaves.{printed_quoted, printed_whole, with_no_comma}
-use Rattle.til_parser.proofs.rules.StreamFields.{all_arguments-all, all_arguments-apart}
 
 -- what is read again, which is the same as this
 abbrev Again : {X : Type 0} → (X → X → Type 0) → X → Type 0
@@ -174,13 +159,9 @@ mutual
       let rest = printed_more next other more (joined (printed_name next are.0) (prefixed colon (printed_type other are.1)) refl) are.2 in
       seen (λ a. (a.0, (part a.1.0.0.0 a.1.0.1.0 a.1.1.0, (a.1.0.0.1, a.1.0.1.1, a.1.1.1)))) (joined one (prefixed comma rest) refl)
 
--- two types are the same
-abbrev SameAst : AstType → AstType → Type 0
-SameAst one other = SameType (plain one) (plain other)
-
-printed_ast : (one : AstType) → IsType (plain one) → PrintedAs (type_text (plain one)) SameAst (λ t. SpellsType (plain t)) one
-printed_ast one is = made (λ a. ((with_plain a.0).0, subst (SameType (plain one)) (sym (with_plain a.0).1) a.1))
-    (λ a ts is. subst (λ t. SpellsType t ts) (sym (with_plain a.0).1) is) (printed_type (plain one) is)
+printed_ast : (one : AstType) → IsType (plain one)
+    → PrintedAs (type_text (plain one)) (λ a b. SameType (plain a) (plain b)) (λ t. SpellsType (plain t)) one
+printed_ast one is = made (λ a. ((with_plain a.0).0, rw (with_plain a.0).1 a.1)) (λ a ts s. rw (with_plain a.0).1 s) (printed_type (plain one) is)
 
 -- ---- ports
 

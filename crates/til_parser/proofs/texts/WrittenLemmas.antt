@@ -1,13 +1,11 @@
 -- Texts that are written part after part.
-use Rattle.std.proofs.Common.{◌≡◌, ◌⊎◌, inl, inr, ℕ, zero, suc, ◌+◌, ◌-◌, ◌*◌, ◌/◌, ◌%◌, ◌<◌, ◌≤◌, ◌++◌, List, [], ◌∷◌, length, take, flat_map}
-use Rattle.std.proofs.Common.{refl, sym, ap, ◌∙◌, append_assoc, append-nil, length-append, take-take, take_at, arith, rules, codes}
+use Rattle.til_parser.proofs.rules.Common.{◌≡◌, ◌⊎◌, ℕ, suc, ◌+◌, ◌-◌, ◌*◌, ◌<◌, ◌≤◌, ◌++◌, List, [], ◌∷◌, length, refl, sym, ap, ◌∙◌, append-nil, length-append, arith}
+use Rattle.til_parser.proofs.rules.Common.{codes}
+use Rattle.std.proofs.Common.{◌/◌, ◌%◌, take, flat_map, append_assoc, take-take, take_at}
 use Rattle.tydi_base.specs.Writing.{StandsInFront}
-use Rattle.til_parser.specs.declared.ltype.{AstPart.AstPart, AstStream.AstStream}
-use Rattle.til_parser.specs.Canonical.{behind_point, digits_of_rest, listed_text, more_parts_text, next_part_text, but_first, settings_text, stream_text, type_text}
-use Rattle.til_parser.specs.Grammar.{truth_word}
-use Rattle.til_parser.specs.Tree.{Settings, plain, settings_of}
-use Rattle.til_parser.proofs.PlainLemmas.{plain_parts}
-use Rattle.til_parser.proofs.texts.NumberTextLemmas.{digits_more, digits_none}
+use Rattle.til_parser.specs.Canonical.{behind_point, digits_of_rest, listed_text, more_parts_text, next_part_text, but_first}
+use Rattle.til_parser.specs.declared.ltype.AstPart.{AstPart}
+use Rattle.til_parser.proofs.{PlainLemmas.plain_parts, texts.NumberTextLemmas.digits_more, texts.NumberTextLemmas.digits_none}
 
 -- ---- the digits behind a point
 
