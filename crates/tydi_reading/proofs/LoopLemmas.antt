@@ -4,7 +4,8 @@ use Rattle.std.specs.Prelude.{Result, OnOk}
 use Rattle.tydi_reading.specs.declared.fault.Fault.{Fault}
 use Rattle.tydi_reading.specs.declared.fault.Fault.TheVariants as faults
 use Rattle.tydi_reading.specs.Lists.{repeated, repeated_turn, steps_turn, separator_turn, mark}
-use Rattle.tydi_reading.specs.Reading.{Outcome, took, stopped, Reader, Reads, Shrinks, and_then, ◌>>=◌, ◌<$>◌, pure, rest_of, Turn, again, done, turned, loop_from, loop, tells}
+use Rattle.tydi_reading.specs.Named.{NeverGrows}
+use Rattle.tydi_reading.specs.Reading.{Outcome, took, stopped, Reader, Reads, Shrinks, and_then, ◌>>=◌, ◌<$>◌, pure, Turn, again, done, turned, loop_from, loop, tells}
 
 -- each turn takes a thing where the loop goes on
 pub record Advances {T S : Type 0} (turn : S → Reader T (Turn S)) : Type 0 where
@@ -111,15 +112,11 @@ pub reads-less : {T A : Type 0} {read : Reader T A} → Shrinks read → (ts res
 reads-less shrinks ts rest (Ok x) reads = shrinks.less ts rest x reads
 reads-less shrinks ts rest (Err e) reads = tt
 
-rest_of-least : {T : Type 0} (ts : List T) → length (rest_of ts) ≤ length ts
-rest_of-least [] = omega arith
-rest_of-least (t ∷ ts) = omega arith
-
--- ---- a thing that is eaten
-
-pub eaten-least : {T : Type 0} (is : T → Bool) (old : List T) (b : Bool) (new : List T) → new ≡ cond b (rest_of old) old → length new ≤ length old
-eaten-least is old true new taken = let same = ap length taken in let least = rest_of-least old in omega arith
-eaten-least is old false new taken = let same = ap length taken in omega arith
+-- a call that did what the reader of a value does that leaves no more things than there were
+pub adds-most : {T K G : Type 0} {value : K → G → Reader T G} → NeverGrows value → (k : K) (given : G) (ts rest : List T) (made : Result G Fault)
+    → Reads (value k given ts) made rest → OnOk made (length rest ≤ length ts)
+adds-most grows k given ts rest (Ok next) reads = grows.least k given ts rest next reads
+adds-most grows k given ts rest (Err e) reads = tt
 
 -- ---- where a loop ends
 

@@ -1,5 +1,5 @@
 -- Named arguments: what is given of them, the rules of their values, and that one argument more is a rule.
-use Rattle.std.proofs.Common.{◌≡◌, ◌⊎◌, inl, inr, ⊎_elim, ◌<◌, ◌≤◌, Bool, true, false, cond, List, [], ◌∷◌, ◌++◌, length, Option, Some, None, option_and_then, refl, sym, ap, ◌∙◌, subst, arith, append_assoc}
+use Rattle.std.proofs.Common.{◌≡◌, ◌⊎◌, inl, inr, ◌<◌, ◌≤◌, Bool, true, false, cond, List, [], ◌∷◌, ◌++◌, length, Option, Some, None, option_and_then, refl, sym, ap, ◌∙◌, subst, arith, append_assoc}
 use Rattle.std.proofs.lemmas.List.{length-append}
 use Rattle.std.specs.List.{Contains}
 use Rattle.std.specs.Option.{is_some}
@@ -296,17 +296,6 @@ module _ {T K G : Type 0} (name : T → Option K) (is_given : K → G → Bool) 
   unfolding argument
   argument-told [] = refl
   argument-told (t ∷ ts) = refl
-
-  pub argument-none : (ts : List T) → told_by name ts ≡ None → argument name is_given value given ts ≡ stopped faults.Refused ts
-  argument-none ts is = argument-told ts ∙ ap (λ o. told o (rest_of ts) ts) is
-
-  pub argument-given : (k : K) (ts : List T) → told_by name ts ≡ Some k → is_given k given ≡ true → argument name is_given value given ts ≡ stopped faults.Refused ts
-  argument-given k ts is test = argument-told ts ∙ ap (λ o. told o (rest_of ts) ts) is
-      ∙ ap (λ b. and_then (meant (cond {A = Option K} b None (Some k)) (rest_of ts) ts) (λ k. value k given)) test
-
-  pub argument-taken : (k : K) (ts : List T) → told_by name ts ≡ Some k → is_given k given ≡ false → argument name is_given value given ts ≡ value k given (rest_of ts)
-  argument-taken k ts is test = argument-told ts ∙ ap (λ o. told o (rest_of ts) ts) is
-      ∙ ap (λ b. and_then (meant (cond {A = Option K} b None (Some k)) (rest_of ts) ts) (λ k. value k given)) test
 
   pub argument-shrinks : NeverGrows value → Shrinks (argument name is_given value given)
   argument-shrinks grows = record { less = λ ts rest next is. less ts rest next (sym (argument-told ts) ∙ is) }

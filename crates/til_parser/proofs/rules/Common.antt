@@ -33,8 +33,8 @@ pub use Rattle.til_parser.specs.declared.{tree.AstNamespace.AstNamespace, tree.A
 pub use Rattle.tydi_base.specs.{Name.is_name, Name.name_of, Name.has_name_form, declared.place.Place.Place}
 pub use Rattle.tydi_reading.proofs.ContainsLemmas.{same_or_not, has-Contains, are_apart-apart, has, Contains-none, Contains-first}
 pub use Rattle.tydi_reading.proofs.FormLemmas.{front-tells, with_ends, regroup, ungroup, follows-front, joins}
-pub use Rattle.tydi_reading.proofs.LoopLemmas.{mapped-less, repeated-all, took-both, reads-less, repeated-unfold, steps-unfold, eaten-least}
-pub use Rattle.tydi_reading.proofs.NamedSteps.{Fields, step-shrinks, argument-none, argument-given, argument-taken}
+pub use Rattle.tydi_reading.proofs.LoopLemmas.{mapped-less, repeated-all, took-both, reads-less, adds-most}
+pub use Rattle.tydi_reading.proofs.NamedSteps.{Fields, added-grows}
 pub use Rattle.tydi_reading.proofs.RepeatedRule.{Begins, begins-repeats, each_unit, Repeats, repeated-rule, begins-filled, begins-apart}
 pub use Rattle.tydi_reading.proofs.Rule.{as_rule, as_flat, of_flat, flat, flat_skip, flat_close, both, flat_parted, viewed, Made, either-rule, optional-rule, front-marked}
 pub use Rattle.tydi_reading.proofs.Rule.{respelled, shrinks, skip, parted, made-rule, close, mark-tells, fewer, Mark}
@@ -44,7 +44,7 @@ pub use Rattle.tydi_reading.specs.Calls.{DoesRead, DoesTell, DoesStep}
 pub use Rattle.tydi_reading.specs.Forms.{Never, Anything, ◌⋯◌, Past, GoesOn, Nothing}
 pub use Rattle.tydi_reading.specs.Lists.{Each, EachIs}
 unfoldable pub use Rattle.tydi_reading.specs.Lists.{separated, repeated, joined, repeated_turn, steps, steps_turn, separator_turn, mark}
-pub use Rattle.tydi_reading.specs.Named.{AreApart}
+pub use Rattle.tydi_reading.specs.Named.{AreApart, NeverGrows}
 unfoldable pub use Rattle.tydi_reading.specs.Named.{argument, named}
 pub use Rattle.tydi_reading.specs.Reading.{Shrinks, tells, choose, Reader, ◌>>◌, Outcome, took, stopped, and_then, meant, ◌<&>◌, ◌<$>◌, leaf, led, too_deep, Reads}
 unfoldable pub use Rattle.tydi_reading.specs.Reading.{loop}

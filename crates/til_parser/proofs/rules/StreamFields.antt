@@ -1,9 +1,9 @@
 -- The arguments of a Stream: what is given of each, the Stream that is made of it, and their rule.
 use Rattle.til_parser.proofs.rules.Common.{◌≡◌, ◌⊎◌, inl, inr, true, false, Option, Some, None, option_map, refl, sym, ap, ◌∙◌, ⊎_elim, ◌∷◌, subst, none-some, same_Some, Contains}
-use Rattle.til_parser.proofs.rules.Common.{unwrap_or, AreApart, argument, same_or_not, has-Contains, are_apart-apart, has, Fields, step-shrinks, Arguments, Argument, AstType}
+use Rattle.til_parser.proofs.rules.Common.{unwrap_or, AreApart, NeverGrows, same_or_not, has-Contains, are_apart-apart, has, Fields, added-grows, Arguments, Argument, AstType}
 use Rattle.til_parser.proofs.rules.Common.{AstStream, roll-AstStream, Form, IsDefault, SpellsType, Of, Word, Bracketed, argument_word, direction_word, truth_word, lowest}
 use Rattle.til_parser.proofs.rules.Common.{divisor_from, Value, field, put, is_given, none_given, filled, stream_of, value_of, stream, plain, settings_of, all_arguments}
-use Rattle.til_parser.proofs.rules.Common.{argument_of, argument_at, Never, Anything, ◌⋯◌, Reader, Shrinks, ◌>>◌, IsRule, as_rule, as_flat, of_flat, fewer, skip, flat_skip, close}
+use Rattle.til_parser.proofs.rules.Common.{argument_of, argument_at, Never, Anything, ◌⋯◌, Reader, ◌>>◌, IsRule, as_rule, as_flat, of_flat, fewer, skip, flat_skip, close}
 use Rattle.til_parser.proofs.rules.Common.{mark-tells, Lexeme, IsFormed, ValueTo, SpellsArgument, ArgumentsTo, same_kind, is_kind, expect, ◌↔◌, arith}
 use Rattle.til_parser.specs.contracts.keyword.Argument.{the_type}
 use Rattle.til_parser.specs.declared.keyword.Argument.TheVariants as arguments
@@ -200,8 +200,8 @@ module _ (inner : Reader Lexeme AstType) (W : AstType → Type 0) (D : Form) (ru
     apart = λ rest is. kind-not kinds.CloseParen kinds.Comma refl rest is;
   }
 
-  pub argument-shrinks : (given : Arguments) → Shrinks (argument argument_at is_given (read.value inner) given)
-  argument-shrinks = step-shrinks IsFormed fields values (is_kind kinds.CloseParen) false (is_kind kinds.Comma) (Of kinds.Comma) between
+  pub value-grows : NeverGrows (read.value inner)
+  value-grows = added-grows IsFormed fields values
 
   defaults : Defaults IsFormed fields values (is_kind kinds.CloseParen) false (is_kind kinds.Comma) (Of kinds.Comma) between
   defaults one or arguments.Data default = absurd default

@@ -1,11 +1,11 @@
 -- The rules of types: the word with which one begins, its parts, a type by the types inside it, and types of so many levels.
 use Rattle.til_parser.proofs.rules.Common.{◌≡◌, ◌↔◌, ℕ, zero, suc, ◌≤◌, ◌⊎◌, inl, inr, ⊎_elim, true, false, List, [], ◌∷◌, ◌++◌, All, Option, Some, None, refl, sym, ap, ◌∙◌, subst}
 use Rattle.til_parser.proofs.rules.Common.{arith, codes, true≢false, is_some, append-nil, All-nil, All-append, is_name, has_name_form, Never, Anything, ◌⋯◌, GoesOn, EachIs}
-use Rattle.til_parser.proofs.rules.Common.{argument, Reader, Shrinks, tells, ◌<$>◌, IsRule, Contains-none, Contains-first, with_ends, joins, front-tells, mapped-less, Begins}
+use Rattle.til_parser.proofs.rules.Common.{NeverGrows, Reader, Shrinks, tells, ◌<$>◌, IsRule, Contains-none, Contains-first, with_ends, joins, front-tells, mapped-less, Begins}
 use Rattle.til_parser.proofs.rules.Common.{begins-repeats, as_rule, as_flat, flat_skip, flat_close, parted, viewed, Made, made-rule, respelled, shrinks, Only, pure-rule}
-use Rattle.til_parser.proofs.rules.Common.{entry-none, Arguments, AstStream, AstName, AstPath, Form, Of, Word, IsNamed, Whole, Path, Commas, Bracketed}
+use Rattle.til_parser.proofs.rules.Common.{entry-none, AstStream, AstName, AstPath, Form, Of, Word, IsNamed, Whole, Path, Commas, Bracketed}
 use Rattle.til_parser.proofs.rules.Common.{SpellsType, SpellsParts, Lexeme, IsFormed, SpellsPart, BracketedTo, PartTo, AfterTo, InsideTo, TypeTo, same_kind, is_kind, begins_type}
-use Rattle.til_parser.proofs.rules.Common.{type_word, all_type_words, type_word_of, type_word_at, argument_at, path, bits, part, one_more, bracketed, is_given, value, type_after}
+use Rattle.til_parser.proofs.rules.Common.{type_word, all_type_words, type_word_of, type_word_at, path, bits, part, one_more, bracketed, value, type_after}
 use Rattle.til_parser.proofs.rules.Common.{type_with, ltype, Ltype, null, plain, depth, depth_of_parts}
 use Rattle.tydi_reading.proofs.{ChoiceRules.too_deep-rule, FormLemmas.goes_as, LedRule.led-rule, Rule.Flat, Rule.of_mark}
 use Rattle.til_lexer.specs.declared.token.TokenKind.TheVariants as kinds
@@ -17,7 +17,7 @@ use Rattle.til_parser.specs.declared.ltype.AstType.{AstType, roll-AstType, TheOp
 use Rattle.til_parser.specs.declared.ltype.AstType.TheVariants as types
 use Rattle.til_parser.proofs.PlainLemmas.{plain_parts, plain-Null, plain-Bits, plain-Group, plain-Union, plain-Stream, plain-Path}
 use Rattle.til_parser.proofs.rules.LeafRules.{PathNext, name-rule, name-begins, whole-rule, path-rule, path-front, bracketed-rule}
-use Rattle.til_parser.proofs.rules.StreamFields.{S, ArgumentsOf, least, default-is, stream-rule, argument-shrinks}
+use Rattle.til_parser.proofs.rules.StreamFields.{S, ArgumentsOf, least, default-is, stream-rule, value-grows}
 use Rattle.til_parser.proofs.rules.TokenRules.{both, made, one, kind_is, kind-apart, colon, open_paren, close_paren, word_at-word, word_at-back, word_at-rule, word_at-there, word_mark}
 
 -- ---- the word with which a type begins
@@ -238,5 +238,5 @@ pub Shrinks-part : (n : ℕ) (found : List AstPart) → Shrinks (one_more (part 
 Shrinks-part n found = mapped-less (λ x. found ++ x ∷ []) (part (ltype n))
     (shrinks (as_rule (part-rule n (ltype n) (TypeTo n) (ltype-rule n))) (part-begins n (ltype n) (TypeTo n) (ltype-rule n)))
 
-pub Shrinks-argument : (n : ℕ) (given : Arguments) → Shrinks (argument argument_at is_given (value (ltype n)) given)
-Shrinks-argument n = argument-shrinks (ltype n) (Fits n) (TypeTo n) (ltype-rule n) (null_within n)
+pub value-never-grows : (n : ℕ) → NeverGrows (value (ltype n))
+value-never-grows n = value-grows (ltype n) (Fits n) (TypeTo n) (ltype-rule n) (null_within n)

@@ -23,14 +23,11 @@ decreases-Parser::arguments l = 8 * l.levels + 4
 abbrev pub decreases-Parser::next_part : goal.decreases-Parser::next_part
 decreases-Parser::next_part l = 8 * l.levels + 2
 
-abbrev pub decreases-Parser::argument : goal.decreases-Parser::argument
-decreases-Parser::argument l = 8 * l.levels + 2
-
 abbrev pub decreases-Parser::value : goal.decreases-Parser::value
 decreases-Parser::value l = 8 * l.levels + 1
 
 abbrev pub decreases-Parser::parts-bracketed : goal.decreases-Parser::parts-bracketed
 decreases-Parser::parts-bracketed l = 8 * l.levels + 3
 
-abbrev pub decreases-Parser::arguments-steps : goal.decreases-Parser::arguments-steps
-decreases-Parser::arguments-steps l = 8 * l.levels + 3
+abbrev pub decreases-Parser::arguments-named+arg7 : goal.decreases-Parser::arguments-named+arg7
+decreases-Parser::arguments-named+arg7 l = 8 * l.levels + 3
