@@ -40,19 +40,16 @@ AreParts-number number (inr point) =
 
 -- ---- that numbers fit
 
-abbrev limit : ℕ
-limit = 18446744073709551616
-
 pub tens_pos : (n : ℕ) → 0 < 10 ^ n
 tens_pos n = pow-le-pow_right {n = 10} (omega arith) {i = 0} {j = n} (omega arith)
 
-pub tens_fit : (n : ℕ) → n ≤ 18 → 10 ^ n < limit
+pub tens_fit : (n : ℕ) → n ≤ 18 → 10 ^ n < 2 ^ 64
 tens_fit n few = let most : 10 ^ n ≤ 10 ^ 18 = pow-le-pow_right (omega arith) few in omega arith
 
 -- one more digit leaves room for one less
 pub room-next : (value : ℕ) (digits : List ℕ) (i : ℕ) → list_all is_ascii_digit digits ≡ true → i < length digits
-    → (value + 1) * 10 ^ (length digits - i) ≤ limit
-    → (10 * value + (get_or digits i 0 - 48) + 1) * 10 ^ (length digits - (i + 1)) ≤ limit
+    → (value + 1) * 10 ^ (length digits - i) ≤ 2 ^ 64
+    → (10 * value + (get_or digits i 0 - 48) + 1) * 10 ^ (length digits - (i + 1)) ≤ 2 ^ 64
 room-next value digits i all less room =
     let one = AllPass-from_list_all is_ascii_digit digits all i 0 less in
     let grows : 10 * value + (get_or digits i 0 - 48) + 1 ≤ (value + 1) * 10 = grind (arith, nat_tests) in
@@ -61,18 +58,18 @@ room-next value digits i all less room =
     (rw (mul_assoc (value + 1) 10 (10 ^ (length digits - (i + 1))), ← pow-succ' 10 (length digits - (i + 1)), ← left) room)
 
 -- what has room fits
-pub room-fits : (number left : ℕ) → (number + 1) * 10 ^ left ≤ limit → number < limit
+pub room-fits : (number left : ℕ) → (number + 1) * 10 ^ left ≤ 2 ^ 64 → number < 2 ^ 64
 room-fits number left room = let some = tens_pos left in let grows = le-mul_of_pos_right (number + 1) some in omega arith
 
 -- what digits spell is less than ten to their count
 pub read_on-below : (digits : List ℕ) → list_all is_ascii_digit digits ≡ true → read_on 0 digits < 10 ^ length digits
 read_on-below digits each = let all = own.to digits each in rw (own.same digits all) (digits_value-lt 10 digits all)
 
-pub room-whole : (number : List ℕ) → AreParts number → 1 * 10 ^ length (digits_before number) ≤ limit
+pub room-whole : (number : List ℕ) → AreParts number → 1 * 10 ^ length (digits_before number) ≤ 2 ^ 64
 room-whole number parts =
     let few = parts.few in let fits = tens_fit (length (digits_before number)) (omega arith) in omega arith
 
-pub room-behind : (number : List ℕ) → AreParts number → (read_on 0 (digits_before number) + 1) * 10 ^ length (digits_behind number) ≤ limit
+pub room-behind : (number : List ℕ) → AreParts number → (read_on 0 (digits_before number) + 1) * 10 ^ length (digits_behind number) ≤ 2 ^ 64
 room-behind number parts =
     let whole : read_on 0 (digits_before number) + 1 ≤ 10 ^ length (digits_before number) = omega (arith, read_on-below (digits_before number) parts.before) in
     let most = mul-le-mul_right (10 ^ length (digits_behind number)) whole in

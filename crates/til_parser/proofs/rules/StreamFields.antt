@@ -133,7 +133,7 @@ abbrev pub S : AstType → Form
 S x = SpellsType (plain x)
 
 abbrev pub ArgumentsOf : AstStream → Form
-ArgumentsOf one = grammar.Arguments (SpellsType (plain one.element)) (SpellsType (plain one.user)) (plain one.user) (settings_of one)
+ArgumentsOf one = grammar.Arguments (S one.element) (S one.user) (plain one.user) (settings_of one)
 
 each_argument : (name : Argument) → argument_of (argument_word name) ≡ Some name
 each_argument arguments.Data = refl
@@ -209,7 +209,8 @@ module _ (inner : Reader Lexeme AstType) (W : AstType → Type 0) (D : Form) (ru
       (⊎_elim (null_within one.element) (λ none. absurd none) (or arguments.Data))
   defaults one or _ default = tt
 
-  pub stream-rule : IsRule IsFormed (stream inner) (λ one. Bracketed (ArgumentsOf one)) (λ _. Anything) (λ one. (name : Argument) → ValueWithin name (value one name)) (Of kinds.OpenParen ⋯ ArgumentsTo D)
+  pub stream-rule : IsRule IsFormed (stream inner) (λ one. Bracketed (ArgumentsOf one)) (λ _. Anything)
+      (λ one. (name : Argument) → ValueWithin name (value one name)) (Of kinds.OpenParen ⋯ ArgumentsTo D)
   unfolding stream
   stream-rule =
       (skip open_paren (close
