@@ -1,11 +1,8 @@
 -- Fractions in lowest terms, by the remainders of each part by the next.
 use Rattle.std.proofs.Common.{◌≡◌, ℕ, zero, suc, ◌%◌, ◌<◌, false, eqb, Option, None, Some, IfSome, refl, ◌∙◌, mod-lt, arith}
-use Rattle.std.proofs.Math.Nat.{pos_of_dvd_of_pos}
+use Rattle.std.proofs.{Math.Nat.pos_of_dvd_of_pos, lemmas.Nat.Gcd.IsGcd-from_zero, lemmas.Nat.Gcd.IsGcd-from_mod, lemmas.Bool.Decides.nat_tests}
 use Rattle.std.specs.Int.{IsGcd}
-use Rattle.std.proofs.lemmas.Nat.Gcd.{IsGcd-from_zero, IsGcd-from_mod}
-use Rattle.std.proofs.lemmas.Bool.Decides.{nat_tests}
-use Rattle.tydi_base.specs.Frac.{Fraction, IsReduced}
-use Rattle.tydi_base.proofs.FracLaws.{IsReduced-divided, same_from_IsReduced}
+use Rattle.tydi_base.{specs.Frac.Fraction, specs.Frac.IsReduced, proofs.FracLaws.IsReduced-divided, proofs.FracLaws.same_from_IsReduced}
 use Rattle.til_parser.specs.Numbers.{divisor_from, lowest}
 
 divisor_from-is : (turns num den : ℕ) → den < turns → IsGcd num den (divisor_from turns num den)
