@@ -20,14 +20,11 @@ Parser::parts-returns t c =
     let made = c.bracketed.ensures (one_more (part (ltype c.args.levels))) (λ p q found a k. search rules) (Shrinks-part c.args.levels) in
     first_of (search rules, grind (arith, common_steps))
 
-pub Parser::arguments-named-requires : goal.Parser::arguments-named-requires
-Parser::arguments-named-requires t c κs = (
-  search rules,
-  (
-    search rules,
-    (search rules, (search rules, (search rules, ((argument_at, λ p k m. search rules), λ p q k given a m. adds-most (value-never-grows c.args.levels) k given p.now q.now a (search rules))))),
-  ),
-)
+pub Parser::arguments-named-requires-clause-named : goal.Parser::arguments-named-requires-clause-named
+Parser::arguments-named-requires-clause-named t c = (argument_at, λ p k m. search rules)
+
+pub Parser::arguments-named-requires-clause-least : goal.Parser::arguments-named-requires-clause-least
+Parser::arguments-named-requires-clause-least t c = λ p q k given a m. adds-most (value-never-grows c.args.levels) k given p.now q.now a (search rules)
 
 pub Parser::arguments-returns : goal.Parser::arguments-returns
 Parser::arguments-returns t c = rw c.none.ensures at (c.named.ensures argument_at is_given (value (ltype c.args.levels)) (is_kind kinds.CloseParen) (is_kind kinds.Comma) false

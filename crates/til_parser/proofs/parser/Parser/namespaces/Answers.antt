@@ -2,8 +2,8 @@ use Rattle.til_parser.proofs.rules.Common.{false, true, rules, repeated, reads-l
 use Rattle.til_parser.proofs.rules.ProjectRules.{Shrinks-namespace}
 use Rattle.til_parser.proofs.parser.Parser.namespaces.Goals as goal
 
-pub repeated-requires : goal.repeated-requires
-repeated-requires c κs = (search rules, (search rules, (search rules, λ p q a k. reads-less (Shrinks-namespace c.args.levels) p.now q.now a (search rules))))
+pub repeated-requires-clause-less : goal.repeated-requires-clause-less
+repeated-requires-clause-less c = λ p q a k. reads-less (Shrinks-namespace c.args.levels) p.now q.now a (search rules)
 
 pub returns : goal.returns
 unfolding repeated

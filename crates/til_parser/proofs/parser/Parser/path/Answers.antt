@@ -3,8 +3,8 @@ use Rattle.til_lexer.specs.declared.token.TokenKind.TheVariants as kinds
 use Rattle.til_parser.proofs.rules.LeafRules.{Shrinks-next_name}
 use Rattle.til_parser.proofs.parser.Parser.path.Goals as goal
 
-pub repeated-requires : goal.repeated-requires
-repeated-requires c κs = (search rules, (search rules, (search rules, λ p q a k. reads-less Shrinks-next_name p.now q.now a (search rules))))
+pub repeated-requires-clause-less : goal.repeated-requires-clause-less
+repeated-requires-clause-less c = λ p q a k. reads-less Shrinks-next_name p.now q.now a (search rules)
 
 pub returns-in_err-all : goal.returns-in_err-all
 unfolding path joined
