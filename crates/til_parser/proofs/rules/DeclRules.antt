@@ -101,6 +101,33 @@ body-rule =
       other_within = λ all. tt;
     })
 
+-- ---- keywords
+
+pub keyword-rule : IsRule IsFormed keyword (λ x. Word (keyword_word x)) (λ _. Anything) (λ _. Unit {0}) Never
+keyword-rule = table-rule keyword_word all_keywords (elim [ keywords.Type ↦ refl | _ ↦ refl ]) keywords.Type refl
+
+-- what follows the keyword and the name of a declaration
+abbrev pub KindForm : Keyword → AstKind → Form
+KindForm keywords.Type = Made decls.Alias (λ x. Of kinds.Equals ⋯ S x)
+KindForm keywords.Interface = Made decls.Interface (λ x. Of kinds.Equals ⋯ SpellsPorts x)
+KindForm keywords.Streamlet = Made decls.Streamlet (λ x. Of kinds.Equals ⋯ SpellsStreamletPorts x)
+KindForm keywords.Impl = Made (λ (i : AstPath × AstBody). decls.Impl i.0 i.1) (λ i. Word (codes "of") ⋯ (Path i.0.names ⋯ (Of kinds.Equals ⋯ SpellsBody i.1)))
+KindForm keywords.Test = Made (λ (t : AstPath × (AstName × (List ℕ × List ℕ))). decls.Test t.0 t.1.0 t.1.1.0 t.1.1.1)
+    (λ t. Word (codes "of") ⋯ (Path t.0.names ⋯ (Word (codes "drive") ⋯ (Name t.1.0 ⋯ (Of kinds.Equals ⋯ (Quoted t.1.1.0 ⋯ (Word (codes "plan") ⋯ Quoted t.1.1.1)))))))
+
+pub kind_parts : (called : AstName) (kind : AstKind) (ts : List Lexeme) → SpellsKind called kind ts
+    → (begun : Keyword) × ((Word (keyword_word begun) ⋯ (Name called ⋯ KindForm begun kind)) ts)
+kind_parts called (decls.Alias x) ts s = (keywords.Type, with_ends s (with_ends s.ends (x, refl, s.ends.ends)))
+kind_parts called (decls.Interface all) ts s = (keywords.Interface, with_ends s (with_ends s.ends (all, refl, s.ends.ends)))
+kind_parts called (decls.Streamlet all) ts s = (keywords.Streamlet, with_ends s (with_ends s.ends (all, refl, s.ends.ends)))
+kind_parts called (decls.Impl target inside) ts s = (keywords.Impl, with_ends s (with_ends s.ends ((target, inside), refl, s.ends.ends)))
+kind_parts called (decls.Test target port value plan) ts s = (keywords.Test, with_ends s (with_ends s.ends ((target, (port, (value, plan))), refl, s.ends.ends)))
+
+pub kind_of_parts : (begun : Keyword) (called : AstName) (kind : AstKind) (ts : List Lexeme) → (Word (keyword_word begun) ⋯ (Name called ⋯ KindForm begun kind)) ts
+    → SpellsKind called kind ts
+kind_of_parts keywords.Type called kind ts s = let m = s.ends.ends in rw m.1 (with_ends s (with_ends s.ends m.2))
+kind_of_parts _ called kind ts s = let m = s.ends.ends in rw m.1 (with_ends s (with_ends s.ends m.2))
+
 module _ (n : ℕ) where
   -- ---- ports
 
@@ -146,41 +173,13 @@ module _ (n : ℕ) where
         other_within = λ p. tt;
       })
 
--- ---- keywords
+  -- ---- a declaration, by its keyword
 
-pub keyword-rule : IsRule IsFormed keyword (λ x. Word (keyword_word x)) (λ _. Anything) (λ _. Unit {0}) Never
-keyword-rule = table-rule keyword_word all_keywords (elim [ keywords.Type ↦ refl | _ ↦ refl ]) keywords.Type refl
-
--- ---- what follows the keyword and the name
-
--- a declaration of this keyword
-abbrev pub KindForm : Keyword → AstKind → Form
-KindForm keywords.Type = Made decls.Alias (λ x. Of kinds.Equals ⋯ S x)
-KindForm keywords.Interface = Made decls.Interface (λ x. Of kinds.Equals ⋯ SpellsPorts x)
-KindForm keywords.Streamlet = Made decls.Streamlet (λ x. Of kinds.Equals ⋯ SpellsStreamletPorts x)
-KindForm keywords.Impl = Made (λ (i : AstPath × AstBody). decls.Impl i.0 i.1) (λ i. Word (codes "of") ⋯ (Path i.0.names ⋯ (Of kinds.Equals ⋯ SpellsBody i.1)))
-KindForm keywords.Test = Made (λ (t : AstPath × (AstName × (List ℕ × List ℕ))). decls.Test t.0 t.1.0 t.1.1.0 t.1.1.1)
-    (λ t. Word (codes "of") ⋯ (Path t.0.names ⋯ (Word (codes "drive") ⋯ (Name t.1.0 ⋯ (Of kinds.Equals ⋯ (Quoted t.1.1.0 ⋯ (Word (codes "plan") ⋯ Quoted t.1.1.1)))))))
-
-pub kind_parts : (called : AstName) (kind : AstKind) (ts : List Lexeme) → SpellsKind called kind ts
-    → (begun : Keyword) × ((Word (keyword_word begun) ⋯ (Name called ⋯ KindForm begun kind)) ts)
-kind_parts called (decls.Alias x) ts s = (keywords.Type, with_ends s (with_ends s.ends (x, refl, s.ends.ends)))
-kind_parts called (decls.Interface all) ts s = (keywords.Interface, with_ends s (with_ends s.ends (all, refl, s.ends.ends)))
-kind_parts called (decls.Streamlet all) ts s = (keywords.Streamlet, with_ends s (with_ends s.ends (all, refl, s.ends.ends)))
-kind_parts called (decls.Impl target inside) ts s = (keywords.Impl, with_ends s (with_ends s.ends ((target, inside), refl, s.ends.ends)))
-kind_parts called (decls.Test target port value plan) ts s = (keywords.Test, with_ends s (with_ends s.ends ((target, (port, (value, plan))), refl, s.ends.ends)))
-
-pub kind_of_parts : (begun : Keyword) (called : AstName) (kind : AstKind) (ts : List Lexeme) → (Word (keyword_word begun) ⋯ (Name called ⋯ KindForm begun kind)) ts
-    → SpellsKind called kind ts
-kind_of_parts keywords.Type called kind ts s = let m = s.ends.ends in rw m.1 (with_ends s (with_ends s.ends m.2))
-kind_of_parts _ called kind ts s = let m = s.ends.ends in rw m.1 (with_ends s (with_ends s.ends m.2))
-
-module _ (n : ℕ) where
   pub kind-rule_of : (begun : Keyword) → IsRule IsFormed (kind_of n begun) (KindForm begun) (λ _. PathNext) (KindWithin n) (RestTo n begun)
   unfolding impl_kind test_kind same_kind
   kind-rule_of keywords.Type = made-rule decls.Alias (skip equals (as_rule (ltype-rule n))) (λ _. PathNext) (KindWithin n) (λ x rest next. next) (λ x w. w) (λ x w. w)
-  kind-rule_of keywords.Interface = made-rule decls.Interface (skip equals (as_rule (ports-rule n))) (λ _. PathNext) (KindWithin n) (λ x rest next. tt) (λ x w. w) (λ x w. w)
-  kind-rule_of keywords.Streamlet = made-rule decls.Streamlet (skip equals (as_rule (streamlet-rule n))) (λ _. PathNext) (KindWithin n) (λ x rest next. next) (λ x w. w) (λ x w. w)
+  kind-rule_of keywords.Interface = made-rule decls.Interface (skip equals (as_rule ports-rule)) (λ _. PathNext) (KindWithin n) (λ x rest next. tt) (λ x w. w) (λ x w. w)
+  kind-rule_of keywords.Streamlet = made-rule decls.Streamlet (skip equals (as_rule streamlet-rule)) (λ _. PathNext) (KindWithin n) (λ x rest next. next) (λ x w. w) (λ x w. w)
   kind-rule_of keywords.Impl =
       made-rule _ (of_flat (flat_skip (word_mark (codes "of") refl) (flat_parted (as_flat path-rule) equals (as_flat body-rule) (λ p. Of-not kinds.Equals kinds.DoubleColon refl))))
       (λ _. PathNext) (KindWithin n) (λ x rest next. tt) (λ x w. tt) (λ x w. tt)
