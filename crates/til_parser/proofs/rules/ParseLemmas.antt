@@ -23,10 +23,10 @@ project-ends n ts rest ast is = ends (repeated (λ _. false) true (namespace n) 
     ends _ made is = absurd cc
 
 pub project_sound : (n : ℕ) (ts rest : List Lexeme) (ast : Ast) → project n ts ≡ took ast rest → Spells ast ts × IsWithin n ast
-project_sound n = all.all-sound IsFormed (project n) Spells (λ _. AtEnd) (IsWithin n) (ProjectTo n) (project-rule n) (λ x. refl) (project-ends n)
+project_sound n = all.all-sound _ _ _ _ _ _ (project-rule n) (λ x. refl) (project-ends n)
 
 pub project_complete : (n : ℕ) (ts : List Lexeme) (ast : Ast) → All IsFormed ts → IsWithin n ast → Spells ast ts → project n ts ≡ took ast []
-project_complete n = all.all-complete IsFormed (project n) Spells (λ _. AtEnd) (IsWithin n) (ProjectTo n) (project-rule n) (λ x. refl) (project-ends n)
+project_complete n = all.all-complete _ _ _ _ _ _ (project-rule n) (λ x. refl) (project-ends n)
 
 -- ---- why it stops
 
@@ -53,10 +53,8 @@ same_at reading.Memory count left other = absurd (other refl)
 
 pub tree_or_fault : (ts : List Lexeme) → All IsFormed ts → TreeOrFault ts
 tree_or_fault ts formed = record {
-  either = ⊎_elim (λ tree. inl tree) (λ s. inr (fault_of s.0, fault-is ts s.0 s.1))
-      (all.spelled-or IsFormed (project 64) Spells (λ _. AtEnd) (IsWithin 64) (ProjectTo 64) (project-rule 64) (λ x. refl) (project-ends 64) ts formed);
-  apart = λ fault f. let s = stop-is ts fault f in
-      all.stop-none IsFormed (project 64) Spells (λ _. AtEnd) (IsWithin 64) (ProjectTo 64) (project-rule 64) (λ x. refl) (project-ends 64) ts formed s.0 s.2;
+  either = ⊎_elim (λ tree. inl tree) (λ s. inr (fault_of s.0, fault-is ts s.0 s.1)) (all.spelled-or _ _ _ _ _ _ (project-rule 64) (λ x. refl) (project-ends 64) ts formed);
+  apart = λ fault f. let s = stop-is ts fault f in all.stop-none _ _ _ _ _ _ (project-rule 64) (λ x. refl) (project-ends 64) ts formed s.0 s.2;
   one = λ fault other f g. let s = stop-is ts fault f in let o = stop-is ts other g in
       s.1 ∙ ap fault_of (all.stop-one IsFormed Spells (ProjectTo 64) ts formed s.0 o.0 s.2 o.2) ∙ sym o.1;
 }
@@ -69,7 +67,7 @@ pub said : (ts left : List Lexeme) (count some : ℕ) (e : Fault) (fault : Parse
 said ts left count some e fault formed reads is every rest other =
     let apart : e ≢ reading.Memory = λ memory. other (is ∙ ap (λ f. fault_at f count some) memory) in
     rw (is, every, rest, ← same_at e (length ts) (length left) apart) (fault-is ts (stop_at e (length ts) (length left))
-    (all.exact IsFormed (project 64) Spells (λ _. AtEnd) (IsWithin 64) (ProjectTo 64) (project-rule 64) (λ x. refl) (project-ends 64) ts left e formed (reads apart)))
+    (all.exact _ _ _ _ _ _ (project-rule 64) (λ x. refl) (project-ends 64) ts left e formed (reads apart)))
 
 pub named : (ts : List Lexeme) (count : ℕ) (fault : ParseFault) → count ≡ length ts → (fault ≢ faults.Memory → IsFaultOf ts fault) → NamesToken count fault
 named ts count (faults.Unexpected k) every is = subst (λ n. k < n) (sym every) (is (λ e. absurd cc)).there
