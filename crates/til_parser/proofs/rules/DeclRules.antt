@@ -46,7 +46,7 @@ rest-rule called =
     either-rule (is_kind kinds.Equals) _
     (of_flat (flat_skip equals (flat_close (as_flat path-rule) semicolon (λ p. Of-not kinds.Semicolon kinds.DoubleColon refl)))) _
     (flat_parted (as_flat second-rule) (kind_mark kinds.DoubleDash _ refl) (flat_close (as_flat end-rule) semicolon (λ e. Of-not kinds.Semicolon kinds.Point refl))
-    (λ n. Of-not kinds.DoubleDash kinds.Point refl)) (StmtRest called) (λ _. Anything) (λ _. Unit {0})
+    (λ n. Of-not kinds.DoubleDash kinds.Point refl)) _ _ _
     (record {
       one = λ p ts s. inl (p, refl, s);
       other = λ l ts s. inr (l, refl, s);
@@ -69,8 +69,7 @@ stmt_back (stmts.Link first other) ts s = let t = regroup s in (first.first, wit
 pub stmt-rule : IsRule IsFormed stmt SpellsStmt (λ _. Anything) (λ _. Unit {0}) Never
 unfolding stmt
 stmt-rule = (flat (as_rule (respelled (as_rule
-    (chain-rule Name StmtRest IsFormed name (λ called. choose (is_kind kinds.Equals) false (instance_of called) (link_from called)) (λ _. Anything) (λ _. Anything)
-    (λ _. Unit {0}) (λ _. Never) (λ called x back rest s next. tt) (λ called back rest d. tt) name-rule rest-rule))
+    (chain-rule Name StmtRest _ _ _ (λ _. Anything) _ _ _ (λ called x back rest s next. tt) (λ called back rest d. tt) name-rule rest-rule))
     SpellsStmt (λ x ts c. elim c.1.ends [ inl i ↦ rw i.1 (with_ends c.1 i.2) | inr l ↦ rw l.1 (ungroup (with_ends c.1 l.2)) ]) stmt_back)) (λ ts d. d.1.ends) (λ x. tt)).is
 
 stmt-begins : Begins (is_kind kinds.Word) SpellsStmt Never
@@ -85,8 +84,7 @@ pub body-rule : IsRule IsFormed body SpellsBody (λ _. Anything) (λ _. Unit {0}
 unfolding body same_kind
 body-rule =
     either-rule (is_kind kinds.Quoted) bodies.Linked (of_flat (as_flat quoted-rule)) bodies.Structural
-    (flat (as_rule (braced-rule (begins-repeats (kind-apart kinds.Word kinds.CloseBrace refl) stmt-begins) stmt-rule)) (λ ts d. d.ends.1.ends) each_unit)
-    SpellsBody (λ _. Anything) (λ _. Unit {0})
+    (flat (as_rule (braced-rule (begins-repeats (kind-apart kinds.Word kinds.CloseBrace refl) stmt-begins) stmt-rule)) (λ ts d. d.ends.1.ends) each_unit) _ _ _
     (record {
       one = λ text ts s. s;
       other = λ all ts s. s;
@@ -158,7 +156,7 @@ module _ (n : ℕ) where
   streamlet-rule : IsRule IsFormed (streamlet_ports n) SpellsStreamletPorts (λ _. PathNext) (StreamletWithin n) (PortsTo n)
   unfolding streamlet_ports same_kind
   streamlet-rule =
-      either-rule (is_kind kinds.OpenParen) ports.Own (as_rule ports-rule) ports.Named (as_flat path-rule) SpellsStreamletPorts (λ _. PathNext) (StreamletWithin n)
+      either-rule (is_kind kinds.OpenParen) ports.Own (as_rule ports-rule) ports.Named (as_flat path-rule) _ _ _
       (record {
         one = λ all ts s. s;
         other = λ p ts s. s;
@@ -177,15 +175,15 @@ module _ (n : ℕ) where
 
   pub kind-rule_of : (begun : Keyword) → IsRule IsFormed (kind_of n begun) (KindForm begun) (λ _. PathNext) (KindWithin n) (RestTo n begun)
   unfolding impl_kind test_kind same_kind
-  kind-rule_of keywords.Type = made-rule decls.Alias (skip equals (as_rule (ltype-rule n))) (λ _. PathNext) (KindWithin n) (λ x rest next. next) (λ x w. w) (λ x w. w)
-  kind-rule_of keywords.Interface = made-rule decls.Interface (skip equals (as_rule ports-rule)) (λ _. PathNext) (KindWithin n) (λ x rest next. tt) (λ x w. w) (λ x w. w)
-  kind-rule_of keywords.Streamlet = made-rule decls.Streamlet (skip equals (as_rule streamlet-rule)) (λ _. PathNext) (KindWithin n) (λ x rest next. next) (λ x w. w) (λ x w. w)
+  kind-rule_of keywords.Type = made-rule decls.Alias (skip equals (as_rule (ltype-rule n))) _ _ (λ x rest next. next) (λ x w. w) (λ x w. w)
+  kind-rule_of keywords.Interface = made-rule decls.Interface (skip equals (as_rule ports-rule)) _ _ (λ x rest next. tt) (λ x w. w) (λ x w. w)
+  kind-rule_of keywords.Streamlet = made-rule decls.Streamlet (skip equals (as_rule streamlet-rule)) _ _ (λ x rest next. next) (λ x w. w) (λ x w. w)
   kind-rule_of keywords.Impl =
       made-rule _ (of_flat (flat_skip (word_mark (codes "of") refl) (flat_parted (as_flat path-rule) equals (as_flat body-rule) (λ p. Of-not kinds.Equals kinds.DoubleColon refl))))
-      (λ _. PathNext) (KindWithin n) (λ x rest next. tt) (λ x w. tt) (λ x w. tt)
+      _ _ (λ x rest next. tt) (λ x w. tt) (λ x w. tt)
   kind-rule_of keywords.Test =
       made-rule _ (of_flat (flat_skip (word_mark (codes "of") refl) (flat_parted (as_flat path-rule) (word_mark (codes "drive") refl)
       (flat_parted (as_flat name-rule) equals
       (flat_parted (as_flat quoted-rule) (word_mark (codes "plan") refl) (as_flat quoted-rule) (λ x front rest s. tt)) (λ x front rest s. tt))
       (λ p front rest s. rw (s.all, s.is.kind) refl))))
-      (λ _. PathNext) (KindWithin n) (λ x rest next. tt) (λ x w. tt) (λ x w. tt)
+      _ _ (λ x rest next. tt) (λ x w. tt) (λ x w. tt)

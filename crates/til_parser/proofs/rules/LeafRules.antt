@@ -206,5 +206,5 @@ module _ {A : Type 0} {item : Reader Lexeme A} {Item : A → Form} {Within : A �
       → IsRule IsFormed (braced item) (λ items. Braced (Each Item items)) (λ _. Anything) (EachIs Within) (BracedTo Item Deep)
   unfolding braced
   braced-rule repeats one =
-      (skip (kind_mark kinds.OpenBrace _ refl) (close (as_rule (repeated-rule IsFormed (is_kind kinds.CloseBrace) false item Item Within Deep repeats one))
-      (kind_mark kinds.CloseBrace _ refl) (λ items. mark-tells (kind_mark kinds.CloseBrace _ refl)))).is
+      (skip (kind_mark kinds.OpenBrace _ refl) (close (as_rule (repeated-rule _ _ _ _ _ _ _ repeats one)) (kind_mark kinds.CloseBrace _ refl)
+      (λ items. mark-tells (kind_mark kinds.CloseBrace _ refl)))).is

@@ -9,7 +9,7 @@ use Rattle.tydi_reading.proofs.StopLemmas as all
 use Rattle.til_parser.specs.declared.fault.ParseFault.{ParseFault}
 use Rattle.til_parser.specs.declared.fault.ParseFault.TheVariants as faults
 use Rattle.til_parser.specs.Faults.{NamesToken, fault_at, IsFaultOf, IsTold, TreeOrFault}
-use Rattle.til_parser.proofs.rules.ProjectRules.{AtEnd, project-rule}
+use Rattle.til_parser.proofs.rules.ProjectRules.{project-rule}
 
 -- ---- what is read
 

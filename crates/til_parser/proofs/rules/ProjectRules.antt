@@ -1,10 +1,10 @@
 -- The rules of declarations, namespaces and projects.
 use Rattle.til_parser.proofs.rules.Common.{◌≡◌, ℕ, ◌<◌, true, false, List, [], ◌∷◌, ◌++◌, length, Option, Some, None, refl, sym, ap, subst, arith, codes, none-some}
-use Rattle.til_parser.proofs.rules.Common.{same_Some, append-nil, Anything, ◌⋯◌, Past, GoesOn, Each, Shrinks, tells, ◌<&>◌, IsRule, front-tells, Begins, begins-filled}
-use Rattle.til_parser.proofs.rules.Common.{begins-repeats, repeated-rule, as_rule, as_flat, skip, close, both, viewed, respelled, shrinks, chain-rule, Ast, AstKind}
-use Rattle.til_parser.proofs.rules.Common.{AstName, AstNamespace, AstPath, Form, Of, Word, Name, SpellsKind, SpellsDecl, SpellsNamespace, Spells, KindWithin, DeclsWithin}
-use Rattle.til_parser.proofs.rules.Common.{IsWithin, Lexeme, IsFormed, RestTo, KindTo, DeclTo, NamespaceTo, ProjectTo, same_kind, is_kind, name, keyword, kind_of}
-use Rattle.til_parser.proofs.rules.Common.{named_kind, decl, namespace, project_of, project, keyword_word, ◌↔◌}
+use Rattle.til_parser.proofs.rules.Common.{same_Some, append-nil, Anything, ◌⋯◌, GoesOn, Each, Shrinks, tells, IsRule, front-tells, Begins, begins-filled, begins-repeats}
+use Rattle.til_parser.proofs.rules.Common.{repeated-rule, as_rule, as_flat, skip, close, both, viewed, respelled, shrinks, chain-rule, Ast, AstKind, AstName}
+use Rattle.til_parser.proofs.rules.Common.{AstNamespace, AstPath, Form, Of, Word, Name, SpellsKind, SpellsDecl, SpellsNamespace, Spells, KindWithin, DeclsWithin}
+use Rattle.til_parser.proofs.rules.Common.{IsWithin, Lexeme, IsFormed, KindTo, DeclTo, NamespaceTo, ProjectTo, same_kind, is_kind, name, named_kind, decl, namespace}
+use Rattle.til_parser.proofs.rules.Common.{project_of, project, keyword_word, ◌↔◌}
 use Rattle.tydi_reading.proofs.CheckedRule.{checked-rule}
 use Rattle.til_lexer.specs.declared.token.TokenKind.TheVariants as kinds
 use Rattle.til_parser.specs.{Grammar.NamespacesWithin, declared.tree.AstDecl.AstDecl}
@@ -25,10 +25,10 @@ module _ (n : ℕ) where
   named-rule : IsRule IsFormed (named_kind n) (λ z. SpellsKind z.0 z.1) (λ _. PathNext) (λ z. KindWithin n z.1) (KindTo n)
   unfolding named_kind
   named-rule = respelled (as_rule
-      (chain-rule (λ begun. Word (keyword_word begun)) (λ begun z. Name z.0 ⋯ KindForm begun z.1) IsFormed keyword (λ begun. name <&> kind_of n begun)
-      (λ _. Anything) (λ _. PathNext) (λ z. KindWithin n z.1) (λ begun. Past Name (RestTo n begun)) (λ begun z back rest s next. tt) (λ begun back rest d. tt)
-      keyword-rule (λ begun. (both (as_flat name-rule) (as_rule (kind-rule_of n begun)) (λ x y back rest s next. tt) (λ x back rest d. tt)).is)))
-      (λ z. SpellsKind z.0 z.1) (λ z ts c. kind_of_parts c.0 z.0 z.1 ts c.1) (λ z ts s. kind_parts z.0 z.1 ts s)
+      (chain-rule (λ begun. Word (keyword_word begun)) (λ begun z. Name z.0 ⋯ KindForm begun z.1) _ _ _ (λ _. Anything) _ _ _
+      (λ begun z back rest s next. tt) (λ begun back rest d. tt) keyword-rule
+      (λ begun. (both (as_flat name-rule) (as_rule (kind-rule_of n begun)) (λ x y back rest s next. tt) (λ x back rest d. tt)).is)))
+      _ (λ z ts c. kind_of_parts c.0 z.0 z.1 ts c.1) (λ z. kind_parts z.0 z.1)
 
   ended-begins : Begins (is_kind kinds.Word) (λ (z : AstName × AstKind). SpellsKind z.0 z.1 ⋯ Of kinds.Semicolon) (KindTo n)
   ended-begins = record {
@@ -103,5 +103,4 @@ module _ (n : ℕ) where
         apart = λ all ast is. subst (NamespacesWithin n) (sym ((made_is all ast).0 is).1);
         mends = project_mends;
       })
-      (repeated-rule IsFormed (λ _. false) true (namespace n) SpellsNamespace (λ x. DeclsWithin n x.decls) (NamespaceTo n)
-      (begins-repeats (λ t is. refl) namespace-begins) namespace-rule)
+      (repeated-rule _ _ _ _ _ _ _ (begins-repeats (λ t is. refl) namespace-begins) namespace-rule)
