@@ -1,13 +1,12 @@
 -- The rules of names, numbers, marked texts, documentation, paths, and lists in brackets and in braces.
 use Rattle.til_parser.proofs.rules.Common.{◌≡◌, ℕ, ◌^◌, ◌≤◌, nat_lt, Bool, true, false, cond, ◌&&◌, List, [], ◌∷◌, ◌++◌, length, Option, Some, None, inl, inr, refl, sym}
-use Rattle.til_parser.proofs.rules.Common.{ap, subst, bytes_eq, arith, codes, length-append, not, list_all, none-some, same_Some, cond_some, is_name, name_of}
-use Rattle.til_parser.proofs.rules.Common.{has_name_form, Place, Never, Anything, ◌⋯◌, Reader, Shrinks, tells, ◌>>◌, IsRule, bytes_eq-Decides, Each, EachIs, separated}
-use Rattle.til_parser.proofs.rules.Common.{Repeats, repeated-rule, BracketedTo, BracedTo, braced, front-tells, follows-front, as_rule, as_flat, skip, close, viewed}
-use Rattle.til_parser.proofs.rules.Common.{optional-rule, mark-tells, front-marked, shrinks, HasForm, IsBetween, start, TokenKind, AstName, AstPath, Form, One, Of, Word}
-use Rattle.til_parser.proofs.rules.Common.{Commas, Bracketed, Braced, IsNamed, Name, IsWhole, Whole, IsNumber, Number, IsMarked, Quoted, Doc, Level, Path, sync_word}
-use Rattle.til_parser.proofs.rules.Common.{Lexeme, IsFormed, between_marks, whole_of, numerator_of, denominator_of, lowest, bracketed, bracketed_steps, name_at, name}
-use Rattle.til_parser.proofs.rules.Common.{whole, number, level_of, level, marked, quoted, doc, path, either_word, sync, same_kind, is_kind, expect, all_syncs, both}
-use Rattle.til_parser.proofs.rules.Common.{fewer, respelled, Begins}
+use Rattle.til_parser.proofs.rules.Common.{ap, subst, bytes_eq, arith, codes, length-append, not, list_all, none-some, same_Some, cond_some, is_name, has_name_form}
+use Rattle.til_parser.proofs.rules.Common.{Place, Never, Anything, ◌⋯◌, Reader, Shrinks, tells, ◌>>◌, IsRule, bytes_eq-Decides, Each, EachIs, separated, Repeats}
+use Rattle.til_parser.proofs.rules.Common.{repeated-rule, BracketedTo, BracedTo, braced, front-tells, follows-front, as_rule, as_flat, skip, close, viewed, optional-rule}
+use Rattle.til_parser.proofs.rules.Common.{mark-tells, front-marked, shrinks, HasForm, IsBetween, start, TokenKind, AstName, AstPath, Form, One, Of, Word, Commas}
+use Rattle.til_parser.proofs.rules.Common.{Bracketed, Braced, IsNamed, Name, IsWhole, Whole, IsNumber, Number, IsMarked, Quoted, Doc, Level, Path, sync_word, Lexeme}
+use Rattle.til_parser.proofs.rules.Common.{IsFormed, whole_of, numerator_of, denominator_of, lowest, bracketed, bracketed_steps, name_at, name, whole, number, level_of}
+use Rattle.til_parser.proofs.rules.Common.{level, marked, quoted, doc, path, either_word, sync, same_kind, is_kind, expect, all_syncs, both, fewer, respelled, Begins}
 use Rattle.std.specs.Char.{is_ascii_digit}
 use Rattle.std.proofs.lemmas.{Bool.Decides.nat_tests, Str.IsUtf8-nil, Str.Parse.digits_value_short}
 use Rattle.tydi_base.specs.{Decimal.read_on, Decimal.below, Level.IsLevel}
@@ -28,7 +27,7 @@ named place spelling true x same = (refl, sym (same_Some _ x same))
 named place spelling false x same = absurd (none-some x same)
 
 pub name-rule : IsRule IsFormed name Name (λ _. Anything) (λ _. Unit {0}) Never
-name-rule = token-rule kinds.Word (λ place spelling. name_at place (name_of spelling)) IsNamed (record {
+name-rule = token-rule _ _ IsNamed (record {
   there = λ x t is means. let parts = named t.place t.spelling (is_name t.spelling) x means in rw parts.1 (record { kind = is; text = refl; place = refl; named = parts.0 });
   back = λ x t formed is. (is.kind, rw (is.text, is.place, is.named) refl);
 }) (made kinds.Word (codes "a")) (record { name = codes "a"; place = start }) refl refl refl
@@ -66,8 +65,7 @@ one_formed = inl (record { digits = record { some = omega arith; each = refl }; 
 
 pub whole-rule : IsRule IsFormed whole Whole (λ _. Anything) (λ _. Unit {0}) Never
 unfolding whole_of
-whole-rule = token-rule kinds.Number (λ place spelling. whole_of spelling) IsWhole (record { there = is_whole; back = λ x t formed is. (is.kind, means_whole x t formed is) })
-    one_token 1 one_formed refl refl
+whole-rule = token-rule _ _ IsWhole (record { there = is_whole; back = λ x t formed is. (is.kind, means_whole x t formed is) }) one_token 1 one_formed refl refl
 
 -- ---- levels
 
@@ -94,7 +92,7 @@ pub number-rule : IsRule IsFormed number Number (λ _. Anything) (λ _. Unit {0}
 number-rule = token-rule kinds.Number (λ place spelling. Some (lowest (numerator_of spelling) (denominator_of spelling))) IsNumber (record {
   there = λ x t is means. record { kind = is; value = rw (← same_Some _ x means) (IsReduced-lowest _ _ (tens_pos _)) };
   back = λ x t formed is. (is.kind, ap Some (sym (lowest_from_IsReduced _ _ x (tens_pos _) is.value)));
-}) one_token (lowest (numerator_of (codes "1")) (denominator_of (codes "1"))) one_formed refl refl
+}) one_token _ one_formed refl refl
 
 -- ---- marked texts
 
@@ -103,10 +101,10 @@ empty_between mark = record { inside = []; marked = refl; lacks = λ k d less is
 
 marked-rule : (kind : TokenKind) (mark : ℕ) → HasForm kind (mark ∷ mark ∷ [])
     → IsRule IsFormed (marked kind) (λ text. One (IsMarked kind text)) (λ _. Anything) (λ _. Unit {0}) Never
-marked-rule kind mark form = token-rule kind (λ place spelling. Some (between_marks spelling)) (IsMarked kind) (record {
+marked-rule kind mark form = token-rule _ _ (IsMarked kind) (record {
   there = λ x t is means. record { kind_is = is; text_is = sym (same_Some _ x means) };
   back = λ x t formed is. (is.kind_is, ap Some (sym is.text_is));
-}) (made kind (mark ∷ mark ∷ [])) (between_marks (mark ∷ mark ∷ [])) form refl refl
+}) (made kind (mark ∷ mark ∷ [])) _ form refl refl
 
 pub quoted-rule : IsRule IsFormed quoted Quoted (λ _. Anything) (λ _. Unit {0}) Never
 quoted-rule = marked-rule kinds.Quoted 34 (empty_between 34)
@@ -168,8 +166,8 @@ pub path-rule : IsRule IsFormed path (λ x. Path x.names) (λ _. PathNext) (λ _
 unfolding path
 path-rule =
     viewed (λ (names : List AstName). record { names = names }) (λ (x : AstPath). x.names)
-    (as_rule (fewer (as_rule (joined-rule IsFormed (is_kind kinds.DoubleColon) (Of kinds.DoubleColon) name Name (kind_mark kinds.DoubleColon _ refl).is name-rule))
-    (λ _. PathNext) (λ x. not_next (is_kind kinds.DoubleColon)))) (λ x. refl) (λ y. refl)
+    (as_rule (fewer (as_rule (joined-rule _ _ _ _ _ (kind_mark kinds.DoubleColon _ refl).is name-rule)) (λ _. PathNext) (λ x. not_next (is_kind kinds.DoubleColon))))
+    (λ x. refl) (λ y. refl)
 
 -- `::` and a name take a token at least
 pub Shrinks-next_name : Shrinks (expect kinds.DoubleColon >> name)

@@ -121,12 +121,12 @@ module _ {A : Type 0} (kind : TokenKind) (meaning : Place → List ℕ → Optio
 
   as_token : IsRule IsFormed (leaf meaning_of) (λ x. One (Is x)) (λ _. Anything) (λ _. Unit {0}) Never
       → IsRule IsFormed (token kind meaning) (λ x. One (Is x)) (λ _. Anything) (λ _. Unit {0}) Never
-  as_token = read-rule IsFormed (leaf meaning_of) (token kind meaning) (λ x. One (Is x)) (λ _. Anything) (λ _. Unit {0}) Never same_read
+  as_token = read-rule _ _ _ _ _ _ _ same_read
 
   pub token-rule : IsToken kind meaning Is → (thing : Lexeme) (x : A) → IsFormed thing → thing.kind ≡ kind → meaning thing.place thing.spelling ≡ Some x
       → IsRule IsFormed (token kind meaning) (λ x. One (Is x)) (λ _. Anything) (λ _. Unit {0}) Never
   token-rule is_token thing x formed is means =
-      as_token (leaf-rule IsFormed meaning_of (λ x. One (Is x)) thing x formed (rw (same_kind-is thing.kind kind is) means) (record {
+      as_token (leaf-rule _ _ _ thing x formed (rw (same_kind-is thing.kind kind is) means) (record {
         there = λ y t made. let parts = meant_is (same_kind t.kind kind) (meaning t.place t.spelling) y made in
             one (Is y) t (is_token.there y t (kind_is t.kind kind parts.0) parts.1);
         back = λ y ts each s.
@@ -156,9 +156,8 @@ module _ {K : Type 0} (own : K → List ℕ) (all : List K) (each : (x : K) → 
 
   -- a token that is a word of a table
   pub word_at-rule : (x : K) → has_name_form (own x) ≡ true → IsRule IsFormed (leaf (word_at (entry_of own all))) (λ x. Word (own x)) (λ _. Anything) (λ _. Unit {0}) Never
-  word_at-rule x form = leaf-rule IsFormed (word_at (entry_of own all)) (λ x. Word (own x)) (made kinds.Word (own x)) x form (word_at-made x)
-      (record { there = word_at-there; back = λ k ts each s. word_at-back k ts s })
+  word_at-rule x form = leaf-rule _ _ _ (made kinds.Word (own x)) x form (word_at-made x) (record { there = word_at-there; back = λ k ts each s. word_at-back k ts s })
 
   pub table-rule : (x : K) → has_name_form (own x) ≡ true
       → IsRule IsFormed (token kinds.Word (λ place spelling. entry_of own all spelling)) (λ x. Word (own x)) (λ _. Anything) (λ _. Unit {0}) Never
-  table-rule x form = as_token kinds.Word (λ place spelling. entry_of own all spelling) (λ x. IsWord (own x)) (word_at-rule x form)
+  table-rule x form = as_token _ _ (λ x. IsWord (own x)) (word_at-rule x form)
