@@ -1,13 +1,12 @@
 -- The laws of trees and their texts: no text spells two trees, and the tree of a text has its form and its places.
 use Rattle.til_parser.proofs.rules.Common.{◌≡◌, ℕ, ◌≤◌, ◌+◌, List, [], ◌∷◌, All, length, Ok, ap, sym, ◌∙◌, subst, length-append, arith, ◌⋯◌, Each, EachIs, Outcome, took, Ast}
 use Rattle.til_parser.proofs.rules.Common.{AstKind, AstName, AstNamespace, Form, Spells, SpellsDecl, SpellsNamespace, PortsWithin, KindWithin, IsWithin, Lexeme, IsFormed}
-use Rattle.til_parser.proofs.rules.Common.{lexemes_of, plain, depth}
 use Rattle.std.proofs.{Common.max, Common.IsUtf8, lemmas.List.Elements.All-map}
 use Rattle.til_lexer.specs.{Places.IsPlaceIn, Tokens.tokens_of, declared.token.Token.Token}
 use Rattle.til_lexer.proofs.{CountLemmas.tokens_of-few, FormLemmas.tokens-have_form, SliceLemmas.token-stands, SliceLemmas.tokens_of-are}
 use Rattle.til_parser.specs.Laws.{IsTreeOf, TreesAreApart, TreesHaveTheirForm, TreesHaveTheirPlaces}
 use Rattle.til_parser.specs.{declared.fault.ParseFault.ParseFault, declared.tree.AstDecl.AstDecl, declared.tree.AstPort.AstPort, Faults.NamesToken, Faults.IsFaultOf}
-use Rattle.til_parser.specs.{Faults.TreesOrFaults, Lexemes.lexeme_of, Trees.NamespaceWith, Trees.IsSpellable, Trees.number_of_decls}
+use Rattle.til_parser.specs.{Faults.TreesOrFaults, Lexemes.lexeme_of, Lexemes.lexemes_of, Tree.depth, Tree.plain, Trees.NamespaceWith, Trees.IsSpellable, Trees.number_of_decls}
 use Rattle.til_parser.proofs.SpelledLemmas.{IsAt, Shows, each_of, namespace_of}
 use Rattle.til_parser.proofs.{LexemeLemmas.length-lexemes, LexemeLemmas.lexemes_of-map, rules.ParseLemmas.project_complete, rules.ParseLemmas.tree_or_fault}
 use Rattle.til_parser.proofs.{rules.ParseLemmas.named, rules.ProjectRules.decl-filled}

@@ -1,12 +1,11 @@
 -- The tokens that are left.
 use Rattle.til_parser.proofs.rules.Common.{◌≡◌, ◌-◌, ◌≤◌, ◌⊎◌, inl, inr, ◌∙◌, ℕ, true, false, cond, List, [], ◌∷◌, length, All, length-append, refl, ap, subst, rules, arith}
 use Rattle.til_parser.proofs.rules.Common.{Outcome, stopped, too_deep, tells, HasForm, IsBetween, TokenKind, AstType, Lexeme, lexemes_of, same_kind, begins_type}
-use Rattle.til_parser.proofs.rules.Common.{between_marks, ◌++◌}
-use Rattle.std.proofs.Common.{◌==◌, map, slice_index_or, IsUtf8, IsCharBoundary, take}
+use Rattle.std.proofs.Common.{◌==◌, ◌++◌, map, slice_index_or, IsUtf8, IsCharBoundary, take}
 use Rattle.std.proofs.{lemmas.List.length-map, lemmas.Str.IsCharBoundary-at_seam, lemmas.Str.IsUtf8-append, Math.Seq.take-append_seam}
 use Rattle.til_lexer.specs.{Spelling.own_text, declared.token.Token.Token}
 use Rattle.til_lexer.proofs.FormBegins.{ascii_utf8}
-use Rattle.til_parser.specs.Lexemes.{HasFormIn, lexeme_of}
+use Rattle.til_parser.specs.Lexemes.{HasFormIn, between_marks, lexeme_of}
 use Rattle.til_parser.proofs.rules.TokenRules.{kind_is}
 use Rattle.tydi_reading.specs.declared.fault.Fault.TheVariants as reading
 use Rattle.til_lexer.specs.declared.token.TokenKind.TheVariants as kinds

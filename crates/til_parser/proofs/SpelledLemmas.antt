@@ -2,14 +2,13 @@
 use Rattle.til_parser.proofs.rules.Common.{◌≡◌, ℕ, ◌^◌, ◌≤◌, List, [], ◌∷◌, length, Option, Some, None, All, refl, sym, ap, subst, ◌∙◌, append-nil, arith, All-head}
 use Rattle.til_parser.proofs.rules.Common.{Place, HasForm, IsBetween, TokenKind, ◌⋯◌, Each, EachIs, AstName, Form, Bracketed, Commas, Doc, IsNamed, Name, Number, One, Path, Quoted}
 use Rattle.til_parser.proofs.rules.Common.{Whole, Lexeme, IsFormed, between_marks, ◌⊎◌, inl, inr, ◌++◌, Argument, AstKind, AstNamespace, IsDefault, Of, Second, SpellsType}
-use Rattle.til_parser.proofs.rules.Common.{SpellsParts, SpellsPort, SpellsPorts, SpellsEnd, SpellsStmt, SpellsBody, SpellsKind, SpellsDecl, SpellsNamespace}
-use Rattle.til_parser.proofs.rules.Common.{Ltype, null, plain, ⊎_elim}
+use Rattle.til_parser.proofs.rules.Common.{SpellsParts, SpellsPort, SpellsPorts, SpellsEnd, SpellsStmt, SpellsBody, SpellsKind, SpellsDecl, SpellsNamespace, ⊎_elim}
 use Rattle.std.proofs.{Common.IsUtf8, Math.Nat.pow-le-pow_right}
 use Rattle.tydi_base.specs.{Frac.Fraction, Pieces.Lacks}
 use Rattle.tydi_reading.proofs.{StepLemmas.All-front, StepLemmas.All-back, ContainsLemmas.Inside, ContainsLemmas.named-or}
 use Rattle.til_parser.specs.Trees.{PathWith, IsDoc, IsQuote, FitsBetween, IsShort, IsSpelledNumber, AreSettings, TypeWith, PartsWith, PortWith, SecondWith, EndWith}
 use Rattle.til_parser.specs.Trees.{StmtWith, BodyWith, KindWith, DeclWith, NamespaceWith}
-use Rattle.til_parser.specs.Tree.{bits, group, union, stream, path, Parts, no_parts, part, Settings}
+use Rattle.til_parser.specs.Tree.{Ltype, null, bits, group, union, stream, path, Parts, no_parts, part, Settings, plain}
 use Rattle.til_parser.specs.declared.tree.{AstBody.AstBody, AstDecl.AstDecl, AstEnd.AstEnd, AstPort.AstPort, AstStmt.AstStmt}
 use Rattle.til_parser.specs.{Numbers.digits_before, Grammar.Arguments, Grammar.Given, Grammar.Level}
 use Rattle.til_parser.proofs.{numbers.NumberLemmas.AreParts-number, numbers.NumberLemmas.cut_at, numbers.NumberLemmas.read_on-below, LexemeLemmas.between_marks-of}

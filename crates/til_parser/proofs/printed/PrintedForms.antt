@@ -127,7 +127,7 @@ with_gap gap space s = record {
   made = s.made;
 }
 
--- a byte of white space after what is printed
+-- a byte of white space after what is printed: 32 for a space, 10 for an LF
 pub spaced : {A : Type 0} {P : A → Form} {last : TokenKind} {text : List ℕ} (gap : ℕ) → is_space gap ≡ true → runs_on last gap ≡ false
     → Printed last text P → Printed free (text ++ gap ∷ []) P
 spaced {text = text} gap space apart printed = retold printed (λ rest more stops s.
