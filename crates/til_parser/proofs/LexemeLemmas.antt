@@ -26,8 +26,7 @@ at_end-lexemes text (token ∷ tokens) = search rules
 
 -- a token of this kind has its form
 pub HasForm-first : (text : List ℕ) (tokens : List Token) (token : Token) (kind : TokenKind) (spelling : List ℕ) → All (HasFormIn text) tokens
-    → 1 ≤ length tokens
-    → same_kind (slice_index_or tokens 0 token).kind kind ≡ true → spelling ≡ own_text text (slice_index_or tokens 0 token) → HasForm kind spelling
+    → 1 ≤ length tokens → same_kind (slice_index_or tokens 0 token).kind kind ≡ true → spelling ≡ own_text text (slice_index_or tokens 0 token) → HasForm kind spelling
 HasForm-first text tokens token kind spelling formed some same is =
     rw is (subst (λ (k : TokenKind). HasForm k (own_text text (slice_index_or tokens 0 token))) (kind_is _ kind same) (formed 0 token (omega arith)))
 
