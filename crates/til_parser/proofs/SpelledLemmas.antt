@@ -1,18 +1,17 @@
 -- What spells a name, a path, a number, a marked text or a tree shows its form.
-use Rattle.til_parser.proofs.rules.Common.{◌≡◌, ℕ, ◌^◌, ◌≤◌, List, [], ◌∷◌, length, Option, Some, None, All, refl, sym, ap, subst, ◌∙◌, append-nil, arith, All-head}
+use Rattle.til_parser.proofs.rules.Common.{◌≡◌, ℕ, List, [], ◌∷◌, Option, Some, None, All, refl, sym, ap, subst, ◌∙◌, arith, All-head}
 use Rattle.til_parser.proofs.rules.Common.{Place, HasForm, IsBetween, TokenKind, ◌⋯◌, Each, EachIs, AstName, Form, Bracketed, Commas, Doc, IsNamed, Name, Number, One, Path, Quoted}
 use Rattle.til_parser.proofs.rules.Common.{Whole, Lexeme, IsFormed, between_marks, ◌⊎◌, inl, inr, ◌++◌, Argument, AstKind, AstNamespace, IsDefault, Of, Second, SpellsType}
 use Rattle.til_parser.proofs.rules.Common.{SpellsParts, SpellsPort, SpellsPorts, SpellsEnd, SpellsStmt, SpellsBody, SpellsKind, SpellsDecl, SpellsNamespace, ⊎_elim}
-use Rattle.std.proofs.{Common.IsUtf8, Math.Nat.pow-le-pow_right}
+use Rattle.std.proofs.Common.{IsUtf8}
 use Rattle.tydi_base.specs.{Frac.Fraction, Pieces.Lacks}
 use Rattle.tydi_reading.proofs.{StepLemmas.All-front, StepLemmas.All-back, ContainsLemmas.Inside, ContainsLemmas.named-or}
 use Rattle.til_parser.specs.Trees.{PathWith, IsDoc, IsQuote, FitsBetween, IsShort, IsSpelledNumber, AreSettings, TypeWith, PartsWith, PortWith, SecondWith, EndWith}
 use Rattle.til_parser.specs.Trees.{StmtWith, BodyWith, KindWith, DeclWith, NamespaceWith}
 use Rattle.til_parser.specs.Tree.{Ltype, null, bits, group, union, stream, path, Parts, no_parts, part, Settings, plain}
 use Rattle.til_parser.specs.declared.tree.{AstBody.AstBody, AstDecl.AstDecl, AstEnd.AstEnd, AstPort.AstPort, AstStmt.AstStmt}
-use Rattle.til_parser.specs.{Numbers.digits_before, Grammar.Arguments, Grammar.Given, Grammar.Level}
-use Rattle.til_parser.proofs.{numbers.NumberLemmas.AreParts-number, numbers.NumberLemmas.cut_at, numbers.NumberLemmas.read_on-below, LexemeLemmas.between_marks-of}
-use Rattle.til_parser.proofs.{rules.StreamFields.one_or_two, texts.NumberTextLemmas.one-is}
+use Rattle.til_parser.specs.{Grammar.Arguments, Grammar.Given, Grammar.Level}
+use Rattle.til_parser.proofs.{LexemeLemmas.between_marks-of, rules.StreamFields.one_or_two, texts.NumberTextLemmas.one-is, texts.NumberTextLemmas.whole-short}
 use Rattle.til_lexer.specs.declared.token.TokenKind.TheVariants as kinds
 use Rattle.til_parser.specs.declared.keyword.Argument.TheVariants as arguments
 use Rattle.til_parser.specs.declared.tree.AstBody.TheVariants as bodies
@@ -85,12 +84,7 @@ path_of shows (name ∷ next ∷ names) spelt =
 
 pub whole_of : {At : Place → Type 0} → (whole : ℕ) → Spelt At (Whole whole) → IsShort whole
 whole_of whole spelt =
-    let is = spelt.spelled.is in
-    let text : List ℕ = spelt.spelled.lexeme.spelling in
-    let all : digits_before text ≡ text = rw append-nil at (cut_at text [] is.digits refl).0 in
-    let few : length text ≤ 18 = omega (arith, (AreParts-number text (one_form kinds.Number spelt is.kind)).few, ap length all) in
-    let wide : 10 ^ length text ≤ 10 ^ 18 = pow-le-pow_right (omega arith) few in
-    omega (arith, is.value, read_on-below text is.digits)
+    let is = spelt.spelled.is in omega (arith, is.value, whole-short spelt.spelled.lexeme.spelling (one_form kinds.Number spelt is.kind) is.digits)
 
 pub number_of : {At : Place → Type 0} → (number : Fraction) → Spelt At (Number number) → IsSpelledNumber number
 number_of number spelt = record {

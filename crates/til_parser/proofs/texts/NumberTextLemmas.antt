@@ -2,7 +2,7 @@
 use Rattle.til_parser.proofs.rules.Common.{◌≡◌, ◌⊎◌, rules, ℕ, zero, suc, ◌+◌, ◌-◌, ◌*◌, ◌^◌, ◌<◌, ◌≤◌, true, inl, inr, List, [], ◌∷◌, ◌++◌, length, refl, sym, ap, subst, ◌∙◌}
 use Rattle.til_parser.proofs.rules.Common.{arith, append-nil, length-append, list_all, HasForm, codes}
 use Rattle.std.proofs.Common.{◌/◌, ◌%◌, decimal, pow-add, pow-suc, mod-lt, div-add-mod', div-lt_iff_lt-mul, lt_of_mul-lt-mul_right, mul-lt-mul_of_pos_right}
-use Rattle.std.proofs.Math.Nat.{div-add-mod, dvd-add_iff_right, dvd-mul_left, mod-eq_of_lt, mul-one, dvd-mul_right, dvd-mul_right_of_dvd, one-dvd}
+use Rattle.std.proofs.Math.Nat.{div-add-mod, dvd-add_iff_right, dvd-mul_left, mod-eq_of_lt, mul-one, pow-le-pow_right, dvd-mul_right, dvd-mul_right_of_dvd, one-dvd}
 use Rattle.std.proofs.lemmas.Fmt.{decimal_nonempty, digits_decimal, digits_value-decimal, length-decimal-le}
 use Rattle.std.proofs.{lemmas.Bool.Decides.nat_tests, lemmas.List.Folds.list_all-append, lemmas.Nat.Gcd.mod-eq-zero_of_dvd}
 use Rattle.std.specs.Char.{is_ascii_digit}
@@ -85,6 +85,14 @@ digits_cut number before (digit ∷ behind) digits each few reduced =
 
 pub power_fits : (count n : ℕ) → count ≤ 18 → n < 10 ^ count → n < 2 ^ 64
 power_fits count n few below = let fits = tens_fit count few in omega arith
+
+-- a number without a point has at most 18 digits
+pub whole-short : (text : List ℕ) → HasForm kinds.Number text → list_all is_ascii_digit text ≡ true → read_on 0 text < 10 ^ 18
+whole-short text form each =
+    let all : digits_before text ≡ text = rw append-nil at (cut_at text [] each refl).0 in
+    let few : length text ≤ 18 = omega (arith, (AreParts-number text form).few, ap length all) in
+    let wide : 10 ^ length text ≤ 10 ^ 18 = pow-le-pow_right (omega arith) few in
+    omega (arith, read_on-below text each)
 
 -- ---- the text of a number
 
