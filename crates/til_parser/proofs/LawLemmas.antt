@@ -26,9 +26,7 @@ NestAt Within = (least : ℕ) × ((levels : ℕ) → least ≤ levels → Within
 each-nests : {X : Type 0} {Within : ℕ → X → Type 0} → ((x : X) → NestAt (λ n. Within n x)) → (all : List X) → NestAt (λ n. EachIs (Within n) all)
 each-nests one [] = (0, λ n le. tt)
 each-nests one (x ∷ all) =
-    let first = one x in
-    let more = each-nests one all in
-    (max first.0 more.0, λ n le. (first.1 n (omega arith), more.1 n (omega arith)))
+    let more = each-nests one all in (max (one x).0 more.0, λ n le. ((one x).1 n (omega arith), more.1 n (omega arith)))
 
 ports-nest : (all : List AstPort) → NestAt (λ n. PortsWithin n all)
 ports-nest = each-nests (λ port. (depth (plain port.ltype), λ n le. le))

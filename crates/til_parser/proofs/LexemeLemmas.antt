@@ -47,20 +47,14 @@ between_marks-of mark text =
     let size : length (mark ∷ text ++ mark ∷ []) - 2 ≡ length text = omega (arith, length-append text (mark ∷ [])) in
     ap (λ n. take n (text ++ mark ∷ [])) size ∙ take-append_seam text (mark ∷ [])
 
--- where a text between two marks is cut
-pub record AreCuts (text : List ℕ) : Type 0 where
-  pub first : IsCharBoundary text 1
-  pub last : IsCharBoundary text (length text - 1)
-
 -- a text between two marks may be cut after the first and before the last
-AreCuts-between : (mark : ℕ) (text : List ℕ) → IsUtf8 (mark ∷ []) → IsBetween mark text → AreCuts text
+AreCuts-between : (mark : ℕ) (text : List ℕ) → IsUtf8 (mark ∷ []) → IsBetween mark text → IsCharBoundary text 1 × IsCharBoundary text (length text - 1)
 AreCuts-between mark text utf8 between =
-    let place : length text - 1 ≡ length (mark ∷ between.inside) = omega (arith, ap length between.marked, length-append between.inside (mark ∷ [])) in
-    record {
-      first = IsCharBoundary-at_seam text (mark ∷ []) _ between.marked (IsUtf8-append between.inside (mark ∷ []) between.utf8 utf8);
-      last = rw place (IsCharBoundary-at_seam text (mark ∷ between.inside) (mark ∷ []) between.marked utf8);
-    }
+    let place : length text - 1 ≡ length (mark ∷ between.inside) = omega (arith, ap length between.marked, length-append between.inside (mark ∷ [])) in (
+      IsCharBoundary-at_seam text (mark ∷ []) _ between.marked (IsUtf8-append between.inside (mark ∷ []) between.utf8 utf8),
+      rw place (IsCharBoundary-at_seam text (mark ∷ between.inside) (mark ∷ []) between.marked utf8),
+    )
 
-pub AreCuts-marked : (text : List ℕ) → IsUtf8 text → HasForm kinds.Quoted text ⊎ HasForm kinds.Doc text → AreCuts text
-AreCuts-marked text utf8 (inl quoted) = AreCuts-between 34 text (ascii_utf8 (34 ∷ []) refl) quoted
-AreCuts-marked text utf8 (inr doc) = AreCuts-between 35 text (ascii_utf8 (35 ∷ []) refl) doc
+pub AreCuts-marked : (text : List ℕ) → HasForm kinds.Quoted text ⊎ HasForm kinds.Doc text → IsCharBoundary text 1 × IsCharBoundary text (length text - 1)
+AreCuts-marked text (inl quoted) = AreCuts-between 34 text (ascii_utf8 (34 ∷ []) refl) quoted
+AreCuts-marked text (inr doc) = AreCuts-between 35 text (ascii_utf8 (35 ∷ []) refl) doc

@@ -1,13 +1,11 @@
 -- Names, numbers, marked texts, lists, and from them whole trees are printed so that they are read again.
-use Rattle.til_parser.proofs.rules.Common.{◌≡◌, ℕ, ◌^◌, ◌<◌, inl, true, false, List, [], ◌∷◌, ◌++◌, Option, Some, None, codes, refl, sym, ap, ◌∙◌, arith, append-nil, list_all}
+use Rattle.til_parser.proofs.rules.Common.{◌≡◌, ℕ, inl, true, false, List, [], ◌∷◌, ◌++◌, Option, Some, None, codes, refl, sym, ap, ◌∙◌, arith, append-nil, list_all}
 use Rattle.til_parser.proofs.rules.Common.{has_name_form, HasForm, TokenKind, AstName, ◌⋯◌, Each, EachIs, Form, Doc, IsMarked, Level, Name, Number, One, Path, Quoted, Whole}
 use Rattle.til_parser.proofs.rules.Common.{Lexeme, between_marks, Bool, AstType, AstKind, AstNamespace, Bracketed, Commas, Of, Word, SpellsType, SpellsParts, SpellsPort}
 use Rattle.til_parser.proofs.rules.Common.{SpellsPorts, SpellsEnd, SpellsStmt, SpellsBody, SpellsStreamletPorts, SpellsKind, SpellsDecl, SpellsNamespace, direction_word, sync_word}
 use Rattle.til_parser.proofs.rules.Common.{truth_word, way_word, Ltype, null, plain, all_arguments}
-use Rattle.std.proofs.lemmas.Fmt.{decimal_nonempty, digits_decimal, digits_value-decimal, length-decimal-le}
 use Rattle.std.proofs.{Common.flat_map, Common.decimal, lemmas.Bool.Decides.nat_tests}
 use Rattle.tydi_base.specs.{Frac.Fraction, Level.IsLevel}
-use Rattle.tydi_base.proofs.DecimalLaws.{own}
 use Rattle.til_lexer.specs.{Spans.is_space, Spelling.runs_on}
 use Rattle.til_parser.specs.Canonical.{doc_text, names_text, number_text, quoted_text, type_text, but_first, more_parts_text, port_text, ports_text, stmt_text, spaced_text}
 use Rattle.til_parser.specs.Canonical.{body_text, streamlet_text, kind_text, decl_text, doc_line, namespace_text, second_text}
@@ -41,11 +39,9 @@ printed_name name named = one_token kinds.Word name.name (grind (arith, nat_test
 
 printed_whole : (whole : ℕ) → IsShort whole → Fixed kinds.Number (decimal whole) (Whole whole)
 printed_whole whole below =
-    let fits : whole < 2 ^ 64 = power_fits 18 whole (omega arith) below in
-    let each = digits_decimal own whole fits in
-    one_token kinds.Number (decimal whole)
-    (inl (record { digits = record { some = decimal_nonempty whole fits; each = each }; few = length-decimal-le 18 whole (omega arith) below fits })) (λ _ s. s)
-    (λ lexeme kind_is text_is. (tt, record { kind = kind_is; digits = rw text_is each; value = rw text_is (sym (digits_value-decimal own whole fits)) }))
+    let shown = decimal-are 18 whole (omega arith) (omega arith) below in
+    one_token kinds.Number (decimal whole) (inl (record { digits = shown.0; few = shown.1 })) (λ _ s. s)
+    (λ lexeme kind_is text_is. (tt, record { kind = kind_is; digits = rw text_is shown.0.each; value = rw text_is (sym shown.2) }))
 
 printed_level : (level : ℕ) → IsLevel level → Fixed kinds.Number (decimal level) (Level level)
 printed_level level within = made (λ a. a) (λ a ts is. record { whole = is; within = within }) (printed_whole level (let high = within.1 in omega arith))

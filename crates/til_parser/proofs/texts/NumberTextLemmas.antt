@@ -83,8 +83,14 @@ digits_cut number before (digit ∷ behind) digits each few reduced =
       value = rw (cut.0, cut.1) reduced;
     }
 
-pub power_fits : (count n : ℕ) → count ≤ 18 → n < 10 ^ count → n < 2 ^ 64
-power_fits count n few below = let fits = tens_fit count few in omega arith
+-- a whole number of so many digits at most, as its digits
+pub decimal-are : (count whole : ℕ) → 0 < count → count ≤ 18 → whole < 10 ^ count
+    → AreDigits (decimal whole) × (length (decimal whole) ≤ count) × (read_on 0 (decimal whole) ≡ whole)
+decimal-are count whole some few below =
+    let power = tens_fit count few in
+    let fits : whole < 2 ^ 64 = omega arith in
+    let digits : AreDigits (decimal whole) = record { some = decimal_nonempty whole fits; each = digits_decimal own whole fits } in
+    (digits, length-decimal-le count whole some below fits, digits_value-decimal own whole fits)
 
 -- a number without a point has at most 18 digits
 pub whole-short : (text : List ℕ) → HasForm kinds.Number text → list_all is_ascii_digit text ≡ true → read_on 0 text < 10 ^ 18
@@ -113,13 +119,11 @@ number_text-is number spelling is =
     let divides = left_divides number.den whole rest number.num (10 ^ length behind) (div-add-mod number.num number.den)
     (subst (λ n. number.den ∣ n) (sym is.value.value) (dvd-mul_left number.den (read_on 0 (before ++ behind)))) in
     let are = digits_of_rest-are 18 (length behind) rest number.den (omega (arith, parts.few)) (mod-lt number.num some) divides in
-    let fits : whole < 2 ^ 64 = power_fits (length before) whole (omega (arith, parts.few)) below in
+    let shown = decimal-are (length before) whole parts.some (omega (arith, parts.few)) below in
     let value : number.num * 10 ^ length digits ≡ read_on whole digits * number.den =
     sym (are.value whole ∙ ap (λ n. n * 10 ^ length digits) (div-add-mod' number.num number.den)) in
-    let num : read_on 0 (decimal whole ++ digits) ≡ read_on whole digits =
-    sym (read_on-append 0 (decimal whole) digits) ∙ ap (λ n. read_on n digits) (digits_value-decimal own whole fits) in
-    digits_cut number (decimal whole) digits (record { some = decimal_nonempty whole fits; each = digits_decimal own whole fits }) are.each
-    (omega (arith, are.few, parts.few, length-decimal-le (length before) whole parts.some below fits)) (record { value = rw num value; terms = is.value.terms })
+    let num : read_on 0 (decimal whole ++ digits) ≡ read_on whole digits = sym (read_on-append 0 (decimal whole) digits) ∙ ap (λ n. read_on n digits) shown.2 in
+    digits_cut number (decimal whole) digits shown.0 are.each (omega (arith, are.few, parts.few, shown.1)) (record { value = rw num value; terms = is.value.terms })
 
 -- one is read as `1`
 pub one-is : IsSpelledNumber (record { num = 1; den = 1 })
