@@ -16,7 +16,7 @@ use Rattle.til_parser.specs.declared.tree.{AstBody.AstBody, AstDecl.AstDecl, Ast
 use Rattle.til_parser.specs.{Grammar.LastComma, Grammar.Arguments, Trees.IsDecl, Trees.IsNamespace, Trees.IsSecond, declared.ltype.AstSync.AstSync}
 use Rattle.til_parser.proofs.printed.PrintedForms.{Fixed, Printed, at_end, followed, free, joined, made, nothing, one_token, prefixed, seen, spaced, between_words, bracketed}
 use Rattle.til_parser.proofs.printed.PrintedForms.{colon, comma, equals, indented, keyword, labelled, led, suffixed, symbol, word, worded}
-use Rattle.til_parser.proofs.{texts.NumberTextLemmas.number_text-is, texts.NumberTextLemmas.power_fits, PlainLemmas.with_plain}
+use Rattle.til_parser.proofs.{texts.NumberTextLemmas.number_text-is, texts.NumberTextLemmas.decimal-are, PlainLemmas.with_plain}
 use Rattle.til_parser.proofs.{LexemeLemmas.between_marks-of, rules.StreamFields.all_arguments-all, rules.StreamFields.all_arguments-apart}
 use Rattle.til_lexer.specs.declared.token.TokenKind.TheVariants as kinds
 use Rattle.til_parser.specs.declared.ltype.AstSync.TheVariants as syncs

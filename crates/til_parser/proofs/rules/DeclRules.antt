@@ -4,7 +4,7 @@ use Rattle.til_parser.proofs.rules.Common.{IsRule, Begins, begins-repeats, each_
 use Rattle.til_parser.proofs.rules.Common.{both, flat_parted, viewed, Made, either-rule, optional-rule, front-marked, respelled, shrinks, skip, parted, made-rule}
 use Rattle.til_parser.proofs.rules.Common.{Chained, chain-rule, AstName, AstPath, Form, Of, Name, Path, Quoted, SpellsEnd, Second, SpellsStmt, SpellsBody, Word}
 use Rattle.til_parser.proofs.rules.Common.{SpellsPort, SpellsPorts, SpellsStreamletPorts, SpellsKind, StreamletWithin, PortsWithin, KindWithin, way_word, Lexeme}
-use Rattle.til_parser.proofs.rules.Common.{IsFormed, same_kind, is_kind, name, one_more, bracketed, second, end, link_from, instance_of, stmt, body, port}
+use Rattle.til_parser.proofs.rules.Common.{IsFormed, same_kind, is_kind, one_more, bracketed, second, end, link_from, instance_of, stmt, body, port}
 use Rattle.til_parser.proofs.rules.Common.{streamlet_ports, keyword, impl_kind, test_kind, kind_of, mapped-less, Keyword, AstType, AstKind, PortTo, PortsTo, RestTo}
 use Rattle.til_parser.proofs.rules.Common.{keyword_word, all_keywords}
 use Rattle.til_lexer.specs.declared.token.TokenKind.TheVariants as kinds

@@ -3,7 +3,7 @@ use Rattle.til_parser.proofs.rules.Common.{◌≡◌, ℕ, ◌<◌, true, false,
 use Rattle.til_parser.proofs.rules.Common.{same_Some, append-nil, Anything, ◌⋯◌, GoesOn, Each, Shrinks, tells, IsRule, front-tells, Begins, begins-filled, begins-repeats}
 use Rattle.til_parser.proofs.rules.Common.{repeated-rule, as_rule, as_flat, skip, close, both, viewed, respelled, shrinks, chain-rule, Ast, AstKind, AstName}
 use Rattle.til_parser.proofs.rules.Common.{AstNamespace, AstPath, Form, Of, Word, Name, SpellsKind, SpellsDecl, SpellsNamespace, Spells, KindWithin, DeclsWithin}
-use Rattle.til_parser.proofs.rules.Common.{IsWithin, Lexeme, IsFormed, KindTo, DeclTo, NamespaceTo, ProjectTo, same_kind, is_kind, name, named_kind, decl, namespace}
+use Rattle.til_parser.proofs.rules.Common.{IsWithin, Lexeme, IsFormed, KindTo, DeclTo, NamespaceTo, ProjectTo, same_kind, is_kind, named_kind, decl, namespace}
 use Rattle.til_parser.proofs.rules.Common.{project_of, project, keyword_word, ◌↔◌}
 use Rattle.tydi_reading.proofs.CheckedRule.{checked-rule}
 use Rattle.til_lexer.specs.declared.token.TokenKind.TheVariants as kinds

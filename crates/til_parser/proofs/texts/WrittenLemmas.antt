@@ -1,9 +1,8 @@
 -- Texts that are written part after part.
 use Rattle.til_parser.proofs.rules.Common.{◌≡◌, ◌⊎◌, ℕ, suc, ◌+◌, ◌-◌, ◌*◌, ◌<◌, ◌≤◌, ◌++◌, List, [], ◌∷◌, length, refl, sym, ap, ◌∙◌, append-nil, length-append, arith}
-use Rattle.til_parser.proofs.rules.Common.{codes}
-use Rattle.std.proofs.Common.{◌/◌, ◌%◌, take, flat_map, append_assoc, take-take, take_at}
+use Rattle.std.proofs.Common.{◌/◌, ◌%◌, codes, take, flat_map, append_assoc, take-take, take_at}
 use Rattle.tydi_base.specs.Writing.{StandsInFront}
-use Rattle.til_parser.specs.Canonical.{behind_point, digits_of_rest, listed_text, more_parts_text, next_part_text, but_first}
+use Rattle.til_parser.specs.Canonical.{behind_point, digits_of_rest, more_parts_text, next_part_text}
 use Rattle.til_parser.specs.declared.ltype.AstPart.{AstPart}
 use Rattle.til_parser.proofs.{PlainLemmas.plain_parts, texts.NumberTextLemmas.digits_more, texts.NumberTextLemmas.digits_none}
 
@@ -41,9 +40,6 @@ pub stream-written : (old a b c d e f t1 t2 t3 t4 t5 : List ℕ) (after : List �
 stream-written old a b c d e f t1 t2 t3 t4 t5 after then e1 e2 e3 e4 e5 = rw (e5, e4, e3, e2, e1, ← then (c ++ (d ++ e))) (simp append_assoc refl)
 
 -- parts as plain data have the text of the list of them
-more-listed : (parts : List AstPart) → flat_map next_part_text parts ≡ more_parts_text (plain_parts parts)
-more-listed [] = refl
-more-listed (first ∷ more) = ap (λ text. next_part_text first ++ text) (more-listed more)
-
-pub listed : (parts : List AstPart) → listed_text parts ≡ but_first (more_parts_text (plain_parts parts))
-listed parts = ap but_first (more-listed parts)
+pub listed : (parts : List AstPart) → flat_map next_part_text parts ≡ more_parts_text (plain_parts parts)
+listed [] = refl
+listed (first ∷ more) = ap (λ text. next_part_text first ++ text) (listed more)
