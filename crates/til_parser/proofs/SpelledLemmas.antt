@@ -182,8 +182,7 @@ module _ {At : Place → Type 0} {Named : AstName → Type 0} (shows : Shows At 
   kind_of name (decls.Alias ltype) spelt = (name_of shows name (first_of (second_of spelt)), type_of (plain ltype) (second_of (third_of spelt)))
   kind_of name (decls.Interface all) spelt = (name_of shows name (first_of (second_of spelt)), ports_of all (second_of (third_of spelt)))
   kind_of name (decls.Streamlet (ports.Own all)) spelt = (name_of shows name (first_of (second_of spelt)), ports_of all (second_of (third_of spelt)))
-  kind_of name (decls.Streamlet (ports.Named target)) spelt =
-      (name_of shows name (first_of (second_of spelt)), path_of shows target.names (second_of (third_of spelt)))
+  kind_of name (decls.Streamlet (ports.Named target)) spelt = (name_of shows name (first_of (second_of spelt)), path_of shows target.names (second_of (third_of spelt)))
   kind_of name (decls.Impl target body) spelt =
       let after = second_of (third_of spelt) in
       (name_of shows name (first_of (second_of spelt)), (path_of shows target.names (first_of after), body_of body (third_of after)))
