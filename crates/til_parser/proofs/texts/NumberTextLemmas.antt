@@ -2,11 +2,10 @@
 use Rattle.til_parser.proofs.rules.Common.{◌≡◌, ◌⊎◌, rules, ℕ, zero, suc, ◌+◌, ◌-◌, ◌*◌, ◌^◌, ◌<◌, ◌≤◌, true, inl, inr, List, [], ◌∷◌, ◌++◌, length, refl, sym, ap, subst, ◌∙◌}
 use Rattle.til_parser.proofs.rules.Common.{arith, append-nil, length-append, list_all, HasForm, codes}
 use Rattle.std.proofs.Common.{◌/◌, ◌%◌, decimal, pow-add, pow-suc, mod-lt, div-add-mod', div-lt_iff_lt-mul, lt_of_mul-lt-mul_right, mul-lt-mul_of_pos_right}
-use Rattle.std.proofs.Math.Nat.{div-add-mod, dvd-add_iff_right, dvd-mul_left, mod-eq_of_lt, mul-one, pow-le-pow_right, dvd-mul_right, dvd-mul_right_of_dvd, one-dvd}
+use Rattle.std.proofs.Math.Nat.{div-add-mod, mod-eq_of_lt, mul-mod_left, mul-one, pow-le-pow_right, one-dvd}
 use Rattle.std.proofs.lemmas.Fmt.{decimal_nonempty, digits_decimal, digits_value-decimal, length-decimal-le}
-use Rattle.std.proofs.{lemmas.Bool.Decides.nat_tests, lemmas.List.Folds.list_all-append, lemmas.Nat.Gcd.mod-eq-zero_of_dvd}
+use Rattle.std.proofs.{lemmas.Bool.Decides.nat_tests, lemmas.List.Folds.list_all-append, lemmas.Nat.mul-mod_first}
 use Rattle.std.specs.Char.{is_ascii_digit}
-use Prim.Native.Nat.{◌∣◌}
 use Rattle.tydi_base.specs.{Decimal.read_on, Frac.Fraction, Frac.IsReduced}
 use Rattle.tydi_base.proofs.DecimalLaws.{own}
 use Rattle.til_lexer.specs.Spelling.{AreDigits}
@@ -36,18 +35,12 @@ record AreRest (digits : List ℕ) (count rest den : ℕ) : Type 0 where
   each : list_all is_ascii_digit digits ≡ true
   value : (whole : ℕ) → read_on whole digits * den ≡ (whole * den + rest) * 10 ^ length digits
 
--- what divides a multiple of the whole divides that of what is left of it
-left_divides : (den quotient left whole power : ℕ) → den * quotient + left ≡ whole → den ∣ whole * power → den ∣ left * power
-left_divides den quotient left whole power parts divides =
-    let sum : whole * power ≡ den * quotient * power + left * power = omega (arith, ap (λ n. n * power) parts) in
-    (dvd-add_iff_right den (dvd-mul_right_of_dvd den (dvd-mul_right den quotient) power)).1 (subst (λ n. den ∣ n) sum divides)
-
-digits_of_rest-are : (most count rest den : ℕ) → count ≤ most → rest < den → den ∣ rest * 10 ^ count
+digits_of_rest-are : (most count rest den : ℕ) → count ≤ most → rest < den → rest * 10 ^ count % den ≡ 0
     → AreRest (digits_of_rest most rest den) count rest den
 digits_of_rest-are most count zero den within below divides =
     rw (digits_none most 0 den (inr refl)) (record { few = omega arith; each = refl; value = λ whole. omega arith })
 digits_of_rest-are most zero (suc rest) den within below divides =
-    absurd (let none : suc rest ≡ 0 = sym (mod-eq_of_lt below) ∙ mod-eq-zero_of_dvd den (subst (λ n. den ∣ n) (mul-one (suc rest)) divides) in omega arith)
+    absurd (let none : suc rest ≡ 0 = sym (mod-eq_of_lt below) ∙ rw mul-one at divides in omega arith)
 digits_of_rest-are zero (suc count) (suc rest) den within below divides = absurd (omega arith)
 digits_of_rest-are (suc most) (suc count) (suc rest) den within below divides =
     let next : ℕ = 10 * suc rest / den in
@@ -56,8 +49,8 @@ digits_of_rest-are (suc most) (suc count) (suc rest) den within below divides =
     let small : next < 10 = (div-lt_iff_lt-mul {k = den} {x = 10 * suc rest} {y = 10} (omega arith)).1 (omega arith) in
     let digit : is_ascii_digit (48 + next) ≡ true = grind (arith, nat_tests) in
     let power : suc rest * 10 ^ suc count ≡ 10 * suc rest * 10 ^ count = rw (pow-suc 10 count) (omega arith) in
-    let are = digits_of_rest-are most count left den (omega arith) (mod-lt (10 * suc rest) (omega arith))
-    (left_divides den next left (10 * suc rest) (10 ^ count) parts (subst (λ n. den ∣ n) power divides)) in
+    let further : left * 10 ^ count % den ≡ 0 = mul-mod_first (10 * suc rest) (10 ^ count) den ∙ ap (λ n. n % den) (sym power) ∙ divides in
+    let are = digits_of_rest-are most count left den (omega arith) (mod-lt (10 * suc rest) (omega arith)) further in
     let digits : List ℕ = digits_of_rest most left den in
     let back : 48 + next - 48 ≡ next = omega arith in
     let times : (den * next + left) * 10 ^ length digits ≡ 10 * suc rest * 10 ^ length digits = ap (λ n. n * 10 ^ length digits) parts in
@@ -116,8 +109,7 @@ number_text-is number spelling is =
     let small = rw (length-append before behind) at (read_on-below (before ++ behind) each) in
     let times = rw (pow-add 10 (length before) (length behind)) at (mul-lt-mul_of_pos_right small some) in
     let below : whole < 10 ^ length before = (div-lt_iff_lt-mul some).1 (lt_of_mul-lt-mul_right (10 ^ length behind) (omega (arith, times, is.value.value))) in
-    let divides = left_divides number.den whole rest number.num (10 ^ length behind) (div-add-mod number.num number.den)
-    (subst (λ n. number.den ∣ n) (sym is.value.value) (dvd-mul_left number.den (read_on 0 (before ++ behind)))) in
+    let divides = mul-mod_first number.num (10 ^ length behind) number.den ∙ ap (λ n. n % number.den) is.value.value ∙ mul-mod_left _ number.den in
     let are = digits_of_rest-are 18 (length behind) rest number.den (omega (arith, parts.few)) (mod-lt number.num some) divides in
     let shown = decimal-are (length before) whole parts.some (omega (arith, parts.few)) below in
     let value : number.num * 10 ^ length digits ≡ read_on whole digits * number.den =
