@@ -1,5 +1,5 @@
 -- Type declarations that only name another type, passed over. It serves the search for types that have a fault, and no public clause.
-use Rattle.std.specs.Prelude.{◌≡◌, ℕ, ◌+◌, ◌-◌, ◌<◌, List, length, slice_index_or, Option, Some, None}
+use Rattle.std.specs.Prelude.{◌≡◌, ℕ, ◌+◌, ◌-◌, ◌^◌, ◌<◌, min, List, length, slice_index_or, Option, Some, None}
 use Rattle.til_parser.specs.declared.tree.AstKind.{AstKind}
 use Rattle.til_parser.specs.declared.tree.AstKind.TheVariants as decls
 use Rattle.til_parser.specs.Tree as tree
@@ -23,6 +23,17 @@ pub record IsChain (all : List Declaration) (one : ℕ) (chain : Chain) : Type 0
 -- a table has a chain of each declaration
 pub record AreChains (all : List Declaration) (chains : List Chain) : Type 0 where
   pub each : (one : ℕ) → one < length all → IsChain all one (chain_at chains one)
+
+-- ---- how it is made
+
+-- a chain with one name more before it
+abbrev pub with_one_more : Chain → Chain
+with_one_more chain = record { root = chain.root; skipped = min (chain.skipped + 1) (2 ^ 64 - 1) }
+
+-- the chain of a declaration that only names this other one, or is its own root
+abbrev pub chain_from : List Chain → ℕ → Option ℕ → Chain
+chain_from chains one (Some target) = with_one_more (chain_at chains target)
+chain_from chains one None = own_chain one
 
 -- ---- what is tested
 

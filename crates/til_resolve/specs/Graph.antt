@@ -1,5 +1,5 @@
 -- Things that lead to one another, by their numbers. It serves the search for cycles, and no public clause.
-use Rattle.std.specs.Prelude.{◌≡◌, ℕ, ◌+◌, ◌<◌, ◌≤◌, ◌⊎◌, Bool, false, true, not, List, [], ◌∷◌, ◌++◌, length, slice_get, slice_index_or, Some, Contains, if◌then◌else◌}
+use Rattle.std.specs.Prelude.{◌≡◌, ℕ, ◌+◌, ◌<◌, ◌≤◌, ◌⊎◌, Bool, false, true, not, List, [], ◌∷◌, ◌++◌, length, slice_get, slice_index_or, Some, IfSome, Contains, if◌then◌else◌}
 use Rattle.std.specs.List.{count_by, filter_map}
 use Rattle.til_parser.specs.declared.tree.AstPath.{AstPath}
 use Rattle.til_resolve.specs.Declarations.{Declaration, declaration, before, named_as, is_type, is_streamlet}
@@ -64,6 +64,10 @@ pub record IsRanked (ranks : List ℕ) (graph : List (List ℕ)) (one : ℕ) : T
 -- each number before this one stands at its rank
 abbrev pub AreOrdered : List ℕ → List ℕ → ℕ → Type 0
 AreOrdered ranks order end = (one : ℕ) → one < end → slice_get order (rank_of ranks one) ≡ Some one
+
+-- at the rank of each number before this one stands a number of that rank, if the order is so long
+abbrev pub AreByRank : List ℕ → List ℕ → ℕ → Type 0
+AreByRank ranks order end = (one : ℕ) → one < end → IfSome (slice_get order (rank_of ranks one)) (λ other. rank_of ranks other ≡ rank_of ranks one)
 
 -- ---- the graph of types
 

@@ -115,11 +115,13 @@ fn goes_on(chain: Chain, next: Chain) -> bool
     chain.skipped > 0 && chain.skipped - 1 == next.skipped && chain.root == next.root
 }
 
-// A table by one walk in the order of the ranks. Nothing is promised of it.
-fn by_ranks(alloc: Global, scope: &Scope<'_>, ranks: &[usize]) -> Result<List<Chain>, Memory> {
+// A table by one walk in the order of the ranks. That it has an entry for each declaration is promised of it, and not which.
+fn by_ranks(alloc: Global, scope: &Scope<'_>, ranks: &[usize]) -> Result<List<Chain>, Memory>
+    ensures { IfOk result (λ chains. length chains ≡ length (declarations_of scope.now.declared)) }
+{
     let order = numbers_by_rank(alloc, ranks)?;
     let mut chains = vec![in alloc; own_chain(0); scope.len()]?;
-    for number in order.iter() {
+    'order: for number in order.iter() {
         if *number < scope.len() && *number < chains.len() {
             chains[*number] = chain_of(scope, *number, chains.as_slice());
         }
@@ -127,17 +129,22 @@ fn by_ranks(alloc: Global, scope: &Scope<'_>, ranks: &[usize]) -> Result<List<Ch
     Ok(List::from_vec(chains))
 }
 
+// The chain of a declaration, by a table of those that it names.
 fn chain_of(scope: &Scope<'_>, number: usize, chains: &[Chain]) -> Chain
     requires { number < length (declarations_of scope.now.declared) }
+    ensures { result ≡ spec.chain_from chains.now number (spec.next_of (declarations_of scope.now.declared) number) }
 {
     match next_of(scope, number) {
-        Some(target) => {
-            let next = chain_at(chains, target);
-            Chain {
-                root: next.root,
-                skipped: next.skipped.saturating_add(1),
-            }
-        }
+        Some(target) => with_one_more(chain_at(chains, target)),
         None => own_chain(number),
+    }
+}
+
+fn with_one_more(chain: Chain) -> Chain
+    ensures { result ≡ spec.with_one_more chain }
+{
+    Chain {
+        root: chain.root,
+        skipped: chain.skipped.saturating_add(1),
     }
 }

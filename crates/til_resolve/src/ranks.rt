@@ -1,27 +1,34 @@
 //! Ranks by which a graph is seen to have few cycles. They are found by a walk that numbers what leads to one another alike, and
 //! lower than what leads to it (Tarjan, Depth-first search and linear graph algorithms, 1972).
 //!
-//! Nothing is promised of them, and no answer rests on them. `certificate` tests that no rank rises along an edge, and searches
-//! where ranks don't show that a number is on no cycle; `chains` tests the table that is made in the order of ranks, `tables` tests
-//! the order itself, and each has another way where a test fails. What rests on ranks is time: with those that are found every test
-//! passes, so that one walk is enough.
+//! That there is one for each number is promised of them, and not which, since no answer rests on them. `certificate` tests that no
+//! rank rises along an edge, and searches where ranks don't show that a number is on no cycle; `chains` tests the table that is made
+//! in the order of ranks, `tables` tests the order itself, and each has another way where a test fails. What rests on ranks is time:
+//! with those that are found every test passes, so that one walk is enough.
+
+ghost use Rattle.std.specs.Prelude.{◌≡◌, length, slice_set, IfOk};
+ghost use Rattle.til_resolve.specs.Graph.{AreByRank, rank_of};
 
 use std::alloc::Global;
 use tydi_base::{List, Memory};
 
 /// A number for each number of a graph.
-pub fn find_ranks(alloc: Global, graph: &[List<usize>]) -> Result<Vec<usize>, Memory> {
+pub fn find_ranks(alloc: Global, graph: &[List<usize>]) -> Result<Vec<usize>, Memory>
+    ensures { IfOk result (λ ranks. length ranks.items ≡ length graph.now) }
+{
     let mut walk = Walk::new(alloc, graph.len())?;
-    for _ in 0..steps_of(graph) {
+    'steps: for _step in 0..steps_of(graph) {
         walk.step(graph)?;
     }
     Ok(walk.ranks)
 }
 
 /// The numbers in the order of their ranks; of those of one rank, one.
-pub fn numbers_by_rank(alloc: Global, ranks: &[usize]) -> Result<Vec<usize>, Memory> {
+pub fn numbers_by_rank(alloc: Global, ranks: &[usize]) -> Result<Vec<usize>, Memory>
+    ensures { IfOk result (λ order. AreByRank ranks.now order.items (length ranks.now)) }
+{
     let mut order = vec![in alloc; 0; ranks.len().saturating_add(1)]?;
-    for (number, rank) in ranks.iter().enumerate() {
+    'numbers: for (number, rank) in ranks.iter().enumerate() {
         put(&mut order, *rank, number);
     }
     Ok(order)
@@ -61,7 +68,9 @@ struct Walk {
 }
 
 impl Walk {
-    fn new(alloc: Global, len: usize) -> Result<Walk, Memory> {
+    fn new(alloc: Global, len: usize) -> Result<Walk, Memory>
+        ensures { IfOk result (λ walk. length walk.ranks.items ≡ len) }
+    {
         Ok(Walk {
             root: 0,
             met: 0,
@@ -75,7 +84,9 @@ impl Walk {
     }
 
     // One step: to a new root, to a target, or back.
-    fn step(&mut self, graph: &[List<usize>]) -> Result<(), Memory> {
+    fn step(&mut self, graph: &[List<usize>]) -> Result<(), Memory>
+        ensures { length self.new.ranks.items ≡ length self.old.ranks.items }
+    {
         let Some(visit) = self.way.pop() else {
             return self.begin();
         };
@@ -88,7 +99,9 @@ impl Walk {
         }
     }
 
-    fn begin(&mut self) -> Result<(), Memory> {
+    fn begin(&mut self) -> Result<(), Memory>
+        ensures { length self.new.ranks.items ≡ length self.old.ranks.items }
+    {
         let root = self.root;
         self.root = root.saturating_add(1);
         if root < self.order.len() && at(&self.order, root) == 0 {
@@ -97,7 +110,9 @@ impl Walk {
         Ok(())
     }
 
-    fn meet(&mut self, number: usize) -> Result<(), Memory> {
+    fn meet(&mut self, number: usize) -> Result<(), Memory>
+        ensures { length self.new.ranks.items ≡ length self.old.ranks.items }
+    {
         self.met = self.met.saturating_add(1);
         put(&mut self.order, number, self.met);
         put(&mut self.lowest, number, self.met);
@@ -109,7 +124,9 @@ impl Walk {
         Ok(())
     }
 
-    fn look_at(&mut self, visit: Visit, target: usize) -> Result<(), Memory> {
+    fn look_at(&mut self, visit: Visit, target: usize) -> Result<(), Memory>
+        ensures { length self.new.ranks.items ≡ length self.old.ranks.items }
+    {
         self.way.push(Visit {
             number: visit.number,
             looked_at: visit.looked_at.saturating_add(1),
@@ -125,7 +142,9 @@ impl Walk {
     }
 
     // All targets of a number were looked at.
-    fn leave(&mut self, number: usize) {
+    fn leave(&mut self, number: usize)
+        ensures { length self.new.ranks.items ≡ length self.old.ranks.items }
+    {
         let lowest = at(&self.lowest, number);
         if lowest == at(&self.order, number) {
             self.rank_from(number);
@@ -136,16 +155,20 @@ impl Walk {
         }
     }
 
-    fn lower(&mut self, number: usize, order: usize) {
+    fn lower(&mut self, number: usize, order: usize)
+        ensures { length self.new.ranks.items ≡ length self.old.ranks.items }
+    {
         if order < at(&self.lowest, number) {
             put(&mut self.lowest, number, order);
         }
     }
 
     // Gives a rank to all that was met from a number on.
-    fn rank_from(&mut self, number: usize) {
+    fn rank_from(&mut self, number: usize)
+        ensures { length self.new.ranks.items ≡ length self.old.ranks.items }
+    {
         self.given = self.given.saturating_add(1);
-        while let Some(open) = self.open.pop() {
+        'open: while let Some(open) = self.open.pop() {
             put(&mut self.ranks, open, self.given);
             if open == number {
                 return;
@@ -158,14 +181,20 @@ fn target_at(graph: &[List<usize>], visit: Visit) -> Option<usize> {
     graph.get(visit.number)?.get(visit.looked_at).copied()
 }
 
-fn at(list: &[usize], index: usize) -> usize {
+// The entry at an index; 0 where there is none.
+fn at(list: &[usize], index: usize) -> usize
+    ensures { result ≡ rank_of list.now index }
+{
     match list.get(index) {
         Some(value) => *value,
         None => 0,
     }
 }
 
-fn put(list: &mut [usize], index: usize, value: usize) {
+// Puts an entry at an index, where there is one.
+fn put(list: &mut [usize], index: usize, value: usize)
+    ensures { list.new ≡ slice_set list.old index value }
+{
     if index < list.len() {
         list[index] = value;
     }
