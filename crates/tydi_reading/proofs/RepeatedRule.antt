@@ -34,6 +34,52 @@ pub record Adds {T A : Type 0} (Items : List A → Form T) (found end : List A) 
   pub added : end ≡ found ++ items
   pub spelled : Items items ts
 
+-- ---- turns that add an item each, up to something that leads on
+
+-- a turn that goes on adds one item
+pub record AddsOne {T A : Type 0} (Turned : List A → Turn (List A) → Form T) (One : A → Form T) : Type 0 where
+  pub item : (found next : List A) (ts : List T) → Turned found (again next) ts → (x : A) × (next ≡ found ++ x ∷ []) × One x ts
+  pub turn : (found : List A) (x : A) (ts : List T) → One x ts → Turned found (again (found ++ x ∷ [])) ts
+
+module _ {T A : Type 0} {Turned : List A → Turn (List A) → Form T} {One : A → Form T} {Deep : Form T} (one : AddsOne Turned One) where
+  pub adds_deep : (n : ℕ) (found : List A) (ts : List T) → RunsTo Turned (λ _. Deep) n found ts → EachTo One Deep ts
+  adds_deep zero found ts walk = absurd walk
+  adds_deep (suc n) found ts walk =
+      ⊎_elim
+      (λ d. ([], record { front = []; back = ts; all = refl; begins = refl; ends = d }))
+      (λ more.
+      let b = more.1 in
+      let x = one.item found more.0 b.front b.begins in
+      let others = adds_deep n more.0 b.back b.ends in
+      let o = others.1 in (
+        x.0 ∷ others.0,
+        record {
+          front = b.front ++ o.front;
+          back = o.back;
+          all = b.all ∙ ap (λ l. b.front ++ l) o.all ∙ sym (append_assoc b.front o.front o.back);
+          begins = record { front = b.front; back = o.front; all = refl; begins = x.2; ends = o.begins };
+          ends = o.ends;
+        },
+      ))
+      walk
+
+  pub runs_deep : (items found : List A) (front back ts : List T) → ts ≡ front ++ back → Each One items front → Deep back → LoopTo Turned (λ _. Deep) found ts
+  runs_deep [] found front back ts is s d = (1, inl (subst Deep (sym (is ∙ ap (λ l. l ++ back) s)) d))
+  runs_deep (x ∷ items) found front back ts is s d =
+      let more = runs_deep items (found ++ x ∷ []) s.back back (s.back ++ back) refl s.ends d in (
+        suc more.0,
+        inr (
+          found ++ x ∷ [],
+          record {
+            front = s.front;
+            back = s.back ++ back;
+            all = is ∙ ap (λ l. l ++ back) s.all ∙ append_assoc s.front s.back back;
+            begins = one.turn found x s.front s.begins;
+            ends = more.1;
+          },
+        ),
+      )
+
 -- ---- the rule
 
 -- items of the rule may stand one after another up to where the test holds
@@ -153,42 +199,8 @@ module _ {T A : Type 0} (Good : T → Type 0) (test : T → Bool) (last : Bool) 
       subst (λ end. Loop TurnOf found end ts) (append_assoc found (x ∷ []) items)
       (suc more.0, inr (found ++ x ∷ [], record { front = s.front; back = s.back; all = s.all; begins = (x, refl, s.begins); ends = more.1 }))
 
-  adds_deep : (n : ℕ) (found : List A) (ts : List T) → RunsTo TurnOf (λ _. Deep) n found ts → EachTo Item Deep ts
-  adds_deep zero found ts walk = absurd walk
-  adds_deep (suc n) found ts walk =
-      ⊎_elim
-      (λ d. ([], record { front = []; back = ts; all = refl; begins = refl; ends = d }))
-      (λ more.
-      let b = more.1 in
-      let others = adds_deep n more.0 b.back b.ends in
-      let o = others.1 in (
-        b.begins.0 ∷ others.0,
-        record {
-          front = b.front ++ o.front;
-          back = o.back;
-          all = b.all ∙ ap (λ l. b.front ++ l) o.all ∙ sym (append_assoc b.front o.front o.back);
-          begins = record { front = b.front; back = o.front; all = refl; begins = b.begins.2; ends = o.begins };
-          ends = o.ends;
-        },
-      ))
-      walk
-
-  runs_deep : (items found : List A) (front back ts : List T) → ts ≡ front ++ back → Each Item items front → Deep back → LoopTo TurnOf (λ _. Deep) found ts
-  runs_deep [] found front back ts is s d = (1, inl (subst Deep (sym (is ∙ ap (λ l. l ++ back) s)) d))
-  runs_deep (x ∷ items) found front back ts is s d =
-      let more = runs_deep items (found ++ x ∷ []) s.back back (s.back ++ back) refl s.ends d in (
-        suc more.0,
-        inr (
-          found ++ x ∷ [],
-          record {
-            front = s.front;
-            back = s.back ++ back;
-            all = is ∙ ap (λ l. l ++ back) s.all ∙ append_assoc s.front s.back back;
-            begins = (x, refl, s.begins);
-            ends = more.1;
-          },
-        ),
-      )
+  adds_one : AddsOne TurnOf Item
+  adds_one = record { item = λ found next ts s. s; turn = λ found x ts s. (x, refl, s) }
 
   turns : Turns Good (repeated_turn test last item) TurnOf Follow Inside (λ _. Deep) (λ _ rest. tells test last rest ≡ true) (EachIs Within)
   turns = record {
@@ -218,8 +230,8 @@ module _ {T A : Type 0} (Good : T → Type 0) (test : T → Bool) (last : Bool) 
         follow = λ items rest next. next;
         within = λ items each. each;
         apart = λ items each. each;
-        first = λ ts d. adds_deep d.0 found ts d.1;
-        deep = λ ts d. runs_deep d.0 found d.1.front d.1.back ts d.1.all d.1.begins d.1.ends;
+        first = λ ts d. adds_deep adds_one d.0 found ts d.1;
+        deep = λ ts d. runs_deep adds_one d.0 found d.1.front d.1.back ts d.1.all d.1.begins d.1.ends;
       })
       (loop-rule Good (repeated_turn test last item) TurnOf Follow Inside (λ _. Deep) (λ _ rest. tells test last rest ≡ true) (EachIs Within) turns found within)
 

@@ -1,12 +1,12 @@
 -- Items with separators are a rule.
 use Rattle.std.proofs.Common.{◌≡◌, ℕ, zero, suc, inl, inr, ⊎_elim, Bool, true, false, List, [], ◌∷◌, ◌++◌, length, refl, sym, ap, ◌∙◌, subst, arith, append_assoc}
 use Rattle.std.proofs.lemmas.List.{append-nil, length-append}
-use Rattle.tydi_reading.specs.Forms.{Form, ◌⋯◌, Runs, Loop, RunsTo, LoopTo}
-use Rattle.tydi_reading.specs.Lists.{Each, EachIs, Separated, SeparatedTo, LastSeparator, steps, separated}
+use Rattle.tydi_reading.specs.Forms.{Form, ◌⋯◌, Runs, Loop, LoopTo}
+use Rattle.tydi_reading.specs.Lists.{EachIs, Separated, SeparatedTo, LastSeparator, steps, separated}
 use Rattle.tydi_reading.specs.Reading.{Reader, Turn, tells, ◌<$>◌}
 use Rattle.tydi_reading.specs.Rules.{IsRule}
 use Rattle.tydi_reading.proofs.MarkLemmas.{IsMark}
-use Rattle.tydi_reading.proofs.RepeatedRule.{Adds, Repeats, last-same, EachIs-push, EachIs-pop}
+use Rattle.tydi_reading.proofs.RepeatedRule.{Adds, AddsOne, Repeats, adds_deep, runs_deep, last-same, EachIs-push, EachIs-pop}
 use Rattle.tydi_reading.proofs.StepsRule.{Separates, TurnOf, steps-rule}
 use Rattle.tydi_reading.proofs.StepRules.{map-rule, same-rule}
 
@@ -130,52 +130,11 @@ module _ {T A : Type 0} (Good : T → Type 0) (test : T → Bool) (last : Bool) 
       one_more found (next ∷ items) x s.front o.front o.back ts (s.all ∙ ap (λ l. s.front ++ l) o.all) s.begins o.begins
       (runs (next ∷ items) (found ++ x ∷ []) o.back o.ends)
 
-  -- ---- something too deep in an item
-
-  adds_deep : (n : ℕ) (found : List A) (ts : List T) → RunsTo Turning (λ _. Deep) n found ts → SeparatedTo Separator Item Deep ts
-  adds_deep zero found ts walk = absurd walk
-  adds_deep (suc n) found ts walk =
-      ⊎_elim
-      (λ d. ([], record { front = []; back = ts; all = refl; begins = refl; ends = d }))
-      (λ more.
-      let b = more.1 in
-      let others = adds_deep n more.0 b.back b.ends in
-      let o = others.1 in
-      let m = b.begins in (
-        m.begins.0 ∷ others.0,
-        record {
-          front = b.front ++ o.front;
-          back = o.back;
-          all = b.all ∙ ap (λ l. b.front ++ l) o.all ∙ sym (append_assoc b.front o.front o.back);
-          begins = record {
-            front = b.front;
-            back = o.front;
-            all = refl;
-            begins = record { front = m.front; back = m.back; all = m.all; begins = m.begins.2; ends = m.ends };
-            ends = o.begins;
-          };
-          ends = o.ends;
-        },
-      ))
-      walk
-
-  runs_deep : (items found : List A) (front back ts : List T) → ts ≡ front ++ back → Each (λ x. Item x ⋯ Separator) items front → Deep back
-      → LoopTo Turning (λ _. Deep) found ts
-  runs_deep [] found front back ts is s d = (1, inl (subst Deep (sym (is ∙ ap (λ l. l ++ back) s)) d))
-  runs_deep (x ∷ items) found front back ts is s d =
-      let more = runs_deep items (found ++ x ∷ []) s.back back (s.back ++ back) refl s.ends d in (
-        suc more.0,
-        inr (
-          found ++ x ∷ [],
-          record {
-            front = s.front;
-            back = s.back ++ back;
-            all = is ∙ ap (λ l. l ++ back) s.all ∙ append_assoc s.front s.back back;
-            begins = record { front = s.begins.front; back = s.begins.back; all = s.begins.all; begins = (x, refl, s.begins.begins); ends = s.begins.ends };
-            ends = more.1;
-          },
-        ),
-      )
+  adds_one : AddsOne Turning (λ x. Item x ⋯ Separator)
+  adds_one = record {
+    item = λ found next ts m. (m.begins.0, m.begins.1, record { front = m.front; back = m.back; all = m.all; begins = m.begins.2; ends = m.ends });
+    turn = λ found x ts m. record { front = m.front; back = m.back; all = m.all; begins = (x, refl, m.begins); ends = m.ends };
+  }
 
   -- items with separators up to where the test holds
   pub separated-rule : IsRule Good (separated test last separates item) (Separated Separator Item) (λ _ rest. tells test last rest ≡ true) (EachIs Within) (SeparatedTo Separator Item Deep)
@@ -189,7 +148,7 @@ module _ {T A : Type 0} (Good : T → Type 0) (test : T → Bool) (last : Bool) 
         follow = λ items rest next. next;
         within = λ items each. each;
         apart = λ items each. each;
-        first = λ ts d. adds_deep d.0 [] ts d.1;
-        deep = λ ts d. runs_deep d.0 [] d.1.front d.1.back ts d.1.all d.1.begins d.1.ends;
+        first = λ ts d. adds_deep adds_one d.0 [] ts d.1;
+        deep = λ ts d. runs_deep adds_one d.0 [] d.1.front d.1.back ts d.1.all d.1.begins d.1.ends;
       })
       (steps-rule Good test last separates Separator (λ found. (λ x. found ++ x ∷ []) <$> item) Push (λ _. ItemNext) PushWithin (λ _. Deep) (EachIs Within) separates-items (λ found. inl (push-rule found)) [] tt)
