@@ -6,8 +6,8 @@
 //! in the order of ranks, `tables` tests the order itself, and each has another way where a test fails. What rests on ranks is time:
 //! with those that are found every test passes, so that one walk is enough.
 
-ghost use Rattle.std.specs.Prelude.{◌≡◌, length, slice_set, IfOk};
-ghost use Rattle.til_resolve.specs.Graph.{AreByRank, rank_of};
+ghost use Rattle.std.specs.Prelude.{◌≡◌, length, slice_get, slice_set, IfOk};
+ghost use Rattle.til_resolve.specs.Graph.{AreByRank, rank_of, targets_of};
 
 use std::alloc::Global;
 use tydi_base::{List, Memory};
@@ -177,7 +177,9 @@ impl Walk {
     }
 }
 
-fn target_at(graph: &[List<usize>], visit: Visit) -> Option<usize> {
+fn target_at(graph: &[List<usize>], visit: Visit) -> Option<usize>
+    ensures { result ≡ slice_get (targets_of graph.now visit.number) visit.looked_at }
+{
     graph.get(visit.number)?.get(visit.looked_at).copied()
 }
 
