@@ -1,9 +1,9 @@
 -- A loop that takes a thing whenever it goes on is its first turn, and the loop after it.
 use Rattle.std.proofs.Common.{◌≡◌, ℕ, zero, suc, ◌<◌, ◌≤◌, Bool, true, false, cond, List, [], ◌∷◌, ◌++◌, length, refl, arith, Ok, Err, ap, subst, sym}
-use Rattle.std.specs.Prelude.{Result, OnOk}
+use Rattle.std.specs.Prelude.{Result, OnOk, not}
 use Rattle.tydi_reading.specs.declared.fault.Fault.{Fault}
 use Rattle.tydi_reading.specs.declared.fault.Fault.TheVariants as faults
-use Rattle.tydi_reading.specs.Lists.{repeated, repeated_turn, steps_turn, separator_turn, mark}
+use Rattle.tydi_reading.specs.Lists.{after_joint, repeated, repeated_turn, steps_turn, separator_turn, mark}
 use Rattle.tydi_reading.specs.Named.{NeverGrows}
 use Rattle.tydi_reading.specs.Reading.{Outcome, took, stopped, Reader, Reads, Shrinks, and_then, ◌>>=◌, ◌<$>◌, pure, Turn, again, done, turned, loop_from, loop, tells}
 
@@ -105,6 +105,25 @@ repeated-unfold test last item shrinks = loop_unfolds (repeated_turn test last i
 pub steps-unfold : {T S : Type 0} (test : T → Bool) (last : Bool) (separates : T → Bool) (step : S → Reader T S) → ((s : S) → Shrinks (step s)) → (s : S) (ts : List T)
     → loop (steps_turn test last separates step) s ts ≡ and_then (steps_turn test last separates step s ts) (turned (loop (steps_turn test last separates step)))
 steps-unfold test last separates step shrinks = loop_unfolds (steps_turn test last separates step) (steps_turn-advances test last separates step shrinks)
+
+-- a joint and an item after it take a thing at least
+pub joint-shrinks : {T A : Type 0} (joins : T → Bool) (item : Reader T A) → Shrinks item → Shrinks (after_joint joins item)
+unfolding mark
+joint-shrinks {T} {A} joins item shrinks = record { less = less }
+  where
+    of_mark : (t : T) (ts rest : List T) (x : A) (b : Bool) → and_then (cond {A = Outcome T (Unit {0})} b (took tt ts) (stopped faults.Refused (t ∷ ts))) (λ _. item) ≡ took x rest
+        → length rest < length (t ∷ ts)
+    of_mark t ts rest x true is = let most = shrinks.less ts rest x is in omega arith
+    of_mark t ts rest x false is = absurd cc
+
+    less : (ts rest : List T) (x : A) → after_joint joins item ts ≡ took x rest → length rest < length ts
+    less [] rest x is = absurd cc
+    less (t ∷ ts) rest x is = of_mark t ts rest x (joins t) is
+
+-- no joint stands exactly where one is told not to
+pub tells-not : {T : Type 0} (test : T → Bool) (ts : List T) → not (tells test false ts) ≡ tells (λ t. not (test t)) true ts
+tells-not test [] = refl
+tells-not test (t ∷ ts) = refl
 
 -- a call that did what a reader does that takes a thing
 pub reads-less : {T A : Type 0} {read : Reader T A} → Shrinks read → (ts rest : List T) (made : Result A Fault) → Reads (read ts) made rest

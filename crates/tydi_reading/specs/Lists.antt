@@ -74,6 +74,10 @@ Joined Joint Item [] = λ _. ⊥
 Joined Joint Item (item ∷ []) = Item item
 Joined Joint Item (item ∷ next ∷ items) = Item item ⋯ Joint ⋯ Joined Joint Item (next ∷ items)
 
+-- a joint, and an item after it
+abbrev pub after_joint : {T A : Type 0} → (T → Bool) → Reader T A → Reader T A
+after_joint joins item = mark joins >> item
+
 -- items with a joint between each two, one at least: one, and then joints with an item each, up to where no joint stands
 unfoldable pub joined : {T A : Type 0} → (T → Bool) → Reader T A → Reader T (List A)
-joined joins item = item >>= (λ x. loop (repeated_turn (λ t. not (joins t)) true (mark joins >> item)) (x ∷ []))
+joined joins item = item >>= (λ x. loop (repeated_turn (λ t. not (joins t)) true (after_joint joins item)) (x ∷ []))

@@ -135,6 +135,10 @@ led_by None p q = q
 abbrev pub led : {T K A : Type 0} → (T → Option K) → (K → Reader T A) → Reader T A → Reader T A
 led meaning p q = λ ts. led_by (told_by meaning ts) p q ts
 
+-- the fault of what may not stand here, inside as many others as are allowed
+abbrev pub fault_too_deep : {T : Type 0} → (T → Bool) → List T → Fault
+fault_too_deep begins ts = if sees begins ts then faults.TooDeep else faults.Refused
+
 -- what may not stand here, inside as many others as are allowed: told where it begins
 abbrev pub too_deep : {T A : Type 0} → (T → Bool) → Reader T A
 too_deep begins [] = refuse []

@@ -8,9 +8,11 @@ mod cursor;
 mod fault;
 mod lists;
 mod source;
+mod things;
 
 pub use arguments::{argument, named};
 pub use cursor::Cursor;
 pub use fault::Fault;
-pub use lists::{one_more, repeated, separated, steps};
+pub use lists::{joined, one_more, repeated, separated, steps};
 pub use source::Source;
+pub use things::{leaf, mark, optional, too_deep};

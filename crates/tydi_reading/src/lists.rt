@@ -1,6 +1,6 @@
 //! The loops: items one after another, and steps with a separator between each two.
 
-ghost use Rattle.std.specs.Prelude.{◌≡◌, ◌<◌, Bool, false, length, OnOk};
+ghost use Rattle.std.specs.Prelude.{◌≡◌, ◌<◌, Bool, false, [], length, OnOk};
 ghost use Rattle.tydi_reading.specs.Calls.{DoesRead, DoesShrink, DoesStep, DoesTell, StepsShrink};
 ghost use Rattle.tydi_reading.specs.Lists as spec;
 ghost use Rattle.tydi_reading.specs.Lists.{repeated_turn};
@@ -95,4 +95,49 @@ pub fn one_more<S: Source, A: Drop, P: Fn(&mut S) -> Result<A, Fault>>(
     let mut items = found;
     items.push(item(source)?)?;
     Ok(items)
+}
+
+/// Items with a joint between each two, one at least, behind none: one, and then joints with an item each, as long as a joint stands.
+pub fn joined<S: Source, A: Drop, F: Fn(&S) -> bool, P: Fn(&mut S) -> Result<A, Fault>>(
+    source: &mut S,
+    none: List<A>,
+    joins: F,
+    item: P,
+) -> Result<List<A>, Fault>
+    requires none { none ≡ [] }
+    requires joints { F.IsAlwaysCallable joins }
+    requires calls { P.IsAlwaysCallable item }
+    requires less { DoesShrink S.left P.Fn item }
+    ensures { (read : Reader S.Thing A) (joint : S.Thing → Bool) → DoesTell S.left F.Fn joins joint false → DoesRead S.left P.Fn item read → Shrinks read
+        → Reads (spec.joined joint read (S.left source.old)) result (S.left source.new) }
+{
+    let mut items = none;
+    items.push(item(source)?)?;
+    repeated(
+        source,
+        items,
+        |rest: &S| !joins(rest),
+        |rest: &mut S| after_joint(rest, &joins, &item),
+    )
+}
+
+// A joint, and an item after it.
+#[tactic(auto, unfolding(crate::specs::Lists::mark))]
+fn after_joint<S: Source, A: Drop, F: Fn(&S) -> bool, P: Fn(&mut S) -> Result<A, Fault>>(
+    source: &mut S,
+    joins: &F,
+    item: &P,
+) -> Result<A, Fault>
+    requires joints { F.IsAlwaysCallable joins.now }
+    requires calls { P.IsAlwaysCallable item.now }
+    requires less { DoesShrink S.left P.Fn item.now }
+    ensures reads { (read : Reader S.Thing A) (joint : S.Thing → Bool) → DoesTell S.left F.Fn joins.now joint false → DoesRead S.left P.Fn item.now read
+        → Reads (spec.after_joint joint read (S.left source.old)) result (S.left source.new) }
+    ensures less { OnOk result (length (S.left source.new) < length (S.left source.old)) }
+{
+    if !joins(source) {
+        return Err(Fault::Refused);
+    }
+    source.skip();
+    item(source)
 }
