@@ -13,7 +13,7 @@ use crate::tree::{
 };
 use til_lexer::TokenKind;
 use tydi_base::{Boxed, List};
-use tydi_reading::{Fault, Source, repeated};
+use tydi_reading::{Fault, repeated};
 
 impl<'a> Parser<'a> {
     /// `project`, whose types have at most so many levels.
@@ -74,18 +74,10 @@ impl<'a> Parser<'a> {
     }
 
     /// The word with which a declaration begins.
-    #[tactic(auto, unfolding(crate::specs::Reading::token))]
     fn keyword(&mut self) -> Result<Keyword, Fault>
         ensures { ReadsAlways (spec.keyword self.old) result self.new }
     {
-        let Some((_, spelling)) = self.next_of(TokenKind::Word) else {
-            return Err(Fault::Refused);
-        };
-        let Some(keyword) = keyword_of(spelling) else {
-            return Err(Fault::Refused);
-        };
-        self.skip();
-        Ok(keyword)
+        self.token(TokenKind::Word, |spelling| keyword_of(spelling))
     }
 
     /// What follows the keyword and the name of a declaration, up to its semicolon.

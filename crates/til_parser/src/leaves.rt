@@ -1,6 +1,6 @@
 //! Names, numbers, quoted text, documentation and paths.
 
-ghost use Rattle.std.specs.Prelude.{◌≡◌, ◌+◌, ◌*◌, ◌^◌, ◌≤◌, ◌⊎◌, [], length, IfOk, IsTrue};
+ghost use Rattle.std.specs.Prelude.{◌≡◌, ◌+◌, ◌*◌, ◌^◌, ◌≤◌, ◌⊎◌, [], length, IfOk, IsTrue, Some};
 ghost use Rattle.std.specs.Char.{is_ascii_digit};
 ghost use Rattle.std.specs.List.{list_all};
 ghost use Rattle.til_lexer.specs.Spelling.{HasForm};
@@ -16,7 +16,7 @@ use crate::tree::{AstName, AstPath};
 use std::alloc::Global;
 use til_lexer::{TokenKind, digits_at};
 use tydi_base::{Frac, Level, List, Memory, Name, Text, number_of_digits};
-use tydi_reading::{Fault, Source, repeated};
+use tydi_reading::{Fault, Source, joined};
 
 impl<'a> Parser<'a> {
     /// `name`
@@ -35,46 +35,33 @@ impl<'a> Parser<'a> {
     }
 
     /// `whole`: a number without a point.
-    #[tactic(auto, unfolding(crate::specs::Reading::token))]
     pub(crate) fn whole(&mut self) -> Result<u64, Fault>
         ensures { ReadsAlways (spec.whole self.old) result self.new }
     {
-        let Some((_, spelling)) = self.next_of(TokenKind::Number) else {
-            return Err(Fault::Refused);
-        };
-        let Some(whole) = whole_number(spelling) else {
-            return Err(Fault::Refused);
-        };
-        self.skip();
-        Ok(whole)
+        self.token(TokenKind::Number, |spelling| whole_number(spelling))
     }
 
     /// A whole number from 1 to 8.
-    #[tactic(auto, unfolding(crate::specs::Reading::token))]
     pub(crate) fn level(&mut self) -> Result<Level, Fault>
         ensures { ReadsAlways (spec.level self.old) result self.new }
     {
-        let Some((_, spelling)) = self.next_of(TokenKind::Number) else {
-            return Err(Fault::Refused);
-        };
-        let Some(level) = level_of(whole_number(spelling)) else {
-            return Err(Fault::Refused);
-        };
-        self.skip();
-        Ok(level)
+        self.token(
+            TokenKind::Number,
+            |spelling| level_of(whole_number(spelling)),
+        )
     }
 
     /// `number`, as a fraction in lowest terms.
-    #[tactic(auto, unfolding(crate::specs::Reading::token))]
     pub(crate) fn number(&mut self) -> Result<Frac, Fault>
         ensures { ReadsAlways (spec.number self.old) result self.new }
     {
-        let Some((_, spelling)) = self.next_of(TokenKind::Number) else {
-            return Err(Fault::Refused);
-        };
-        let number = fraction_of(spelling);
-        self.skip();
-        Ok(number)
+        self.token(
+            TokenKind::Number,
+            |spelling: &str| -> Option<Frac>
+                requires { HasForm kinds.Number spelling.now }
+                ensures { result ≡ Some (lowest (numerator_of spelling.now) (denominator_of spelling.now)) }
+            { Some(fraction_of(spelling)) },
+        )
     }
 
     /// `quoted`: the text between the two `"`.
@@ -110,20 +97,16 @@ impl<'a> Parser<'a> {
     }
 
     /// `path`
-    #[tactic(auto, unfolding(crate::specs::ReadTypes::path, tydi_reading::specs::Lists::joined))]
+    #[tactic(auto, unfolding(crate::specs::ReadTypes::path))]
     pub(crate) fn path(&mut self) -> Result<AstPath, Fault>
         ensures { Reads (spec.path self.old) result self.new }
     {
-        let mut names = room_for_one(self.alloc())?;
-        names.push(self.name()?)?;
-        let all = repeated(
+        let none = room_for_one(self.alloc())?;
+        let all = joined(
             self,
-            names,
-            |rest| !rest.sees(TokenKind::DoubleColon),
-            |rest| {
-                rest.expect(TokenKind::DoubleColon)?;
-                rest.name()
-            },
+            none,
+            |rest| rest.sees(TokenKind::DoubleColon),
+            |rest| rest.name(),
         )?;
         Ok(AstPath { names: fitted(all) })
     }

@@ -1,11 +1,13 @@
 //! The tokens that are not taken yet, and the steps over them.
 
-ghost use Rattle.std.specs.Prelude.{◌≡◌, true, false, if◌then◌else◌, All, IfSome, length, option_map};
+ghost use Rattle.std.specs.Prelude.{◌≡◌, ℕ, true, false, if◌then◌else◌, All, IfSome, List, Option, length, option_map};
+ghost use denote.Ref.{Bor};
 ghost use Rattle.til_lexer.specs.Slices.{IsTokenOf};
 ghost use Rattle.til_lexer.specs.Spelling.{HasForm, own_text};
 ghost use Rattle.til_parser.specs.Lexemes.{Lexeme, HasFormIn, lexemes_of};
 ghost use Rattle.til_parser.specs.Reading as spec;
 ghost use Rattle.til_parser.specs.declared.ltype.AstType.{AstType};
+ghost use Rattle.tydi_reading.specs.Calls.{Means};
 ghost use Rattle.tydi_reading.specs.Reading.{Outcome, ReadsAlways, rest_of, stopped, tells, told_by, too_deep};
 ghost use Rattle.til_parser.specs.Words.{argument_at, type_word_at};
 
@@ -177,6 +179,26 @@ impl<'a> Parser<'a> {
         }
         self.skip();
         Ok(())
+    }
+
+    /// Takes the next token, which is to be of this kind and to have a meaning, and gives the meaning.
+    #[tactic(auto, unfolding(crate::specs::Reading::token))]
+    pub(crate) fn token<A: Drop, F: Fn(&str) -> Option<A>>(
+        &mut self,
+        kind: TokenKind,
+        meaning: F,
+    ) -> Result<A, Fault>
+        requires { (text : Bor (List ℕ)) → HasForm kind text.now → F.Fn.pre meaning (text, tt) }
+        ensures { (means : List ℕ → Option A) → Means F.Fn meaning means → ReadsAlways (spec.token kind (λ place spelling. means spelling) self.old) result self.new }
+    {
+        let Some((_, spelling)) = self.next_of(kind) else {
+            return Err(Fault::Refused);
+        };
+        let Some(found) = meaning(spelling) else {
+            return Err(Fault::Refused);
+        };
+        self.skip();
+        Ok(found)
     }
 
     /// Why no type may stand here, inside as many others as are allowed.

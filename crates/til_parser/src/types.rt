@@ -163,33 +163,20 @@ impl<'a> Parser<'a> {
     }
 
     /// A synchronicity.
-    #[tactic(auto, unfolding(crate::specs::Reading::token))]
     fn sync(&mut self) -> Result<AstSync, Fault>
         ensures { ReadsAlways (spec.sync self.old) result self.new }
     {
-        let Some((_, spelling)) = self.next_of(TokenKind::Word) else {
-            return Err(Fault::Refused);
-        };
-        let Some(sync) = sync_of(spelling) else {
-            return Err(Fault::Refused);
-        };
-        self.skip();
-        Ok(sync)
+        self.token(TokenKind::Word, |spelling| sync_of(spelling))
     }
 
     /// Which of two words stands next: true for the first.
-    #[tactic(auto, unfolding(crate::specs::Reading::token))]
     pub(crate) fn either_word(&mut self, first: &str, second: &str) -> Result<bool, Fault>
         ensures { ReadsAlways (spec.either_word first.now second.now self.old) result self.new }
     {
-        let Some((_, spelling)) = self.next_of(TokenKind::Word) else {
-            return Err(Fault::Refused);
-        };
-        let Some(is_first) = either_of(first, second, spelling) else {
-            return Err(Fault::Refused);
-        };
-        self.skip();
-        Ok(is_first)
+        self.token(
+            TokenKind::Word,
+            |spelling| either_of(first, second, spelling),
+        )
     }
 
     /// `"(" whole ")"`

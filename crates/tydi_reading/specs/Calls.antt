@@ -9,6 +9,10 @@ use Rattle.tydi_reading.specs.Reading.{Reader, Reads, tells, told_by}
 abbrev pub Decides : {F T : Type 0} → Shared F (Bor T × Unit {0}) Bool → F → (T → Bool) → Type 0
 Decides {F} {T} calls f test = (t : Bor T) (b : Bool) → calls.post f (t, tt) b → b ≡ test t.now
 
+-- each call gives what a meaning is
+abbrev pub Means : {F T K : Type 0} → Shared F (Bor T × Unit {0}) (Option K) → F → (T → Option K) → Type 0
+Means {F} {T} {K} calls f meaning = (t : Bor T) (k : Option K) → calls.post f (t, tt) k → k ≡ meaning t.now
+
 -- each call gives what a test of two things does
 abbrev pub DecidesPair : {F K G : Type 0} → Shared F (Bor K × (Bor G × Unit {0})) Bool → F → (K → G → Bool) → Type 0
 DecidesPair {F} {K} {G} calls f test = (k : Bor K) (g : Bor G) (b : Bool) → calls.post f (k, (g, tt)) b → b ≡ test k.now g.now

@@ -169,10 +169,10 @@ path-rule =
     (as_rule (fewer (as_rule (joined-rule _ _ _ _ _ (kind_mark kinds.DoubleColon _ refl).is name-rule)) (λ _. PathNext) (λ x. not_next (is_kind kinds.DoubleColon))))
     (λ x. refl) (λ y. refl)
 
--- `::` and a name take a token at least
-pub Shrinks-next_name : Shrinks (expect kinds.DoubleColon >> name)
-Shrinks-next_name = shrinks {Deep = Never} (skip (kind_mark kinds.DoubleColon _ refl) (as_rule name-rule))
-    (record { item = λ x. front-marked (kind_mark kinds.DoubleColon _ refl) (Name x); deep = λ front rest d. absurd d })
+-- a name takes a token
+pub Shrinks-name : Shrinks name
+unfolding same_kind
+Shrinks-name = shrinks {lead = is_kind kinds.Word} {Deep = Never} (as_rule name-rule) (record { item = λ x front rest s. rw (s.all, s.is.kind) refl; deep = λ front rest d. absurd d })
 
 -- a path begins with a name
 pub path-front : (P : List Lexeme → Type 0) → ((x : AstName) (t : Lexeme) (more : List Lexeme) → IsNamed x t → P (t ∷ more)) → (names : List AstName) (front rest : List Lexeme)
