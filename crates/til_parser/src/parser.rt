@@ -16,7 +16,7 @@ use std::alloc::Global;
 use std::marker::Model;
 use til_lexer::{Token, TokenKind};
 use tydi_base::Place;
-use tydi_reading::{Fault, Source};
+use tydi_reading::{Fault, Source, mark};
 
 /// The tokens of a text that are not taken yet. Contracts see these.
 #[derive(Drop)]
@@ -158,27 +158,17 @@ impl<'a> Parser<'a> {
     }
 
     /// Takes the next token, which is to be of this kind.
-    #[tactic(auto, unfolding(tydi_reading::specs::Lists::mark))]
     pub(crate) fn expect(&mut self, kind: TokenKind) -> Result<(), Fault>
         ensures { ReadsAlways (spec.expect kind self.old) result self.new }
     {
-        if !self.sees(kind) {
-            return Err(Fault::Refused);
-        }
-        self.skip();
-        Ok(())
+        mark(self, |rest| rest.sees(kind))
     }
 
     /// Takes the next token, which is to be this word.
-    #[tactic(auto, unfolding(tydi_reading::specs::Lists::mark))]
     pub(crate) fn expect_word(&mut self, word: &str) -> Result<(), Fault>
         ensures { ReadsAlways (spec.expect_word word.now self.old) result self.new }
     {
-        if !self.sees_word(word) {
-            return Err(Fault::Refused);
-        }
-        self.skip();
-        Ok(())
+        mark(self, |rest| rest.sees_word(word))
     }
 
     /// Takes the next token, which is to be of this kind and to have a meaning, and gives the meaning.

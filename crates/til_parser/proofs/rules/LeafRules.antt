@@ -1,12 +1,12 @@
 -- The rules of names, numbers, marked texts, documentation, paths, and lists in brackets and in braces.
 use Rattle.til_parser.proofs.rules.Common.{◌≡◌, ℕ, ◌^◌, ◌≤◌, nat_lt, Bool, true, false, cond, ◌&&◌, List, [], ◌∷◌, ◌++◌, length, Option, Some, None, inl, inr, refl, sym}
 use Rattle.til_parser.proofs.rules.Common.{ap, subst, bytes_eq, arith, codes, length-append, not, list_all, none-some, same_Some, cond_some, is_name, has_name_form}
-use Rattle.til_parser.proofs.rules.Common.{Place, Never, Anything, ◌⋯◌, Reader, Shrinks, tells, ◌>>◌, IsRule, bytes_eq-Decides, Each, EachIs, separated, Repeats}
+use Rattle.til_parser.proofs.rules.Common.{Place, Never, Anything, ◌⋯◌, Reader, Shrinks, tells, IsRule, bytes_eq-Decides, Each, EachIs, separated, Repeats}
 use Rattle.til_parser.proofs.rules.Common.{repeated-rule, BracketedTo, BracedTo, braced, front-tells, follows-front, as_rule, as_flat, skip, close, viewed, optional-rule}
-use Rattle.til_parser.proofs.rules.Common.{mark-tells, front-marked, shrinks, HasForm, IsBetween, start, TokenKind, AstName, AstPath, Form, One, Of, Word, Commas}
+use Rattle.til_parser.proofs.rules.Common.{mark-tells, shrinks, HasForm, IsBetween, start, TokenKind, AstName, AstPath, Form, One, Of, Word, Commas}
 use Rattle.til_parser.proofs.rules.Common.{Bracketed, Braced, IsNamed, Name, IsWhole, Whole, IsNumber, Number, IsMarked, Quoted, Doc, Level, Path, sync_word, Lexeme}
 use Rattle.til_parser.proofs.rules.Common.{IsFormed, whole_of, numerator_of, denominator_of, lowest, bracketed, bracketed_steps, name_at, name, whole, number, level_of}
-use Rattle.til_parser.proofs.rules.Common.{level, marked, quoted, doc, path, either_word, sync, same_kind, is_kind, expect, all_syncs, both, fewer, respelled, Begins}
+use Rattle.til_parser.proofs.rules.Common.{level, marked, quoted, doc, path, either_word, sync, same_kind, is_kind, all_syncs, both, fewer, respelled, Begins}
 use Rattle.std.specs.Char.{is_ascii_digit}
 use Rattle.std.proofs.lemmas.{Bool.Decides.nat_tests, Str.IsUtf8-nil, Str.Parse.digits_value_short}
 use Rattle.tydi_base.specs.{Decimal.read_on, Decimal.below, Level.IsLevel}

@@ -1,4 +1,4 @@
-use Rattle.til_parser.proofs.rules.Common.{rules, ◌≡◌}
+use Rattle.til_parser.proofs.rules.Common.{rules}
 use Rattle.til_parser.specs.ReadTypes.{either_of}
 use Rattle.til_parser.proofs.parser.Parser.either_word.Goals as goal
 
