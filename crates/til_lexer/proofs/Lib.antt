@@ -10,3 +10,4 @@ pub mod FormBegins
 pub mod SpelledPieces
 pub mod SpelledTokens
 pub mod CountLemmas
+pub mod PrefixLemmas

@@ -8,7 +8,8 @@ ghost use Rattle.til_lexer.specs.Spans as spec;
 ghost use Rattle.til_lexer.specs.Spans.{Decides, IsMarked, IsSpan};
 
 use crate::places::place_after;
-use tydi_base::Place;
+use memchr::memchr;
+use tydi_base::{LINE_FEED, Place};
 
 /// Whether a byte is white space.
 pub(crate) fn is_space(byte: u8) -> bool
@@ -29,22 +30,6 @@ pub(crate) fn begins_comment(bytes: &[u8]) -> bool
 pub(crate) struct Span {
     pub(crate) count: usize,
     pub(crate) after: Place,
-}
-
-/// How many bytes that pass a test begin a text.
-fn count_while<F: Fn(&u8) -> bool>(bytes: &[u8], passes: F) -> usize
-    requires { F.IsAlwaysCallable passes }
-    ensures value { (test : ℕ → Bool) → Decides F.Fn passes test → result ≡ prefix_len test bytes.now }
-    ensures within { result ≤ length bytes.now }
-{
-    let mut count = 0;
-    'bytes: for byte in bytes {
-        if !passes(byte) {
-            return count;
-        }
-        count += 1;
-    }
-    count
 }
 
 /// The bytes that pass a test and begin a text at this place, of which some may be LFs.
@@ -93,12 +78,7 @@ pub(crate) fn line_length(bytes: &[u8]) -> usize
     ensures value { result ≡ spec.line_length bytes.now }
     ensures within { result ≤ length bytes.now }
 {
-    count_while(
-        bytes,
-        |byte: &u8| -> bool
-            ensures { result ≡ not (byte.now == 10) }
-        { *byte != b'\n' },
-    )
+    memchr(LINE_FEED, bytes).unwrap_or(bytes.len())
 }
 
 /// How many digits begin a text.
@@ -106,12 +86,10 @@ pub fn digits_at(bytes: &[u8]) -> usize
     ensures value { result ≡ spec.digits_at bytes.now }
     ensures within { result ≤ length bytes.now }
 {
-    count_while(
-        bytes,
-        |byte: &u8| -> bool
-            ensures { result ≡ is_ascii_digit byte.now }
-        { byte.is_ascii_digit() },
-    )
+    bytes
+        .iter()
+        .position(|byte| !byte.is_ascii_digit())
+        .unwrap_or(bytes.len())
 }
 
 /// How many digits stand after the point that begins a text: none where none begins it.
@@ -130,12 +108,10 @@ pub(crate) fn name_bytes_at(bytes: &[u8]) -> usize
     ensures value { result ≡ prefix_len is_name_byte bytes.now }
     ensures within { result ≤ length bytes.now }
 {
-    count_while(
-        bytes,
-        |byte: &u8| -> bool
-            ensures { result ≡ is_name_byte byte.now }
-        { byte.is_ascii_alphanumeric() || *byte == b'_' },
-    )
+    bytes
+        .iter()
+        .position(|byte| !(byte.is_ascii_alphanumeric() || *byte == b'_'))
+        .unwrap_or(bytes.len())
 }
 
 /// What stands before the first such mark in a text at this place. None where there is none.
