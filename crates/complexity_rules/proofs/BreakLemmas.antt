@@ -6,15 +6,15 @@ use Rattle.std.proofs.lemmas.List.{append-nil}
 use Rattle.std.proofs.lemmas.List.Elements.{All-nil}
 use Rattle.physical_stream.specs.Params.{Parameters}
 use Rattle.physical_stream.specs.Items.{items_of}
-use Rattle.physical_stream.specs.Shape.{kind_of, tail_of, closes_empty, may_close}
+use Rattle.physical_stream.specs.Shape.{kind_of, tail_of, tail_over, closes_empty, may_close, has_misplaced}
 use Rattle.physical_stream.specs.Breaks.{BreaksEmpty, BreaksNest, FirstClose, IsElem}
 use Rattle.physical_stream.specs.declared.item.Item.{Item}
 use Rattle.physical_stream.specs.declared.item.Item.TheVariants as items
 use Rattle.physical_stream.specs.declared.item.Tail.{Tail}
 use Rattle.physical_stream.specs.declared.transfer.Transfer.{Transfer}
-use Rattle.complexity_rules.specs.Walk.{tail_over, has_misplaced, has_element, first_close, misses_empty, Finds}
+use Rattle.physical_stream.proofs.ShapeLemmas.{tail_of-over, has_misplaced-there}
+use Rattle.complexity_rules.specs.Walk.{has_element, first_close, misses_empty, Finds}
 use Rattle.complexity_rules.specs.declared.walk.Walk.{Walk}
-use Rattle.complexity_rules.proofs.WalkLemmas.{has_misplaced-append, tail_of-over}
 use Rattle.complexity_rules.proofs.LaneLemmas.{IsInactive-has_element, has_element-IsInactive}
 
 -- ---- Nest
@@ -40,16 +40,6 @@ find_misplaced tail (items.Close dim ∷ more) some = by_first (may_close tail d
     by_first true is later =
         let found = later (ap (λ (b : Bool). not b || has_misplaced (Some (kind_of (items.Close dim))) more) (sym is) ∙ some) in
         record { front = items.Close dim ∷ found.front; dim = found.dim; rest = found.rest; splits = ap (λ (is : List Item). items.Close dim ∷ is) found.splits; wrong = found.wrong }
-
-or_true_right : (a b : Bool) → b ≡ true → (a || b) ≡ true
-or_true_right false b holds = holds
-or_true_right true b holds = refl
-
-pub has_misplaced-there : (tail : Option Tail) (front rest : List Item) (dim : ℕ) → may_close (tail_over tail front) dim ≡ false →
-    has_misplaced tail (front ++ items.Close dim ∷ rest) ≡ true
-has_misplaced-there tail front rest dim wrong =
-    has_misplaced-append tail front (items.Close dim ∷ rest)
-    ∙ or_true_right (has_misplaced tail front) _ (ap (λ (b : Bool). not b || has_misplaced (Some (kind_of (items.Close dim))) rest) wrong)
 
 pub BreaksNest-misplaced : (p : Parameters) (done : List Item) (t : Transfer) → IsTrue (has_misplaced (tail_of done) (items_of p t)) ↔ BreaksNest p done t
 BreaksNest-misplaced p done t = (

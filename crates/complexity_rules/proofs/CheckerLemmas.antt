@@ -7,7 +7,7 @@ use Rattle.physical_stream.specs.Params.{Parameters}
 use Rattle.physical_stream.specs.Cycles.{Cycle, done_in, done_of, items_done, refused_in, waiting_of}
 use Rattle.physical_stream.specs.Counts.{ends_packet, packets_of}
 use Rattle.physical_stream.specs.Items.{items_of, items_of_all, lane_items, lane_closes, last_bit, lane_word, is_active, parts_below}
-use Rattle.physical_stream.specs.Shape.{tail_of}
+use Rattle.physical_stream.specs.Shape.{tail_of, tail_over}
 use Rattle.physical_stream.specs.declared.item.Item.{Item}
 use Rattle.physical_stream.specs.declared.item.Item.TheVariants as items
 use Rattle.physical_stream.specs.declared.item.Tail.{Tail}
@@ -15,14 +15,13 @@ use Rattle.physical_stream.specs.declared.item.Tail.TheVariants as tails
 use Rattle.physical_stream.specs.declared.transfer.Transfer.{Transfer}
 use Rattle.physical_stream.specs.declared.rule.Rule.{Rule}
 use Rattle.physical_stream.specs.declared.rule.Rule.TheVariants.{Hold}
+use Rattle.physical_stream.proofs.ShapeLemmas.{tail_of-over}
 use Rattle.complexity_rules.specs.Checking.{Keeps, IsLowestBroken, IsStep, Sees, StandsFor, params_in}
 use Rattle.complexity_rules.specs.Waiting.{IsJudged, IsLowestShown}
 use Rattle.complexity_rules.specs.declared.checker.Checker.{Checker}
 use Rattle.complexity_rules.specs.Tails.{IsTailIn}
 use Rattle.complexity_rules.specs.Effect.{IsEffect}
-use Rattle.complexity_rules.specs.Walk.{tail_over}
 use Rattle.complexity_rules.specs.declared.effect.Effect.{Effect}
-use Rattle.complexity_rules.proofs.WalkLemmas.{tail_of-over}
 
 length-one_more : (cycles : List Cycle) (now : Cycle) → length (cycles ++ now ∷ []) ≡ length cycles + 1
 length-one_more cycles now = length-append cycles (now ∷ [])

@@ -10,26 +10,15 @@ use Rattle.physical_stream.specs.Params.{Parameters}
 use Rattle.physical_stream.specs.Cycles.{Cycle, done_in, items_done}
 use Rattle.physical_stream.specs.Items.{items_of, items_of_all}
 use Rattle.physical_stream.specs.Breaks.{Breaks, BreaksNest, OnShown}
-use Rattle.physical_stream.specs.Shape.{tail_of, may_close, IsNested}
+use Rattle.physical_stream.specs.Shape.{tail_of, tail_over, has_misplaced}
 use Rattle.physical_stream.specs.declared.item.Item.{Item}
 use Rattle.physical_stream.specs.declared.item.Tail.{Tail}
 use Rattle.physical_stream.specs.declared.rule.Rule.TheVariants.{Nest}
 use Rattle.physical_stream.specs.declared.transfer.Transfer.{Transfer}
+use Rattle.physical_stream.proofs.ShapeLemmas.{tail_of-over_none, has_misplaced-append, IsNested-placed}
 use Rattle.complexity_rules.specs.Nesting.{ItemsAreNested}
-use Rattle.complexity_rules.specs.Walk.{tail_over, has_misplaced}
-use Rattle.complexity_rules.proofs.WalkLemmas.{has_misplaced-append, tail_of-over_none}
-use Rattle.complexity_rules.proofs.BreakLemmas.{BreaksNest-misplaced, has_misplaced-there}
+use Rattle.complexity_rules.proofs.BreakLemmas.{BreaksNest-misplaced}
 use Rattle.complexity_rules.proofs.CheckerLemmas.{items_done-one_more}
-
--- items among which no Close is misplaced are nested
-pub IsNested-placed : (done : List Item) → has_misplaced None done ≡ false → IsNested done
-IsNested-placed done placed front rest dim splits = by_close (may_close (tail_of front) dim) refl
-  where
-    by_close : (may : Bool) → may_close (tail_of front) dim ≡ may → may ≡ true
-    by_close true is = refl
-    by_close false is =
-        let wrong : may_close (tail_over None front) dim ≡ false = ap (λ (tail : Option Tail). may_close tail dim) (sym (tail_of-over_none front)) ∙ is in
-        let clash : false ≡ true = sym placed ∙ ap (has_misplaced None) splits ∙ has_misplaced-there None front rest dim wrong in cc
 
 neither : (a b : Bool) → a ≡ false → b ≡ false → (a || b) ≡ false
 neither false b one other = other

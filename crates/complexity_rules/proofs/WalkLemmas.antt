@@ -1,30 +1,20 @@
 -- What a walk over items finds, item by item and list by list.
 use Rattle.std.proofs.Common.{◌≡◌, ◌≤◌, ◌∙◌, ℕ, ◌+◌, Bool, true, false, not, ◌||◌, if◌then◌else◌, List, [], ◌∷◌, ◌++◌, cond, ◌==◌, Option, None, Some, refl, sym, ap, subst, append_assoc}
-use Rattle.std.proofs.Math.Bool.{or_assoc}
 use Rattle.std.proofs.lemmas.List.{append-nil}
 use Rattle.std.proofs.lemmas.List.Sums.{sum_by_push}
 use Rattle.physical_stream.specs.Params.{Parameters}
 use Rattle.physical_stream.specs.Items.{parts_below, lane_items, items_of}
 use Rattle.physical_stream.specs.declared.transfer.Transfer.{Transfer}
 use Rattle.physical_stream.specs.Counts.{ends_packet}
-use Rattle.physical_stream.specs.Shape.{kind_of, tail_of, may_close}
+use Rattle.physical_stream.specs.Shape.{tail_over, may_close, has_misplaced}
 use Rattle.physical_stream.specs.declared.item.Item.{Item}
 use Rattle.physical_stream.specs.declared.item.Item.TheVariants as items
 use Rattle.physical_stream.specs.declared.item.Tail.{Tail}
 use Rattle.physical_stream.specs.declared.item.Tail.TheVariants as tails
 use Rattle.physical_stream.proofs.ItemsLemmas.{parts_below-more}
-use Rattle.complexity_rules.specs.Walk.{tail_over, is_misplaced, has_misplaced, has_element, first_close, first_of_two, Finds}
+use Rattle.physical_stream.proofs.ShapeLemmas.{tail_over-append, has_misplaced-append}
+use Rattle.complexity_rules.specs.Walk.{has_element, first_close, first_of_two, Finds}
 use Rattle.complexity_rules.specs.declared.walk.Walk.{Walk}
-
-pub tail_over-append : (tail : Option Tail) (a b : List Item) → tail_over tail (a ++ b) ≡ tail_over (tail_over tail a) b
-tail_over-append tail [] b = refl
-tail_over-append tail (i ∷ a) b = tail_over-append (Some (kind_of i)) a b
-
-pub has_misplaced-append : (tail : Option Tail) (a b : List Item) → has_misplaced tail (a ++ b) ≡ (has_misplaced tail a || has_misplaced (tail_over tail a) b)
-has_misplaced-append tail [] b = refl
-has_misplaced-append tail (i ∷ a) b =
-    ap (λ (more : Bool). is_misplaced tail i || more) (has_misplaced-append (Some (kind_of i)) a b)
-    ∙ sym (or_assoc (is_misplaced tail i) (has_misplaced (Some (kind_of i)) a) (has_misplaced (tail_over (Some (kind_of i)) a) b))
 
 pub has_element-append : (a b : List Item) → has_element (a ++ b) ≡ (has_element a || has_element b)
 has_element-append [] b = refl
@@ -35,18 +25,6 @@ pub first_close-append : (a b : List Item) → first_close (a ++ b) ≡ first_of
 first_close-append [] b = refl
 first_close-append (items.Elem word ∷ a) b = first_close-append a b
 first_close-append (items.Close dim ∷ a) b = refl
-
--- ---- the tail
-
-pub tail_of-over_none : (is : List Item) → tail_of is ≡ tail_over None is
-tail_of-over_none [] = refl
-tail_of-over_none (i ∷ []) = refl
-tail_of-over_none (i ∷ j ∷ more) = tail_of-over_none (j ∷ more)
-
--- the tail of more items is that of a walk from the tail before them
-pub tail_of-over : (done is : List Item) → tail_of (done ++ is) ≡ tail_over (tail_of done) is
-tail_of-over done is =
-    tail_of-over_none (done ++ is) ∙ tail_over-append None done is ∙ ap (λ (t : Option Tail). tail_over t is) (sym (tail_of-over_none done))
 
 -- ---- one item more
 

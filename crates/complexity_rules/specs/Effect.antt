@@ -1,9 +1,9 @@
 -- What a transfer changes when it is done (this project's own).
 use Rattle.std.specs.Prelude.{◌≡◌, ℕ, ◌*◌, List, Option, count_by}
 use Rattle.physical_stream.specs.Counts.{ends_packet}
+use Rattle.physical_stream.specs.Shape.{tail_over}
 use Rattle.physical_stream.specs.declared.item.Item.{Item}
 use Rattle.physical_stream.specs.declared.item.Tail.{Tail}
-use Rattle.complexity_rules.specs.Walk.{tail_over}
 use Rattle.complexity_rules.specs.declared.effect.Effect.{Effect}
 
 -- the most packets that the items of a lane end: its element, and a Close of each of 32 dimensions

@@ -1,26 +1,11 @@
 -- What a walk over the items of a transfer finds (this project's own).
-use Rattle.std.specs.Prelude.{◌≡◌, ℕ, Bool, true, false, not, ◌||◌, List, [], ◌∷◌, count_by, Option, Some, None}
-use Rattle.physical_stream.specs.Shape.{kind_of, closes_empty, may_close}
+use Rattle.std.specs.Prelude.{◌≡◌, ℕ, Bool, true, false, not, List, [], ◌∷◌, count_by, Option, Some, None}
+use Rattle.physical_stream.specs.Shape.{tail_over, has_misplaced, closes_empty}
 use Rattle.physical_stream.specs.Counts.{ends_packet}
 use Rattle.physical_stream.specs.declared.item.Item.{Item}
 use Rattle.physical_stream.specs.declared.item.Item.TheVariants as items
 use Rattle.physical_stream.specs.declared.item.Tail.{Tail}
 use Rattle.complexity_rules.specs.declared.walk.Walk.{Walk}
-
--- the kind of the last of these items, or what it was before them
-abbrev pub tail_over : Option Tail → List Item → Option Tail
-tail_over tail [] = tail
-tail_over tail (item ∷ more) = tail_over (Some (kind_of item)) more
-
--- the item is a Close that may not stand after this tail
-abbrev pub is_misplaced : Option Tail → Item → Bool
-is_misplaced tail (items.Elem word) = false
-is_misplaced tail (items.Close dim) = not (may_close tail dim)
-
--- some of these items is such a Close
-abbrev pub has_misplaced : Option Tail → List Item → Bool
-has_misplaced tail [] = false
-has_misplaced tail (item ∷ more) = is_misplaced tail item || has_misplaced (Some (kind_of item)) more
 
 -- some of these items is an element
 abbrev pub has_element : List Item → Bool

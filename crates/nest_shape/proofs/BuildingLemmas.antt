@@ -7,16 +7,14 @@ use Rattle.std.proofs.lemmas.Bool.Decides.{nat_tests}
 use Rattle.std.proofs.Math.Seq.{get_or-append_seam}
 use Rattle.std.proofs.Math.ListN.{length-append}
 use Rattle.std.proofs.lemmas.Option.{slice_get-get_or}
-use Rattle.complexity_rules.specs.Walk.{tail_over, is_misplaced, has_misplaced}
-use Rattle.complexity_rules.proofs.NestingLemmas.{IsNested-placed}
-use Rattle.complexity_rules.proofs.WalkLemmas.{has_misplaced-append, tail_of-over, tail_of-over_none}
 use Rattle.physical_stream.specs.Ending.{ending_after}
-use Rattle.physical_stream.specs.Shape.{tail_of, may_close}
+use Rattle.physical_stream.specs.Shape.{tail_of, tail_over, may_close, is_misplaced, has_misplaced}
 use Rattle.physical_stream.specs.declared.end.End.TheVariants as ends
 use Rattle.physical_stream.specs.declared.item.Item.{Item}
 use Rattle.physical_stream.specs.declared.item.Item.TheVariants as items
 use Rattle.physical_stream.specs.declared.item.Tail.{Tail}
 use Rattle.physical_stream.specs.declared.item.Tail.TheVariants as tails
+use Rattle.physical_stream.proofs.ShapeLemmas.{tail_of-over_none, tail_of-over, has_misplaced-append, IsNested-placed}
 use Rattle.nest_shape.specs.declared.nest.Nest.{Nest}
 use Rattle.nest_shape.specs.declared.nest.Nest.TheVariants as nests
 use Rattle.nest_shape.specs.declared.builder.Open.{Open}

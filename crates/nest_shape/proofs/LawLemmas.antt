@@ -3,14 +3,12 @@ use Rattle.std.proofs.Common.{◌≡◌, ◌∙◌, ◌⊎◌, inl, inr, ℕ, ze
 use Rattle.std.specs.List.{All}
 use Rattle.std.proofs.lemmas.Bool.Decides.{nat_tests}
 use Rattle.std.proofs.lemmas.List.Elements.{All-append, All-cons, All-nil}
-use Rattle.complexity_rules.specs.Walk.{tail_over, is_misplaced, has_misplaced}
-use Rattle.complexity_rules.proofs.NestingLemmas.{IsNested-placed}
-use Rattle.complexity_rules.proofs.WalkLemmas.{tail_over-append, has_misplaced-append, tail_of-over_none}
-use Rattle.physical_stream.specs.Shape.{tail_of, is_whole, may_close, IsNested}
+use Rattle.physical_stream.specs.Shape.{tail_of, tail_over, is_whole, may_close, is_misplaced, has_misplaced, IsNested}
 use Rattle.physical_stream.specs.declared.item.Item.{Item}
 use Rattle.physical_stream.specs.declared.item.Item.TheVariants as items
 use Rattle.physical_stream.specs.declared.item.Tail.{Tail}
 use Rattle.physical_stream.specs.declared.item.Tail.TheVariants as tails
+use Rattle.physical_stream.proofs.ShapeLemmas.{tail_over-append, tail_of-over_none, has_misplaced-append, IsNested-placed}
 use Rattle.nest_shape.specs.Tree.{Tree, leaf, list, Trees, no_trees, tree, plain_nests}
 use Rattle.nest_shape.specs.Flat.{flat, flat_all, HasDepth, HaveDepth}
 use Rattle.nest_shape.specs.Laws.{OneSeries, FlatFormsAreWhole, NestsItemByItem}

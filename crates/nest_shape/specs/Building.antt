@@ -1,7 +1,6 @@
 -- A series as it is built. It serves the builder, and nothing that is said of a series has it.
 use Rattle.std.specs.Prelude.{◌≡◌, ℕ, suc, ◌≤◌, ◌<◌, false, List, [], ◌∷◌, ◌++◌, Option, Some, None}
-use Rattle.complexity_rules.specs.Walk.{has_misplaced}
-use Rattle.physical_stream.specs.Shape.{tail_of}
+use Rattle.physical_stream.specs.Shape.{tail_of, has_misplaced}
 use Rattle.physical_stream.specs.declared.item.Item.{Item}
 use Rattle.physical_stream.specs.declared.item.Tail.{Tail}
 use Rattle.physical_stream.specs.declared.item.Tail.TheVariants as tails

@@ -1,8 +1,7 @@
 -- What holds of all series and their flat forms (this project's own).
 use Rattle.std.specs.Prelude.{◌≡◌, ◌↔◌, ℕ, false, List, [], ◌∷◌, ◌++◌}
 use Rattle.std.specs.List.{All}
-use Rattle.complexity_rules.specs.Walk.{is_misplaced}
-use Rattle.physical_stream.specs.Shape.{tail_of, IsNested}
+use Rattle.physical_stream.specs.Shape.{tail_of, is_misplaced, IsNested}
 use Rattle.physical_stream.specs.declared.item.Item.{Item}
 use Rattle.nest_shape.specs.Flat.{IsSeries, flat_form}
 use Rattle.nest_shape.specs.Shape.{AreWhole, ClosesBelow}

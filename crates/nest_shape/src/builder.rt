@@ -1,8 +1,7 @@
 //! A series as it is built.
 
 ghost use Rattle.std.specs.Prelude.{◌≡◌, ◌==◌, ◌≤◌, ◌<◌, ◌∷◌, ◌++◌, [], ℕ, suc, true, false, List, MatchBool, MatchResult, IfOk, OnOk};
-ghost use Rattle.complexity_rules.specs.Walk.{is_misplaced};
-ghost use Rattle.physical_stream.specs.Shape.{may_close, tail_of};
+ghost use Rattle.physical_stream.specs.Shape.{is_misplaced, may_close, tail_of};
 ghost use Rattle.physical_stream.specs.declared.item.Item.{Item};
 ghost use Rattle.physical_stream.specs.declared.item.Item.TheVariants.{Close, Elem};
 ghost use Rattle.nest_shape.specs.Building.{AddsTo, Descends, StandsFor, Takes};

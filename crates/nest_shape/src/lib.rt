@@ -1,8 +1,7 @@
 //! Nests, and the items that stand for them in a stream. `flatten` gives the flat form of a series, and `build` the series with
 //! a given flat form, or the first item that breaks the nesting. `specs/Flat.antt` has flat forms, `specs/Shape.antt` which items
 //! are one. A `Builder` takes the items one at a time. The crate stands on `physical_stream`, whose definitions say which items
-//! are nested and whole, and on what `complexity_rules` shows of these. Each call is linear in the items and goes as deep as
-//! a nest.
+//! are nested and whole. Each call is linear in the items and goes as deep as a nest.
 #![tactic(auto)]
 
 mod builder;

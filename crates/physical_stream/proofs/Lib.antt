@@ -4,5 +4,6 @@ pub mod LevelLemmas
 pub mod TransferLemmas
 pub mod WidthLemmas
 pub mod PartsLemmas
+pub mod ShapeLemmas
 pub mod AddedLemmas
 pub mod HeadSpelling

@@ -1,8 +1,8 @@
 use Rattle.std.proofs.Common.{◌∙◌, sym, ap, Option}
 use Rattle.physical_stream.specs.Items.{items_of}
+use Rattle.physical_stream.specs.Shape.{tail_over}
 use Rattle.physical_stream.specs.declared.item.Tail.{Tail}
-use Rattle.complexity_rules.specs.Walk.{tail_over}
-use Rattle.complexity_rules.proofs.WalkLemmas.{tail_of-over}
+use Rattle.physical_stream.proofs.ShapeLemmas.{tail_of-over}
 use Rattle.complexity_rules.proofs.tails.tail_after.Goals as goal
 
 pub returns : goal.returns
