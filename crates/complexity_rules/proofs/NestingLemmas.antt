@@ -1,8 +1,8 @@
 -- What is done in cycles none of which breaks the rule on nesting is nested.
-use Rattle.std.proofs.Common.{◌≡◌, ◌∙◌, ℕ, zero, suc, ◌≤◌, Bool, true, false, ◌||◌, if◌then◌else◌, List, [], length, get_or, take, Option, None, Some, refl, sym, ap, subst, arith}
+use Rattle.std.proofs.Common.{◌≡◌, ◌∙◌, ℕ, zero, suc, ◌≤◌, Bool, true, false, if◌then◌else◌, List, [], length, get_or, take, Option, None, Some, refl, sym, ap, subst, arith}
 use Rattle.std.specs.Option.{option_to_list}
 use Rattle.std.proofs.Math.Seq.{take-suc}
-use Rattle.std.proofs.lemmas.Bool.{false_from_ne_true}
+use Rattle.std.proofs.lemmas.Bool.{false_from_ne_true, or_from}
 use Rattle.std.proofs.lemmas.List.{append-nil, take_all}
 use Rattle.std.proofs.lemmas.Option.{slice_get-get_or}
 use Rattle.tydi_base.specs.Level.{IsLevel}
@@ -19,10 +19,6 @@ use Rattle.physical_stream.proofs.ShapeLemmas.{tail_of-over_none, has_misplaced-
 use Rattle.complexity_rules.specs.Nesting.{ItemsAreNested}
 use Rattle.complexity_rules.proofs.BreakLemmas.{BreaksNest-misplaced}
 use Rattle.complexity_rules.proofs.CheckerLemmas.{items_done-one_more}
-
-neither : (a b : Bool) → a ≡ false → b ≡ false → (a || b) ≡ false
-neither false b one other = other
-neither true b one other = cc
 
 -- what stands for a cycle past the end
 abbrev idle : Cycle
@@ -55,7 +51,7 @@ module _ (p : Parameters) (cycles : List Cycle) (level : IsLevel p.level) (kept 
       ap (λ (tail : Option Tail). has_misplaced tail more) (sym (tail_of-over_none (before n))) ∙ placed_done (tail_of (before n)) now.ready now.shown (placed_shown n within) in
       ap (λ (cs : List Cycle). has_misplaced None (items_done p cs)) (take-suc cycles n idle within)
       ∙ ap (has_misplaced None) (items_done-one_more p (take n cycles) now) ∙ has_misplaced-append None (before n) more
-      ∙ neither (has_misplaced None (before n)) (has_misplaced (tail_over None (before n)) more) (placed_so_far n (omega arith)) here
+      ∙ or_from (has_misplaced None (before n)) (has_misplaced (tail_over None (before n)) more) (placed_so_far n (omega arith)) here
 
 pub items_nested : ItemsAreNested
 items_nested p cycles level kept =

@@ -1,5 +1,6 @@
 -- What a walk over items finds, item by item and list by list.
 use Rattle.std.proofs.Common.{◌≡◌, ◌≤◌, ◌∙◌, ℕ, ◌+◌, Bool, true, false, not, ◌||◌, if◌then◌else◌, List, [], ◌∷◌, ◌++◌, cond, ◌==◌, Option, None, Some, refl, sym, ap, subst, append_assoc}
+use Rattle.std.proofs.Math.Bool.{or-false, or-true}
 use Rattle.std.proofs.lemmas.List.{append-nil}
 use Rattle.std.proofs.lemmas.List.Sums.{sum_by_push}
 use Rattle.physical_stream.specs.Params.{Parameters}
@@ -28,14 +29,6 @@ first_close-append (items.Close dim ∷ a) b = refl
 
 -- ---- one item more
 
-or_false : (b : Bool) → (b || false) ≡ b
-or_false false = refl
-or_false true = refl
-
-or_true : (b : Bool) → (b || true) ≡ true
-or_true false = refl
-or_true true = refl
-
 first_of_two-none : (x : Option ℕ) → first_of_two x None ≡ x
 first_of_two-none None = refl
 first_of_two-none (Some x) = refl
@@ -47,9 +40,9 @@ pub Finds-element : (dims : ℕ) (begins : Option Tail) (over : List Item) (word
     (record { tail = Some tails.Elem; active = true; first_close = walk.first_close; misplaced = walk.misplaced; packets = packets })
 Finds-element dims begins over word walk packets counted f = record {
   last = sym (tail_over-append begins over (items.Elem word ∷ []));
-  active = sym (has_element-append over (items.Elem word ∷ []) ∙ or_true (has_element over));
+  active = sym (has_element-append over (items.Elem word ∷ []) ∙ or-true (has_element over));
   first = f.first ∙ sym (first_close-append over (items.Elem word ∷ []) ∙ first_of_two-none (first_close over));
-  misplaced = f.misplaced ∙ sym (has_misplaced-append begins over (items.Elem word ∷ []) ∙ or_false (has_misplaced begins over));
+  misplaced = f.misplaced ∙ sym (has_misplaced-append begins over (items.Elem word ∷ []) ∙ or-false (has_misplaced begins over));
   packets =
       counted ∙ ap (λ (n : ℕ). n + cond (dims == 0) 1 0) f.packets
       ∙ sym (sum_by_push (λ i. cond (ends_packet dims i) 1 0) over (items.Elem word));
@@ -63,12 +56,12 @@ pub Finds-close : (dims : ℕ) (begins : Option Tail) (over : List Item) (dim : 
     (record { tail = Some (tails.Close dim); active = walk.active; first_close = first; misplaced = misplaced; packets = packets })
 Finds-close dims begins over dim walk first misplaced packets first_is misplaced_is counted f = record {
   last = sym (tail_over-append begins over (items.Close dim ∷ []));
-  active = f.active ∙ sym (has_element-append over (items.Close dim ∷ []) ∙ or_false (has_element over));
+  active = f.active ∙ sym (has_element-append over (items.Close dim ∷ []) ∙ or-false (has_element over));
   first = first_is ∙ ap (λ (x : Option ℕ). first_of_two x (Some dim)) f.first ∙ sym (first_close-append over (items.Close dim ∷ []));
   misplaced =
       misplaced_is ∙ ap (λ (b : Bool). b || not (may_close walk.tail dim)) f.misplaced
       ∙ ap (λ (t : Option Tail). has_misplaced begins over || not (may_close t dim)) f.last
-      ∙ ap (λ (b : Bool). has_misplaced begins over || b) (sym (or_false (not (may_close (tail_over begins over) dim))))
+      ∙ ap (λ (b : Bool). has_misplaced begins over || b) (sym (or-false (not (may_close (tail_over begins over) dim))))
       ∙ sym (has_misplaced-append begins over (items.Close dim ∷ []));
   packets =
       counted ∙ ap (λ (n : ℕ). n + cond (dim + 1 == dims) 1 0) f.packets

@@ -1,8 +1,8 @@
 -- What a builder keeps of the items that it was given.
-use Rattle.std.proofs.Common.{◌≡◌, ◌∙◌, ℕ, zero, suc, ◌+◌, ◌-◌, ◌<◌, ◌≤◌, Bool, true, false, not, cond, ◌||◌, ◌==◌, nat_le, take, List, [], ◌∷◌, ◌++◌, length, get_or, Option, Some, None, refl, sym, ap, subst, append_assoc, arith}
+use Rattle.std.proofs.Common.{◌≡◌, ◌∙◌, ℕ, zero, suc, ◌+◌, ◌-◌, ◌<◌, ◌≤◌, Bool, true, false, not, cond, ◌==◌, nat_le, take, List, [], ◌∷◌, ◌++◌, length, get_or, Option, Some, None, refl, sym, ap, subst, append_assoc, arith}
 use Rattle.std.specs.Prelude.{slice_get}
 use Rattle.std.proofs.lemmas.List.{append-nil}
-use Rattle.std.proofs.lemmas.Bool.{not-true}
+use Rattle.std.proofs.lemmas.Bool.{not-true, or_from}
 use Rattle.std.proofs.lemmas.Bool.Decides.{nat_tests}
 use Rattle.std.proofs.Math.Seq.{get_or-append_seam}
 use Rattle.std.proofs.Math.ListN.{length-append}
@@ -122,15 +122,11 @@ AddsTo-taken dims depth begun taken new members more one takes added pushed deep
 
 -- ---- one item more
 
-neither : (a b : Bool) → a ≡ false → b ≡ false → (a || b) ≡ false
-neither false b one other = other
-neither true b one other = cc
-
 pub has_misplaced-one_more : (done : List Item) (item : Item) → has_misplaced None done ≡ false → is_misplaced (tail_of done) item ≡ false → has_misplaced None (done ++ item ∷ []) ≡ false
 has_misplaced-one_more done item placed here =
     has_misplaced-append None done (item ∷ [])
-    ∙ neither (has_misplaced None done) _ placed
-    (neither (is_misplaced (tail_over None done) item) false (ap (λ (tail : Option Tail). is_misplaced tail item) (sym (tail_of-over_none done)) ∙ here) refl)
+    ∙ or_from (has_misplaced None done) _ placed
+    (or_from (is_misplaced (tail_over None done) item) false (ap (λ (tail : Option Tail). is_misplaced tail item) (sym (tail_of-over_none done)) ∙ here) refl)
 
 pub Keeps-none : (dims : ℕ) (begun : List Open) → begun ≡ [] → Keeps dims dims begun []
 Keeps-none dims begun none = subst (λ (l : List Open). Keeps dims dims l []) (sym none)
@@ -220,7 +216,7 @@ ending-unclosed dims level (Some tails.Elem) is within begun = by_test (dims == 
     by_test false not_whole = ap (λ (b : Bool). cond b ends.Whole (ends.Unclosed 0)) not_whole ∙ ap ends.Unclosed (sym is)
 ending-unclosed dims level (Some (tails.Close i)) is within begun =
     ap (λ (b : Bool). cond b ends.Whole (ends.Unclosed (i + 1)))
-    (neither (dims == 0) (i + 1 == dims) (differs dims 0 (λ e. omega (arith, e, is, within))) (differs (i + 1) dims (λ e. begun (omega (arith, e, is)))))
+    (or_from (dims == 0) (i + 1 == dims) (differs dims 0 (λ e. omega (arith, e, is, within))) (differs (i + 1) dims (λ e. begun (omega (arith, e, is)))))
     ∙ ap ends.Unclosed (omega (arith, is))
   where
     differs : (a b : ℕ) → (a ≡ b → ⊥) → (a == b) ≡ false

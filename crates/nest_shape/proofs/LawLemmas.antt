@@ -1,6 +1,7 @@
 -- Flat forms are nested and whole, and tell their series apart.
 use Rattle.std.proofs.Common.{◌≡◌, ◌∙◌, ◌⊎◌, inl, inr, ℕ, zero, suc, ◌+◌, ◌-◌, ◌<◌, ◌≤◌, Bool, true, false, not, ◌||◌, ◌==◌, nat_le, List, [], ◌∷◌, ◌++◌, Option, Some, None, refl, sym, ap, subst, append_assoc, arith}
 use Rattle.std.specs.List.{All}
+use Rattle.std.proofs.lemmas.Bool.{or_from, or_right}
 use Rattle.std.proofs.lemmas.Bool.Decides.{nat_tests}
 use Rattle.std.proofs.lemmas.List.Elements.{All-append, All-cons, All-nil}
 use Rattle.physical_stream.specs.Shape.{tail_of, tail_over, is_whole, may_close, is_misplaced, has_misplaced, IsNested}
@@ -148,10 +149,6 @@ Ends tail after = after ≡ tail
 abbrev EndsOrStays : Option Tail → ℕ → Option Tail → Type 0
 EndsOrStays tail depth after = (after ≡ tail) ⊎ (after ≡ Some (end_of depth))
 
-neither : (a b : Bool) → a ≡ false → b ≡ false → (a || b) ≡ false
-neither false b one other = other
-neither true b one other = cc
-
 MayBegin-after : (depth : ℕ) (tail after : Option Tail) → MayBegin depth tail → EndsOrStays tail depth after → MayBegin depth after
 MayBegin-after depth tail after may (inl stays) = subst (MayBegin depth) (sym stays) may
 MayBegin-after depth tail after may (inr ends) = subst (MayBegin depth) (sym ends) (MayBegin-end depth)
@@ -170,7 +167,7 @@ mutual
       let closes : may_close after inner ≡ true = may_close-MayBegin inner after (MayBegin-after inner tail after (MayBegin-inner depth tail may) inside.ends_so) in
       record {
         placed = has_misplaced-append tail (flat_all inner parts) (items.Close inner ∷ [])
-            ∙ neither (has_misplaced tail (flat_all inner parts)) _ inside.placed (neither (not (may_close after inner)) false (ap not closes) refl);
+            ∙ or_from (has_misplaced tail (flat_all inner parts)) _ inside.placed (or_from (not (may_close after inner)) false (ap not closes) refl);
         ends_so = tail_over-append tail (flat_all inner parts) (items.Close inner ∷ []) ∙ ap Some (end_of-list depth deep.0);
       }
 
@@ -181,7 +178,7 @@ mutual
       let after = tail_over tail (flat depth first) in
       let there = follow depth more after deep.1 (subst (MayBegin depth) (sym here.ends_so) (MayBegin-end depth)) in
       record {
-        placed = has_misplaced-append tail (flat depth first) (flat_all depth more) ∙ neither (has_misplaced tail (flat depth first)) _ here.placed there.placed;
+        placed = has_misplaced-append tail (flat depth first) (flat_all depth more) ∙ or_from (has_misplaced tail (flat depth first)) _ here.placed there.placed;
         ends_so = inr (tail_over-append tail (flat depth first) (flat_all depth more) ∙ ends-after depth after (tail_over after (flat_all depth more)) there.ends_so here.ends_so);
       }
 
@@ -202,10 +199,6 @@ is_whole-end : (dims : ℕ) → is_whole dims (Some (end_of dims)) ≡ true
 is_whole-end zero = refl
 is_whole-end (suc dims) = or_right (suc dims == 0) (dims + 1 == suc dims) (same (dims + 1) (suc dims) (omega arith))
   where
-    or_right : (a b : Bool) → b ≡ true → (a || b) ≡ true
-    or_right false b holds = holds
-    or_right true b holds = refl
-
     same : (a b : ℕ) → a ≡ b → (a == b) ≡ true
     same a b is = grind (arith, nat_tests)
 
