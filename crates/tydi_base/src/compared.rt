@@ -6,9 +6,9 @@ ghost use Rattle.std.specs.Hash as fed;
 ghost use Rattle.std.specs.Hash.{items_Alike, same_Alike};
 ghost use Rattle.std.specs.Ordering.{nat_cmp};
 ghost use Rattle.std.specs.Cmp.Rules.{hashing};
-ghost use Rattle.std.specs.Cmp.Lexicographic.{pointwise, pointwise_decides, bytes_decides, slice_cmp, slice_partial_cmp, lists_equiv, lists_agrees, lists_total, lists_ties, nat_list_eq_equiv, nat_list_cmp_total, texts_ties, lists_po, texts_po, lists_per};
+ghost use Rattle.std.specs.Cmp.Lexicographic.{pointwise, slice_cmp, slice_partial_cmp, lists_per, lists_equiv, lists_po, lists_total, lists_agrees, lists_ties};
+ghost use Rattle.std.specs.Cmp.Lexicographic.{pointwise_decides, bytes_decides, nat_list_eq_equiv, nat_list_cmp_total, texts_po, texts_ties};
 ghost use Rattle.std.specs.Cmp;
-ghost use Rattle.std.specs.Cmp.{partial_order_from_agreeing_total};
 
 use crate::boxed::Boxed;
 use crate::list::List;
@@ -195,34 +195,6 @@ impl PartialEq for Path {
         ensures same { IsTrue result ↔ (self.now ≡ other.now) }
     {
         self.names() == other.names()
-    }
-}
-
-impl Eq for Path {
-    ghost laws = { lists_equiv nat_list_eq_equiv };
-}
-
-impl PartialOrd for Path {
-    ghost partial_cmp = { λ x y. Some (slice_cmp (slice_cmp nat_cmp) x y) };
-
-    ghost laws = { partial_order_from_agreeing_total (slice_cmp (slice_cmp nat_cmp)) (lists_total nat_list_cmp_total) (λ x y. refl) (λ x y. lists_ties (slice_cmp nat_cmp) texts_ties x y) };
-
-    fn partial_cmp(&self, other: &Path) -> Option<Ordering> {
-        Some(self.cmp(other))
-    }
-}
-
-impl Ord for Path {
-    ghost cmp = { slice_cmp (slice_cmp nat_cmp) };
-
-    ghost total = { lists_total nat_list_cmp_total };
-
-    ghost matches_partial_cmp = { λ x y. refl };
-
-    ghost matches_eq = { λ x y. lists_ties (slice_cmp nat_cmp) texts_ties x y };
-
-    fn cmp(&self, other: &Path) -> Ordering {
-        self.names().cmp(&other.names())
     }
 }
 

@@ -39,7 +39,7 @@ const POINT: u8 = b'.';
 const COLON: u8 = b':';
 
 /// A path (Tydi specification, paths): a list of names, which may be empty. Contracts see the list of their bytes.
-#[derive(Debug, Drop)]
+#[derive(Debug, Eq, PartialOrd, Ord, Drop)]
 pub struct Path {
     names: List<Name>,
 }
@@ -52,6 +52,8 @@ impl Model for Path {
     ghost Value = { List (List ℕ) };
 
     ghost view = { λ path. path.names };
+
+    ghost inverse = { λ names. record { names = names } };
 
     ghost invariant = { λ path. IsTrue (list_all is_name path.names) };
 }
