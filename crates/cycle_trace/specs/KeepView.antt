@@ -13,7 +13,8 @@ pub record IsBegun (t : TraceText) : Type 0 where
   pub few_cycles : t.cycles ≤ most_cycles
   pub streams : are_heads t.heads ≡ true
   pub within : length t.rows ≤ length (owed (params_of_heads t.heads) t.cycles)
-  pub each : (i : ℕ) (p : Parameters) (row : Cycle) (shown : Transfer) → slice_get (owed (params_of_heads t.heads) t.cycles) i ≡ Some p → slice_get t.rows i ≡ Some row → row.shown ≡ Some shown → Shows p shown
+  pub each : (i : ℕ) (p : Parameters) (row : Cycle) (shown : Transfer) → slice_get (owed (params_of_heads t.heads) t.cycles) i ≡ Some p → slice_get t.rows i ≡ Some row
+      → row.shown ≡ Some shown → Shows p shown
 
 -- the header and the rows are these
 pub record KeptStands (kept : Kept) (t : TraceText) : Type 0 where

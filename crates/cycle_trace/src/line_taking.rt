@@ -158,7 +158,8 @@ fn after_row<K: RowSink>(
     line: &[u8],
 ) -> Result<(), TraceFault>
     requires { (t : TraceText) × (K.stands_for sink.old (Some t) × ReadsRows rows.old t) }
-    ensures stands { (t : TraceText) (bytes : List ℕ) → K.stands_for sink.old (Some t) → ReadsRows rows.old t → GoesOnLine bytes line.now t → AfterRow K.stands_for sink.new rows.new bytes result }
+    ensures stands { (t : TraceText) (bytes : List ℕ) → K.stands_for sink.old (Some t) → ReadsRows rows.old t → GoesOnLine bytes line.now t
+        → AfterRow K.stands_for sink.new rows.new bytes result }
     ensures room { rows.new.room ≡ rows.old.room }
     ensures fixed { K.fixed sink.new ≡ K.fixed sink.old }
     ensures calm { K.fixed sink.old ≡ true → IfErr result (λ e. IsSome (fault_in e)) }
@@ -182,7 +183,8 @@ pub(crate) fn take_begun<K: RowSink>(
 )
     requires rows { text.old.stage ≡ stages.Rows }
     requires stands { (bytes : List ℕ) × ((line : List ℕ) × (Holds text.old begun.now line × Stands K.stands_for sink.old text.old line bytes)) }
-    ensures stands { (bytes line : List ℕ) → Holds text.old begun.now line → Stands K.stands_for sink.old text.old line bytes → Stands K.stands_for sink.new text.new [] (bytes ++ LINE_FEED ∷ []) }
+    ensures stands { (bytes line : List ℕ) → Holds text.old begun.now line → Stands K.stands_for sink.old text.old line bytes
+        → Stands K.stands_for sink.new text.new [] (bytes ++ LINE_FEED ∷ []) }
     ensures room { text.new.rows.room ≡ text.old.rows.room }
     ensures fixed { K.fixed sink.new ≡ K.fixed sink.old }
     ensures calm { StaysCalm (K.fixed sink.old) text.old.stage text.new.stage }
