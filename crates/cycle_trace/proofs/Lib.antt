@@ -11,6 +11,7 @@ pub mod RowsSpelling
 pub mod SignalSpelling
 pub mod StrobeLemmas
 pub mod TextLengthLemmas
+pub mod TraceFaults
 pub mod TraceSpelling
 pub mod ViewLemmas
 pub mod WordFieldLemmas

@@ -2,6 +2,7 @@
 use Rattle.std.proofs.Common.{◌≡◌, ◌≢◌, ◌∙◌, ◌⊎◌, inl, inr, ℕ, Bool, true, List, [], ◌∷◌, ◌++◌, Option, Some, None, Result, Ok, Err, IfErr, IsSome, append_assoc, refl, sym, ap, subst, arith}
 use Rattle.std.proofs.lemmas.List.{append-nil}
 use Rattle.std.proofs.lemmas.List.Elements.{All-append, All-head, All-nil}
+use Rattle.std.proofs.lemmas.Result.{IfErr-at_err}
 use Rattle.std.specs.List.{All}
 use Rattle.tydi_base.proofs.PieceLaws.{pieces_of-each_lacks}
 use Rattle.tydi_base.specs.Pieces.{Lacks, lines_of}
@@ -98,11 +99,7 @@ not_long begun h = by_long begun.long h.so_far
 
 -- a fault of the text is no want of memory
 pub not_memory : {A : Type 0} (result : Result A TraceFault) → IfErr result (λ e. IsSome (fault_in e)) → result ≡ Err Memory → ⊥
-not_memory (Ok x) calm is = absurd cc
-not_memory (Err e) calm is =
-    let same : e ≡ Memory = cc in
-    let some : IsSome (fault_in Memory) = subst (λ (f : TraceFault). IsSome (fault_in f)) same calm in
-    absurd cc
+not_memory result calm is = let some : IsSome (fault_in Memory) = IfErr-at_err (λ (e : TraceFault). IsSome (fault_in e)) is calm in absurd cc
 
 spent_or_past : (fault : TraceFault) → (stages.Failed fault ≡ stages.Failed Memory) ⊎ (is_past_header (stages.Failed fault) ≡ true)
 spent_or_past (BadHeader line) = inr refl

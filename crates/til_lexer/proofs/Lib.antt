@@ -2,6 +2,7 @@ pub mod PlaceLemmas
 pub mod CutLemmas
 pub mod WordLemmas
 pub mod LexLemmas
+pub mod TokenFaults
 pub mod PieceCuts
 pub mod SliceLemmas
 pub mod FormLemmas

@@ -1,5 +1,5 @@
 -- Steps of a reader, taken apart.
-use Rattle.std.proofs.Common.{◌≡◌, Bool, true, false, cond, Option, Some, None, Result, Ok, Err, refl, ◌⊎◌, inl, inr}
+use Rattle.std.proofs.Common.{◌≡◌, Bool, true, false, cond, Option, Some, None, Result, Ok, Err, IfErr, refl, ◌⊎◌, inl, inr}
 use Rattle.std.specs.Prelude.{MatchOption}
 use Rattle.tydi_base.specs.Reading.{◌>>=◌, or_fault}
 
@@ -48,3 +48,27 @@ chosen false x y z e = inr (refl, e)
 -- `Ok` has one value
 pub ok_is : {A F : Type 0} (x y : A) → ◌≡◌ {A = Result A F} (Ok x) (Ok y) → x ≡ y
 ok_is x y e = cc
+
+-- ---- the faults of a reading
+
+-- each fault of a reading is such
+pub record FaultsAre {A F : Type 0} (P : F → Type 0) (read : Result A F) : Type 0 where
+  pub are : IfErr read P
+
+pub FaultsAre-ok : {A F : Type 0} {P : F → Type 0} (x : A) → FaultsAre {A = A} P (Ok x)
+FaultsAre-ok x = record { are = tt }
+
+pub FaultsAre-err : {A F : Type 0} {P : F → Type 0} (fault : F) → P fault → FaultsAre {A = A} P (Err fault)
+FaultsAre-err fault holds = record { are = holds }
+
+-- those of a step, and of what goes on from its value
+pub FaultsAre-bind : {A B F : Type 0} {P : F → Type 0} (read : Result A F) (f : A → Result B F) → FaultsAre P read → ((x : A) → FaultsAre P (f x)) → FaultsAre P (read >>= f)
+FaultsAre-bind (Ok x) f first later = later x
+FaultsAre-bind (Err fault) f first later = record { are = first.are }
+
+pub FaultsAre-cond : {A F : Type 0} {P : F → Type 0} (b : Bool) (one other : Result A F) → FaultsAre P one → FaultsAre P other → FaultsAre P (cond b one other)
+FaultsAre-cond true one other first second = first
+FaultsAre-cond false one other first second = second
+
+-- for the faults of a reader, by those of its steps
+pub ruleset faults_are = (FaultsAre-ok, FaultsAre-err, FaultsAre-bind, FaultsAre-cond)

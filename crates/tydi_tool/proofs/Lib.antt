@@ -14,6 +14,4 @@ pub mod RunLemmas
 pub mod SomeLemmas
 pub mod StartedLemmas
 pub mod StepLemmas
-pub mod TokenFaults
-pub mod TraceFaults
 pub mod TraceFileLemmas

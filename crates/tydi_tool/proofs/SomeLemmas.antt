@@ -29,6 +29,8 @@ use Rattle.tydi_tool.specs.declared.answer.Answer.{Answer}
 use Rattle.tydi_tool.specs.declared.answer.Answer.TheVariants as answers
 use Rattle.tydi_tool.specs.declared.traces.Survey.{Survey}
 use Rattle.tydi_tool.specs.Words.{FileWord}
+use Rattle.cycle_trace.proofs.TraceFaults.{trace_free}
+use Rattle.til_lexer.proofs.TokenFaults.{tokens_free}
 use Rattle.til_parser.proofs.LawLemmas.{trees_or_faults, names_token}
 use Rattle.tydi_tool.specs.Refusals.{At, of_file_with, refusal_line, refusal_of_trace, refusal_of_lexing}
 use Rattle.tydi_tool.specs.Reading.{RefusesBy}
@@ -39,8 +41,6 @@ use Rattle.tydi_tool.specs.Files.{Lack, lack_line, file_of}
 use Rattle.tydi_tool.specs.Ask.{Ask, Ends, Asks, SaysBy}
 use Rattle.tydi_tool.specs.Laws.{HasSome, AsksAlways}
 use Rattle.tydi_tool.proofs.FirstOfAll.{first_of_all}
-use Rattle.tydi_tool.proofs.TokenFaults.{tokens_free}
-use Rattle.tydi_tool.proofs.TraceFaults.{trace_free}
 
 -- ---- whatever a command asks for
 
