@@ -1,5 +1,8 @@
 //! A logical type.
 
+ghost use Rattle.std.specs.Prelude.{◌≡◌};
+ghost use Rattle.logical_types.specs.Synchronicity.{is_apart};
+
 use crate::shared::Shared;
 use std::alloc::Global;
 use tydi_base::{Frac, Level, List, Memory, Name, TryClone};
@@ -55,6 +58,19 @@ pub enum Sync {
     Flatten,
     Desync,
     FlatDesync,
+}
+
+impl Sync {
+    /// Whether the sequences of a Stream are not tied to those around it: those of a Desync or a FlatDesync Stream are not (Tydi
+    /// specification, synchronicity).
+    pub fn is_apart(self) -> bool
+        ensures { result ≡ is_apart self }
+    {
+        match self {
+            Sync::Sync | Sync::Flatten => false,
+            Sync::Desync | Sync::FlatDesync => true,
+        }
+    }
 }
 
 impl TryClone for LType {

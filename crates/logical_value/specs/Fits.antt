@@ -1,8 +1,9 @@
 -- Which values are values of a port's type (this project's own, after the nested streams of the Tydi specification).
 use Rattle.std.specs.Prelude.{ℕ, zero, suc, Bool, true, false, ◌&&◌, ◌==◌, if◌then◌else◌, List, [], ◌∷◌, length, map, Option, Some, None, slice_get}
+use Rattle.logical_types.specs.Synchronicity.{is_apart}
 use Rattle.logical_types.specs.Tree.{Ltype, Parts}
 use Rattle.logical_types.specs.Tree as types
-use Rattle.type_split.specs.Nodes.{StreamNode, is_apart}
+use Rattle.type_split.specs.Nodes.{StreamNode}
 use Rattle.type_split.specs.Streams.{node_view}
 use Rattle.type_split.specs.declared.split.Split.{Split}
 use Rattle.logical_value.specs.Tree.{Tree, null, word, group, union, list, apart, Trees, no_trees, tree, plain_values}

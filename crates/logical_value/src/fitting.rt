@@ -2,13 +2,12 @@
 
 ghost use Rattle.std.specs.Prelude.{◌≡◌, map, slice_get};
 ghost use Rattle.logical_types.specs.Tree.{bits, group, plain, plain_of_stream, plain_parts, union};
-ghost use Rattle.type_split.specs.Nodes as nodes;
 ghost use Rattle.type_split.specs.Streams.{node_view};
 ghost use Rattle.logical_value.specs.Fits as spec;
 ghost use Rattle.logical_value.specs.Tree as values;
 
 use crate::value::{PortValue, Value};
-use logical_types::{LType, Part, StreamType, Sync};
+use logical_types::{LType, Part, StreamType};
 use type_split::Split;
 
 /// Whether this is a value of the port's type that was split: a series for each of its roots, whose members are nests of the root's
@@ -150,19 +149,9 @@ fn fits_variant(parts: &[Part], tag: u32, value: &Value) -> bool
 fn fits_stream(stream: &StreamType, value: &Value) -> bool
     ensures { result ≡ spec.fits_element (plain_of_stream stream.now) (values.plain value.now) }
 {
-    if is_apart(stream.sync) {
+    if stream.sync.is_apart() {
         value.is_apart()
     } else {
         fits_nest(&stream.element, stream.dims, value)
-    }
-}
-
-/// Whether the sequences of a Stream of this synchronicity are not tied to those around it.
-fn is_apart(sync: Sync) -> bool
-    ensures { result ≡ nodes.is_apart sync }
-{
-    match sync {
-        Sync::Sync | Sync::Flatten => false,
-        Sync::Desync | Sync::FlatDesync => true,
     }
 }

@@ -4,11 +4,11 @@ use Rattle.std.specs.Prelude.{ℕ, suc, ◌+◌, ◌-◌, ◌/◌, Bool, true, f
 use Rattle.tydi_base.specs.Frac.{Fraction}
 use Rattle.physical_stream.specs.Params.{Parameters}
 use Rattle.logical_types.specs.Tree.{Ltype, null, bits, group, union, stream, Parts, no_parts, part, Settings}
+use Rattle.logical_types.specs.Synchronicity.{is_apart}
 use Rattle.logical_types.specs.Width.{width_of}
 use Rattle.logical_types.specs.Faults.{outermost, inside}
 use Rattle.logical_types.specs.declared.streams.Around.{Around}
 use Rattle.logical_types.specs.declared.ltype.Sync.{Sync}
-use Rattle.logical_types.specs.declared.ltype.Sync.TheVariants as syncs
 use Rattle.type_split.specs.declared.place.Place.{Place}
 
 -- a node: a Stream of a port's type, seen from the port
@@ -48,13 +48,6 @@ params_at inner element user settings = record {
 -- a Stream has a physical stream unless its elements and user words have no bits and it is not kept
 abbrev pub is_physical : Ltype → Ltype → Settings → Bool
 is_physical element user settings = nat_lt 0 (width_of element) || nat_lt 0 (width_of user) || settings.keep
-
--- a Stream of this synchronicity is a root, wherever it stands
-abbrev pub is_apart : Sync → Bool
-is_apart syncs.Sync = false
-is_apart syncs.Flatten = false
-is_apart syncs.Desync = true
-is_apart syncs.FlatDesync = true
 
 -- the root of a Stream: the outermost Stream is one, and one whose sequences are not tied to those around it; another has the root of
 -- the node around it

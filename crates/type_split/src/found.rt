@@ -67,22 +67,10 @@ fn params_at(stream: &StreamType, around: &Around) -> Option<Params>
 fn root_at(place: &Place, number: u32, sync: Sync) -> u32
     ensures { result ≡ spec.root_at place.now number sync }
 {
-    if place.parent.is_none() || is_apart(sync) {
+    if place.parent.is_none() || sync.is_apart() {
         number
     } else {
         place.root
-    }
-}
-
-/// Whether a Stream of this synchronicity is a root wherever it stands.
-fn is_apart(sync: Sync) -> bool
-    ensures { result ≡ spec.is_apart sync }
-{
-    match sync {
-        Sync::Sync => false,
-        Sync::Flatten => false,
-        Sync::Desync => true,
-        Sync::FlatDesync => true,
     }
 }
 
