@@ -1,5 +1,6 @@
 pub mod PlainLemmas
 mod WidthLemmas
+pub mod SizeLemmas
 mod NameLemmas
 mod SeenLemmas
 pub mod ThroughputLemmas

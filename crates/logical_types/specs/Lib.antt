@@ -1,5 +1,6 @@
 pub mod Tree
 pub mod Width
+pub mod Size
 pub mod Synchronicity
 pub mod Names
 pub mod Throughput

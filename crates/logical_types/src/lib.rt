@@ -1,11 +1,12 @@
 //! Logical types: what a stream carries. `check` finds the first fault of a type, and `width` how many bits an element takes. A
 //! `Summary`, made from those of a type's parts, shows that a type has no fault without a look at its nodes. `specs/Tree.antt` has a
-//! type as plain data, over which all definitions recur; `specs/Width.antt` says how wide a type is, `specs/Faults.antt` which faults a
-//! type has, in the order in which they are told, and `specs/Summary.antt` what a summary says. The crate stands on `tydi_base`. No
-//! call takes memory, and each goes as deep as types nest.
+//! type as plain data, over which all definitions recur; `specs/Width.antt` says how wide a type is, `specs/Size.antt` how many nodes
+//! it has, `specs/Faults.antt` which faults it has, in the order in which they are told, and `specs/Summary.antt` what a summary says.
+//! The crate stands on `tydi_base`. No call takes memory, and each goes as deep as types nest.
 #![tactic(auto)]
 
 mod checking;
+mod counts;
 mod dims;
 mod fault;
 mod ltype;
@@ -17,6 +18,7 @@ mod summary;
 mod widths;
 
 pub use checking::check;
+pub use counts::number_of_nodes;
 pub use dims::Dims;
 pub use fault::TypeFault;
 pub use ltype::{LType, Part, StreamType, Sync};

@@ -3,4 +3,3 @@ pub mod PackingLemmas
 pub mod LawLemmas
 pub mod UnpackingLemmas
 pub mod FitLemmas
-pub mod NodeLemmas

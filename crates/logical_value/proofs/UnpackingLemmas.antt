@@ -1,27 +1,29 @@
 -- What is read of a word, part after part.
-use Rattle.std.proofs.Common.{◌≡◌, ◌∙◌, ℕ, zero, suc, ◌+◌, ◌-◌, ◌^◌, ◌<◌, ◌≤◌, Bool, true, if◌then◌else◌, Option, None, Some, Result, get_or, List, [], ◌∷◌, ◌++◌, length, take, drop, refl, sym, ap, subst, arith, length-append, length-drop}
-use Rattle.std.proofs.lemmas.List.{length-take, drop-take, drop-drop, drop_all}
+use Rattle.std.proofs.Common.{◌≡◌, ◌∙◌, ℕ, zero, suc, ◌+◌, ◌-◌, ◌^◌, ◌<◌, ◌≤◌, Bool, true, if◌then◌else◌, Option, None, Some, Result, MatchResult, get_or, List, [], ◌∷◌, ◌++◌, length, take, drop, refl, sym, ap, subst, arith, length-drop}
+use Rattle.std.proofs.lemmas.List.{length-take, drop-take, drop-drop, drop_all, take_all}
 use Rattle.tydi_base.specs.Bits.{number_of_bits}
 use Rattle.tydi_base.specs.Numbers.{number_below}
 use Rattle.tydi_base.specs.Hex.{no_ones}
 use Rattle.std.specs.Option.{unwrap_or}
 use Rattle.std.specs.Result.{OkIff, result_unwrap_or}
-use Rattle.std.proofs.lemmas.Result.{Ok-from_Ok_iff}
+use Rattle.std.proofs.lemmas.Result.{MatchResult-weaker, Ok-from_Ok_iff}
 use Rattle.std.proofs.Math.Pow.{pow_mono}
 use Rattle.tydi_base.proofs.BitsLemmas.{number_of_bits-below}
 use Rattle.tydi_base.specs.Width.{index_width}
 use Rattle.tydi_base.proofs.WidthLaws.{index_width-least}
 use Rattle.logical_types.specs.declared.ltype.Part.{Part}
-use Rattle.logical_types.specs.Faults.{nodes, nodes_of_parts, outermost}
+use Rattle.logical_types.specs.Faults.{IsPlain}
+use Rattle.logical_types.specs.Size.{number_of_nodes, nodes_in_parts}
 use Rattle.logical_types.specs.Tree.{Ltype, Parts, number_of_parts, plain, plain_parts}
 use Rattle.logical_types.specs.Tree as types
 use Rattle.logical_types.specs.Width.{width_of, total_width, tag_width, greatest_width, saturated}
 use Rattle.logical_types.proofs.PlainLemmas.{number_of_parts-plain, plain_parts-at, plain_parts-past}
-use Rattle.logical_value.specs.Agreement.{Agrees, AgreeAll, AgreesVariant, IsUnpacked, Tells, bad_tag, bad_tag_of_parts, bad_tag_of_variant, first_of}
+use Rattle.logical_types.proofs.PlainTypes.{width-IsPlain}
+use Rattle.logical_value.specs.Agreement.{Agrees, AgreeAll, AgreesVariant, IsFaultOf, IsUnpacked, Tells, bad_tag, bad_tag_of_parts, bad_tag_of_variant, first_of}
 use Rattle.logical_value.specs.Element.{set_all_apart}
 use Rattle.logical_value.specs.Tree.{Tree, group, union, Trees, no_trees, tree}
 use Rattle.logical_value.specs.Tree.{plain as plain_value, plain_values}
-use Rattle.logical_value.specs.Unpacking.{left_of, names_of, HasRead, CanRead, AreUnpacked, IsVariantUnpacked}
+use Rattle.logical_value.specs.Unpacking.{left_of, names_of, HasRead, CanRead, Reads, AreUnpacked, IsVariantUnpacked}
 use Rattle.logical_value.specs.declared.fault.UnpackFault.{UnpackFault}
 use Rattle.logical_value.specs.declared.fault.UnpackFault.TheVariants as faults
 use Rattle.logical_value.specs.declared.unpacking.Unpacking.{Unpacking}
@@ -131,21 +133,21 @@ Tells-front faults.Memory one other follows tells = tt
 
 -- the values that are left are to be read, and once they are, all are
 pub record AreLeft (first now : Unpacking) (all : Parts) (values : List Value) (more : Parts) : Type 0 where
-  pub can : CanRead now (length (nodes_of_parts outermost more)) (total_width more)
+  pub can : CanRead now (nodes_in_parts more) (total_width more)
   pub names : names_of now ≡ names_of first
   pub left : drop (total_width more) (left_of now) ≡ drop (total_width all) (left_of first)
   pub agree : (others : Trees) → AreUnpacked more (left_of now) others → AreUnpacked all (left_of first) (put_before (plain_values values) others)
   pub bad : bad_tag_of_parts (names_of first) more (left_of now) ≡ bad_tag_of_parts (names_of first) all (left_of first)
 
 -- the first of parts can be read where they can
-can_first : (now : Unpacking) (name : List ℕ) (ltype : Ltype) (more : Parts) (width : ℕ) → CanRead now (length (nodes_of_parts outermost (types.part name ltype more))) width
-    → width_of ltype ≤ width → CanRead now (length (nodes outermost ltype)) (width_of ltype)
+can_first : (now : Unpacking) (name : List ℕ) (ltype : Ltype) (more : Parts) (width : ℕ) → CanRead now (nodes_in_parts (types.part name ltype more)) width
+    → width_of ltype ≤ width → CanRead now (number_of_nodes ltype) (width_of ltype)
 can_first now name ltype more width can wide =
-    let long = length-append (nodes outermost ltype) (nodes_of_parts outermost more) in record { few = omega (arith, long, can.few); narrow = omega (arith, can.narrow, wide); there = omega (arith, can.there, wide) }
+    record { few = omega (arith, can.few); narrow = omega (arith, can.narrow, wide); there = omega (arith, can.there, wide) }
 
 pub AreLeft-step : (first now new : Unpacking) (all : Parts) (values more : List Value) (parts : List Part) (at : ℕ) (one : Part) (value : Value) → at < length parts → one ≡ get_or parts at one
     → more ≡ values ++ value ∷ [] → AreLeft first now all values (plain_parts (drop at parts))
-    → (CanRead now (length (nodes outermost (plain one.ltype))) (width_of (plain one.ltype))
+    → (CanRead now (number_of_nodes (plain one.ltype)) (width_of (plain one.ltype))
     → HasRead now new (width_of (plain one.ltype)) × IsUnpacked (plain one.ltype) (take (width_of (plain one.ltype)) (left_of now)) (plain_value value))
     → AreLeft first new all more (plain_parts (drop (at + 1) parts))
 AreLeft-step first now new all values more parts at one value within is grown left reads =
@@ -153,11 +155,10 @@ AreLeft-step first now new all values more parts at one value within is grown le
     let t = plain one.ltype in
     let width = width_of t in
     let here : AreLeft first now all values (types.part one.name t next) = subst (AreLeft first now all values) (plain_parts-at parts at one within is) left in
-    let long = length-append (nodes outermost t) (nodes_of_parts outermost next) in
     let read = reads (can_first now one.name t next (total_width (types.part one.name t next)) here.can (omega arith)) in
     let shorter : length (left_of new) ≡ length (left_of now) - width = ap length read.0.left ∙ length-drop width (left_of now) in
     record {
-      can = record { few = omega (arith, long, here.can.few); narrow = omega (arith, here.can.narrow); there = omega (arith, shorter, here.can.there) };
+      can = record { few = omega (arith, here.can.few); narrow = omega (arith, here.can.narrow); there = omega (arith, shorter, here.can.there) };
       names = read.0.names ∙ here.names;
       left = ap (drop (total_width next)) read.0.left ∙ drop-drop (total_width next) width (left_of now) ∙ here.left;
       agree = λ others are.
@@ -184,7 +185,7 @@ AreLeft-past first now all values parts at done left =
 -- the fault of a part is that of all
 pub AreLeft-bad : (first now : Unpacking) (all : Parts) (values : List Value) (parts : List Part) (at : ℕ) (one : Part) (fault : UnpackFault) → at < length parts → one ≡ get_or parts at one
     → AreLeft first now all values (plain_parts (drop at parts))
-    → (CanRead now (length (nodes outermost (plain one.ltype))) (width_of (plain one.ltype))
+    → (CanRead now (number_of_nodes (plain one.ltype)) (width_of (plain one.ltype))
     → Tells (bad_tag (names_of now ++ one.name ∷ []) (plain one.ltype) (take (width_of (plain one.ltype)) (left_of now))) fault)
     → Tells (bad_tag_of_parts (names_of first) all (left_of first)) fault
 AreLeft-bad first now all values parts at one fault within is left reads =
@@ -201,11 +202,11 @@ can_inside unpacking number width can = record { few = omega (arith, can.few); n
 
 -- what was read is the value of the Group
 pub read-group : (old new : Unpacking) (ltype : Ltype) (parts : Parts) (values : List Value) (value : Value) → ltype ≡ types.group parts → plain_value value ≡ group (plain_values values)
-    → (CanRead old (length (nodes_of_parts outermost parts)) (total_width parts) → HasRead old new (total_width parts) × AreUnpacked parts (left_of old) (plain_values values))
-    → CanRead old (length (nodes outermost ltype)) (width_of ltype)
+    → (CanRead old (nodes_in_parts parts) (total_width parts) → HasRead old new (total_width parts) × AreUnpacked parts (left_of old) (plain_values values))
+    → CanRead old (number_of_nodes ltype) (width_of ltype)
     → HasRead old new (width_of ltype) × IsUnpacked ltype (take (width_of ltype) (left_of old)) (plain_value value)
 read-group old new ltype parts values value is_group is reads can =
-    let read = reads (can_inside old (length (nodes_of_parts outermost parts)) (total_width parts) (subst (λ (t : Ltype). CanRead old (length (nodes outermost t)) (width_of t)) is_group can)) in
+    let read = reads (can_inside old (nodes_in_parts parts) (total_width parts) (subst (λ (t : Ltype). CanRead old (number_of_nodes t) (width_of t)) is_group can)) in
     subst (λ (t : Ltype). HasRead old new (width_of t) × IsUnpacked t (take (width_of t) (left_of old)) (plain_value value)) (sym is_group) (
       read.0,
       subst (IsUnpacked (types.group parts) (take (total_width parts) (left_of old))) (sym is) (record {
@@ -215,10 +216,10 @@ read-group old new ltype parts values value is_group is reads can =
     )
 
 pub bad-group : (old : Unpacking) (ltype : Ltype) (parts : Parts) (fault : UnpackFault) → ltype ≡ types.group parts
-    → (CanRead old (length (nodes_of_parts outermost parts)) (total_width parts) → Tells (bad_tag_of_parts (names_of old) parts (left_of old)) fault)
-    → CanRead old (length (nodes outermost ltype)) (width_of ltype) → Tells (bad_tag (names_of old) ltype (take (width_of ltype) (left_of old))) fault
+    → (CanRead old (nodes_in_parts parts) (total_width parts) → Tells (bad_tag_of_parts (names_of old) parts (left_of old)) fault)
+    → CanRead old (number_of_nodes ltype) (width_of ltype) → Tells (bad_tag (names_of old) ltype (take (width_of ltype) (left_of old))) fault
 bad-group old ltype parts fault is_group tells can =
-    let told = tells (can_inside old (length (nodes_of_parts outermost parts)) (total_width parts) (subst (λ (t : Ltype). CanRead old (length (nodes outermost t)) (width_of t)) is_group can)) in
+    let told = tells (can_inside old (nodes_in_parts parts) (total_width parts) (subst (λ (t : Ltype). CanRead old (number_of_nodes t) (width_of t)) is_group can)) in
     subst (λ (t : Ltype). Tells (bad_tag (names_of old) t (take (width_of t) (left_of old))) fault) (sym is_group)
     (subst (λ found. Tells found fault) (sym (bad_tag-front (names_of old) parts (total_width parts) (left_of old) (omega arith))) told)
 
@@ -227,7 +228,7 @@ bad-group old ltype parts fault is_group tells can =
 -- nothing was read, and the variant that is looked for is among those that are left
 pub record IsAmong (first now : Unpacking) (all : Parts) (tag room : ℕ) (more : Parts) (left : ℕ) : Type 0 where
   pub same : now ≡ first
-  pub can : CanRead first (length (nodes_of_parts outermost more)) room
+  pub can : CanRead first (nodes_in_parts more) room
   pub wide : greatest_width more ≤ room
   pub is : (value : Tree) → IsVariantUnpacked more left (left_of first) value → IsVariantUnpacked all tag (left_of first) value
   pub bad : bad_tag_of_variant (names_of first) (names_of first) more left (left_of first) ≡ bad_tag_of_variant (names_of first) (names_of first) all tag (left_of first)
@@ -245,10 +246,9 @@ IsAmong-step first now all tag room parts at one left within is some among =
     let t = plain one.ltype in
     let here : IsAmong first now all tag room (types.part one.name t next) (suc less) =
     subst (IsAmong first now all tag room (types.part one.name t next)) more (subst (λ ps. IsAmong first now all tag room ps left) (plain_parts-at parts at one within is) among) in
-    let long = length-append (nodes outermost t) (nodes_of_parts outermost next) in
     record {
       same = here.same;
-      can = record { few = omega (arith, long, here.can.few); narrow = here.can.narrow; there = here.can.there };
+      can = record { few = omega (arith, here.can.few); narrow = here.can.narrow; there = here.can.there };
       wide = omega (arith, here.wide);
       is = λ value unpacked. here.is value (record { agrees = unpacked.agrees; streams = unpacked.streams });
       bad = here.bad;
@@ -256,25 +256,24 @@ IsAmong-step first now all tag room parts at one left within is some among =
 
 -- ---- a Union
 
-some_node : (ltype : Ltype) → 1 ≤ length (nodes outermost ltype)
+some_node : (ltype : Ltype) → 1 ≤ number_of_nodes ltype
 some_node types.null = omega arith
 some_node (types.bits width) = omega arith
 some_node (types.group parts) = omega arith
 some_node (types.union parts) = omega arith
 some_node (types.stream element user settings) = omega arith
 
-parts_few : (parts : Parts) → number_of_parts parts ≤ length (nodes_of_parts outermost parts)
+parts_few : (parts : Parts) → number_of_parts parts ≤ nodes_in_parts parts
 parts_few types.no_parts = omega arith
 parts_few (types.part name ltype more) =
-    let long = length-append (nodes outermost ltype) (nodes_of_parts outermost more) in
     let some = some_node ltype in
     let less = parts_few more in
-    omega (arith, long, some, less)
+    omega (arith, some, less)
 
 -- the tag of a Union was read, and the room of its variants is there
 record TagRead (old middle : Unpacking) (parts : Parts) (room tag : ℕ) : Type 0 where
   read : HasRead old middle (tag_width (number_of_parts parts))
-  can : CanRead middle (length (nodes_of_parts outermost parts)) room
+  can : CanRead middle (nodes_in_parts parts) room
   all : room ≡ greatest_width parts
   number : tag ≡ number_of_bits (take (tag_width (number_of_parts parts)) (take (width_of (types.union parts)) (left_of old)))
   rest : drop (tag_width (number_of_parts parts)) (take (width_of (types.union parts)) (left_of old)) ≡ take (greatest_width parts) (left_of middle)
@@ -282,7 +281,7 @@ record TagRead (old middle : Unpacking) (parts : Parts) (room tag : ℕ) : Type 
 tag_read : (old middle : Unpacking) (parts : List Part) (width whole room tag : ℕ) → width ≡ index_width (length parts) → whole ≡ saturated (width_of (types.union (plain_parts parts)))
     → room ≡ whole - width → (width ≤ length (left_of old) → HasRead old middle width)
     → (width ≤ 32 → width ≤ length (left_of old) → tag ≡ number_of_bits (take width (left_of old)))
-    → CanRead old (length (nodes outermost (types.union (plain_parts parts)))) (width_of (types.union (plain_parts parts))) → TagRead old middle (plain_parts parts) room tag
+    → CanRead old (number_of_nodes (types.union (plain_parts parts))) (width_of (types.union (plain_parts parts))) → TagRead old middle (plain_parts parts) room tag
 unfolding tag_width
 tag_read old middle parts width whole room tag is_width is_whole is_room reads numbers can =
     let variants = plain_parts parts in
@@ -312,9 +311,9 @@ pub read-union : (old middle new : Unpacking) (parts : List Part) (width whole r
     → whole ≡ saturated (width_of (types.union (plain_parts parts))) → room ≡ whole - width → plain_value value ≡ union tag (plain_value part)
     → (width ≤ length (left_of old) → HasRead old middle width)
     → (width ≤ 32 → width ≤ length (left_of old) → tag ≡ number_of_bits (take width (left_of old)))
-    → (CanRead middle (length (nodes_of_parts outermost (plain_parts parts))) room → greatest_width (plain_parts parts) ≤ room
+    → (CanRead middle (nodes_in_parts (plain_parts parts)) room → greatest_width (plain_parts parts) ≤ room
     → HasRead middle new room × IsVariantUnpacked (plain_parts parts) tag (left_of middle) (plain_value part))
-    → CanRead old (length (nodes outermost (types.union (plain_parts parts)))) (width_of (types.union (plain_parts parts)))
+    → CanRead old (number_of_nodes (types.union (plain_parts parts))) (width_of (types.union (plain_parts parts)))
     → HasRead old new (width_of (types.union (plain_parts parts)))
     × IsUnpacked (types.union (plain_parts parts)) (take (width_of (types.union (plain_parts parts))) (left_of old)) (plain_value value)
 read-union old middle new parts width whole room tag part value is_width is_whole is_room is reads numbers variant can =
@@ -337,9 +336,9 @@ pub bad-union : (old middle : Unpacking) (parts : List Part) (width whole room t
     → whole ≡ saturated (width_of (types.union (plain_parts parts))) → room ≡ whole - width
     → (width ≤ length (left_of old) → HasRead old middle width)
     → (width ≤ 32 → width ≤ length (left_of old) → tag ≡ number_of_bits (take width (left_of old)))
-    → (CanRead middle (length (nodes_of_parts outermost (plain_parts parts))) room → greatest_width (plain_parts parts) ≤ room
+    → (CanRead middle (nodes_in_parts (plain_parts parts)) room → greatest_width (plain_parts parts) ≤ room
     → Tells (bad_tag_of_variant (names_of middle) (names_of middle) (plain_parts parts) tag (left_of middle)) fault)
-    → CanRead old (length (nodes outermost (types.union (plain_parts parts)))) (width_of (types.union (plain_parts parts)))
+    → CanRead old (number_of_nodes (types.union (plain_parts parts))) (width_of (types.union (plain_parts parts)))
     → Tells (bad_tag (names_of old) (types.union (plain_parts parts)) (take (width_of (types.union (plain_parts parts))) (left_of old))) fault
 bad-union old middle parts width whole room tag fault is_width is_whole is_room reads numbers variant can =
     let variants = plain_parts parts in
@@ -352,3 +351,17 @@ bad-union old middle parts width whole room tag fault is_width is_whole is_room 
     ∙ ap (bad_tag_of_variant (names_of old) (names_of old) variants tag) (sym told.rest)
     ∙ ap (λ (n : ℕ). bad_tag_of_variant (names_of old) (names_of old) variants n (drop (tag_width (number_of_parts variants)) (take (width_of (types.union variants)) (left_of old)))) told.number in
     subst (λ found. Tells found fault) same tells
+
+-- ---- a whole word
+
+-- what was read of a word of the element's width is what the word stands for, or its fault
+pub read-whole : (old new : Unpacking) (result : Result Value UnpackFault) (ltype : Ltype) (word : List Bool) → left_of old ≡ word → names_of old ≡ []
+    → IsPlain ltype → number_of_nodes ltype ≤ 65536 → length word ≡ width_of ltype → Reads old new result ltype
+    → MatchResult result (λ value. IsUnpacked ltype word (plain_value value)) (IsFaultOf ltype word)
+read-whole old new result ltype word left names is_plain few long reads =
+    let narrow = width-IsPlain ltype is_plain in
+    let there = ap length left in
+    let whole : take (width_of ltype) (left_of old) ≡ word = take_all (width_of ltype) (left_of old) (omega (arith, there, long)) ∙ left in
+    MatchResult-weaker result (reads (record { few = few; narrow = narrow; there = omega (arith, there, long) }))
+    (λ value read. subst (λ (bits : List Bool). IsUnpacked ltype bits (plain_value value)) whole read.1)
+    (λ fault told. subst (λ found. Tells found fault) (ap (λ (ns : List (List ℕ)). bad_tag ns ltype (take (width_of ltype) (left_of old))) names ∙ ap (bad_tag [] ltype) whole) told)

@@ -1,7 +1,7 @@
 -- A word as it is read. It serves the reading, and no public clause.
 use Rattle.std.specs.Prelude.{◌≡◌, ℕ, ◌≤◌, Bool, List, [], ◌∷◌, ◌++◌, length, take, drop, map, Result, MatchResult}
 use Rattle.std.specs.Borrow.{Bor}
-use Rattle.logical_types.specs.Faults.{nodes, nodes_of_parts, outermost}
+use Rattle.logical_types.specs.Size.{number_of_nodes, nodes_in_parts}
 use Rattle.logical_types.specs.Tree.{Ltype, Parts}
 use Rattle.logical_types.specs.Width.{width_of, total_width, greatest_width}
 use Rattle.logical_value.specs.Agreement.{AgreeAll, AgreesVariant, IsUnpacked, Tells, bad_tag, bad_tag_of_parts, bad_tag_of_variant}
@@ -42,7 +42,7 @@ pub record IsVariantUnpacked (parts : Parts) (tag : ℕ) (bits : List Bool) (val
 
 -- the value of a type under these names was read, or its fault found
 abbrev pub ReadsAt : List (List ℕ) → Unpacking → Unpacking → Result Value UnpackFault → Ltype → Type 0
-ReadsAt names old new result ltype = CanRead old (length (nodes outermost ltype)) (width_of ltype)
+ReadsAt names old new result ltype = CanRead old (number_of_nodes ltype) (width_of ltype)
     → MatchResult result (λ value. HasRead old new (width_of ltype) × IsUnpacked ltype (take (width_of ltype) (left_of old)) (plain value))
     (Tells (bad_tag names ltype (take (width_of ltype) (left_of old))))
 
@@ -55,12 +55,12 @@ ReadsUnder names name old new result ltype = ReadsAt (names ++ name ∷ []) old 
 
 -- the values of parts were read
 abbrev pub ReadsParts : Unpacking → Unpacking → Result (List Value) UnpackFault → Parts → Type 0
-ReadsParts old new result parts = CanRead old (length (nodes_of_parts outermost parts)) (total_width parts)
+ReadsParts old new result parts = CanRead old (nodes_in_parts parts) (total_width parts)
     → MatchResult result (λ values. HasRead old new (total_width parts) × AreUnpacked parts (left_of old) (plain_values values))
     (Tells (bad_tag_of_parts (names_of old) parts (left_of old)))
 
 -- the value of a variant was read, and all of the room of variants
 abbrev pub ReadsVariant : Unpacking → Unpacking → Result Value UnpackFault → Parts → (tag room : ℕ) → Type 0
-ReadsVariant old new result parts tag room = CanRead old (length (nodes_of_parts outermost parts)) room → greatest_width parts ≤ room
+ReadsVariant old new result parts tag room = CanRead old (nodes_in_parts parts) room → greatest_width parts ≤ room
     → MatchResult result (λ value. HasRead old new room × IsVariantUnpacked parts tag (left_of old) (plain value))
     (Tells (bad_tag_of_variant (names_of old) (names_of old) parts tag (left_of old)))

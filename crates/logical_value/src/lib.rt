@@ -4,7 +4,6 @@
 //! crate stands on `logical_types` and `type_split`. Each call goes as deep as the type and its sequences nest.
 #![tactic(auto)]
 
-mod counts;
 mod fault;
 mod fitting;
 mod laws;
@@ -13,7 +12,6 @@ mod place;
 mod unpacking;
 mod value;
 
-pub use counts::number_of_nodes;
 pub use fault::UnpackFault;
 pub use fitting::fits;
 pub use laws::{

@@ -2,7 +2,8 @@
 
 ghost use Rattle.std.specs.Prelude.{◌≡◌, ◌≤◌, ℕ, zero, length, take, IfOk, MatchResult, OnOk};
 ghost use Rattle.tydi_base.specs.Bits.{number_of_bits};
-ghost use Rattle.logical_types.specs.Faults.{IsPlain, nodes, outermost};
+ghost use Rattle.logical_types.specs.Faults.{IsPlain};
+ghost use Rattle.logical_types.specs.Size.{number_of_nodes};
 ghost use Rattle.logical_types.specs.Tree.{bits, plain, plain_parts, union};
 ghost use Rattle.logical_types.specs.Width.{width_of};
 ghost use Rattle.logical_value.specs.Agreement.{IsFaultOf, IsUnpacked};
@@ -20,7 +21,7 @@ use tydi_base::{Bits, Boxed, List, Memory, Name, Path, TryClone, index_width};
 /// the word stands for no value.
 pub fn unpack(alloc: Global, ltype: &LType, word: &Bits) -> Result<Value, UnpackFault>
     requires plain { IsPlain (plain ltype.now) }
-    requires few { length (nodes outermost (plain ltype.now)) ≤ 65536 }
+    requires few { number_of_nodes (plain ltype.now) ≤ 65536 }
     requires width { length word.now ≡ width_of (plain ltype.now) }
     ensures { MatchResult result (λ value. IsUnpacked (plain ltype.now) word.now (values.plain value)) (IsFaultOf (plain ltype.now) word.now) }
 {

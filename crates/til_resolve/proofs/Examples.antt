@@ -18,10 +18,10 @@ use Rattle.til_parser.specs.declared.ltype.AstType.TheOpen.{AstType-F}
 use Rattle.til_parser.specs.declared.ltype.AstType.TheFolds.{fold-roll-AstType}
 use Rattle.til_parser.specs.Tree as tree
 use Rattle.til_parser.specs.Tree.{plain}
+use Rattle.logical_types.specs.Size.{number_of_nodes, depth_of}
 use Rattle.logical_types.specs.Tree.{Ltype, null, group, part, no_parts}
 use Rattle.til_resolve.specs.Declarations.{declarations}
 use Rattle.til_resolve.specs.Names.{twice, unknown, wrong_kinds}
-use Rattle.til_resolve.specs.Types.{number_of_nodes, depth_of}
 
 -- the plain data of a port's type
 plain-Null : plain types.Null ≡ tree.null

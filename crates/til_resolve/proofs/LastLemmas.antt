@@ -5,6 +5,7 @@ use Rattle.tydi_base.specs.declared.place.Place.{Place}
 use Rattle.til_parser.specs.declared.tree.Ast.{Ast}
 use Rattle.til_parser.specs.declared.tree.AstPort.{AstPort}
 use Rattle.til_parser.specs.Tree.{plain}
+use Rattle.logical_types.specs.Size.{depth_of}
 use Rattle.til_resolve.specs.declared.fault.ResolveFault.{ResolveFault}
 use Rattle.til_resolve.specs.declared.fault.ResolveFault.TheVariants as faults
 use Rattle.til_resolve.specs.declared.misshapen.Sort.TheVariants as sorts
@@ -15,7 +16,7 @@ use Rattle.til_resolve.specs.Making.{type_of_port}
 use Rattle.til_resolve.specs.declared.project.Project.{Project}
 use Rattle.til_resolve.specs.Project.{IsProjectOf, IsStreamletOf, Pairwise, streamlet_numbers, tests_in}
 use Rattle.til_resolve.specs.Shapes.{IsMisshapen}
-use Rattle.til_resolve.specs.Types.{type_of, depth_of, is_stream}
+use Rattle.til_resolve.specs.Types.{type_of, is_stream}
 
 -- ---- ports whose type is no Stream
 

@@ -5,12 +5,13 @@ use Rattle.std.proofs.lemmas.Bool.{ltb-true, lt-ltb}
 use Rattle.std.proofs.lemmas.List.{take_more}
 use Rattle.std.proofs.lemmas.List.Elements.{Contains-append_left, Contains-append_right, Contains-append_cases, Contains-push}
 use Rattle.tydi_base.specs.declared.place.Place.{Place}
+use Rattle.logical_types.specs.Size.{number_of_nodes, depth_of}
 use Rattle.til_resolve.specs.declared.misshapen.Sort.{Sort}
 use Rattle.til_resolve.specs.declared.misshapen.Sort.TheVariants as sorts
 use Rattle.til_resolve.specs.Earliest.{IsEarliest, earlier}
 use Rattle.til_resolve.specs.Faults.{WrittenType, HasTypeAt}
 use Rattle.til_resolve.specs.Shapes.{shape_of, is_misshapen, IsMisshapen}
-use Rattle.til_resolve.specs.Types.{number_of_nodes, depth_of, is_stream}
+use Rattle.til_resolve.specs.Types.{is_stream}
 use Rattle.til_resolve.proofs.EarliestLemmas.{IsEarliest-none, IsEarliest-one, IsEarliest-same, IsEarliest-either, Contains-nil, Contains-one}
 
 -- ---- written types, one after another

@@ -12,6 +12,7 @@ use Rattle.til_parser.specs.declared.tree.AstPorts.TheVariants as ports
 use Rattle.til_parser.specs.Tree.{plain}
 use Rattle.logical_types.specs.Faults.{faults_of}
 use Rattle.logical_types.specs.declared.fault.TypeFault.{TypeFault}
+use Rattle.logical_types.specs.Size.{number_of_nodes}
 use Rattle.til_resolve.specs.declared.fault.ResolveFault.TheVariants as faults
 use Rattle.til_resolve.specs.Declarations.{Declaration, PortOf, declaration, declarations, kept_as, named, nowhere, is_interface, is_interface_kind, is_streamlet, named_as, ports_in, ports_of, ports_of_number}
 use Rattle.til_resolve.specs.Faults.{IsSound, WrittenType, port_types, types_in, types_of_kind, written_types}
@@ -20,7 +21,7 @@ use Rattle.til_resolve.specs.Paths.{is_same_path}
 use Rattle.til_resolve.specs.PlainProject.{HasPortTypes, PlainPort, PlainProject, PlainStreamlet, plain_port_at, plain_port_in, port_from, project_of, streamlet_from}
 use Rattle.til_resolve.specs.PortTypes.{IsPortType, type_of_port}
 use Rattle.til_resolve.specs.Project.{streamlet_numbers}
-use Rattle.til_resolve.specs.Types.{number_of_nodes, type_of}
+use Rattle.til_resolve.specs.Types.{type_of}
 use Rattle.til_resolve.proofs.ToldLemmas.{less-or_not}
 use Rattle.til_resolve.proofs.TypeGraphLemmas.{named-within}
 

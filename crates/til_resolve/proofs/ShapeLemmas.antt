@@ -8,6 +8,7 @@ use Rattle.til_parser.specs.declared.tree.AstPath.{AstPath}
 use Rattle.til_parser.specs.Tree as tree
 use Rattle.til_parser.specs.Tree.{plain}
 use Rattle.til_parser.proofs.PlainLemmas.{plain_parts}
+use Rattle.logical_types.specs.Size.{number_of_nodes, nodes_in_parts, depth_of, depth_of_parts}
 use Rattle.logical_types.specs.Tree.{Ltype, Parts}
 use Rattle.til_resolve.specs.declared.shape.Shape.{Shape}
 use Rattle.til_resolve.specs.Declarations.{Declaration}
@@ -15,7 +16,7 @@ use Rattle.til_resolve.specs.Tables.{IsMadeOf}
 use Rattle.til_resolve.proofs.EntryLemmas.{entry-meant}
 use Rattle.til_resolve.specs.Names.{paths_in, paths_in_parts}
 use Rattle.til_resolve.specs.Shapes.{shape_of, leaf, nothing, beside, around, shape_by, shape_by_parts, shape_by_list, shape_named, IsShapeOf}
-use Rattle.til_resolve.specs.Types.{number_of_nodes, nodes_in_parts, depth_of, depth_of_parts, replaced, replaced_parts, meaning_of}
+use Rattle.til_resolve.specs.Types.{replaced, replaced_parts, meaning_of}
 
 -- ---- shapes
 

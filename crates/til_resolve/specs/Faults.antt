@@ -9,13 +9,14 @@ use Rattle.til_parser.specs.declared.tree.AstName.{AstName}
 use Rattle.til_parser.specs.declared.tree.AstPort.{AstPort}
 use Rattle.til_parser.specs.declared.tree.AstPorts.TheVariants as ports
 use Rattle.til_parser.specs.Tree.{plain}
+use Rattle.logical_types.specs.Size.{number_of_nodes, depth_of}
 use Rattle.logical_types.specs.Tree.{Ltype}
 use Rattle.logical_types.specs.Faults.{faults_of}
 use Rattle.logical_types.specs.declared.fault.TypeFault.{TypeFault}
 use Rattle.til_resolve.specs.declared.fault.ResolveFault.{ResolveFault}
 use Rattle.til_resolve.specs.declared.fault.ResolveFault.TheVariants as faults
 use Rattle.til_resolve.specs.Declarations.{Declaration, declaration, declarations, nowhere}
-use Rattle.til_resolve.specs.Types.{type_of, number_of_nodes, depth_of, is_stream}
+use Rattle.til_resolve.specs.Types.{type_of, is_stream}
 use Rattle.til_resolve.specs.Names.{implements, target_place, twice, unknown, wrong_kinds}
 use Rattle.til_resolve.specs.Cycles.{LeadsTo, IsCyclicType, ContainsStreamlet}
 use Rattle.til_resolve.specs.Earliest.{IsBelow}

@@ -2,9 +2,10 @@
 use Rattle.std.specs.Prelude.{◌≤◌, List}
 use Rattle.til_parser.specs.Tree.{plain}
 use Rattle.logical_types.specs.Faults.{IsValid}
+use Rattle.logical_types.specs.Size.{number_of_nodes}
 use Rattle.logical_types.specs.Tree.{Ltype}
 use Rattle.til_resolve.specs.Declarations.{Declaration, PortOf}
-use Rattle.til_resolve.specs.Types.{type_of, number_of_nodes}
+use Rattle.til_resolve.specs.Types.{type_of}
 
 -- the type that a port is written with
 abbrev pub type_of_port : List Declaration → PortOf → Ltype

@@ -5,13 +5,14 @@ use Rattle.til_parser.specs.declared.ltype.AstPart.{AstPart}
 use Rattle.til_parser.specs.declared.tree.AstName.{AstName}
 use Rattle.til_parser.specs.Tree as tree
 use Rattle.til_parser.specs.Tree.{plain}
+use Rattle.logical_types.specs.Size.{number_of_nodes, depth_of}
 use Rattle.logical_types.specs.Tree.{Ltype, null}
 use Rattle.til_resolve.specs.declared.shape.Shape.{Shape}
 use Rattle.til_resolve.specs.declared.misshapen.Sort.{Sort}
 use Rattle.til_resolve.specs.declared.misshapen.Sort.TheVariants as sorts
 use Rattle.til_resolve.specs.Declarations.{Declaration, declaration, named_as, is_type}
 use Rattle.til_resolve.specs.Faults.{WrittenType, IsTooLarge}
-use Rattle.til_resolve.specs.Types.{number_of_nodes, depth_of, is_stream, type_by, meaning_of}
+use Rattle.til_resolve.specs.Types.{is_stream, type_by, meaning_of}
 
 -- ---- shapes
 

@@ -1,5 +1,5 @@
 -- The type that a written type stands for, the names in it replaced.
-use Rattle.std.specs.Prelude.{ℕ, zero, suc, ◌+◌, max, Bool, false, true, List, length, Option, Some, None}
+use Rattle.std.specs.Prelude.{ℕ, zero, suc, Bool, false, true, List, length, Option, Some, None}
 use Rattle.til_parser.specs.declared.ltype.AstSync.{AstSync}
 use Rattle.til_parser.specs.declared.ltype.AstSync.TheVariants as written
 use Rattle.til_parser.specs.declared.tree.AstKind.{AstKind}
@@ -69,34 +69,6 @@ meaning_of all (suc less) space names = type_of_number (λ inner. meaning_of all
 -- the type that a written type stands for in a namespace
 abbrev pub type_of : List Declaration → List (List ℕ) → tree.Ltype → Ltype
 type_of all space written_type = replaced (meaning_of all (length all) space) written_type
-
--- ---- how large a type is
-
--- the types in a type, itself counted: also the user type that a Stream has by default
-abbrev mutual
-  pub number_of_nodes : Ltype → ℕ
-  number_of_nodes null = 1
-  number_of_nodes (bits width) = 1
-  number_of_nodes (group parts) = suc (nodes_in_parts parts)
-  number_of_nodes (union parts) = suc (nodes_in_parts parts)
-  number_of_nodes (stream element user settings) = suc (number_of_nodes element + number_of_nodes user)
-
-  pub nodes_in_parts : Parts → ℕ
-  nodes_in_parts no_parts = 0
-  nodes_in_parts (part name ltype more) = number_of_nodes ltype + nodes_in_parts more
-
--- how deep types nest: one for a type with none in it
-abbrev mutual
-  pub depth_of : Ltype → ℕ
-  depth_of null = 1
-  depth_of (bits width) = 1
-  depth_of (group parts) = suc (depth_of_parts parts)
-  depth_of (union parts) = suc (depth_of_parts parts)
-  depth_of (stream element user settings) = suc (max (depth_of element) (depth_of user))
-
-  pub depth_of_parts : Parts → ℕ
-  depth_of_parts no_parts = 0
-  depth_of_parts (part name ltype more) = max (depth_of ltype) (depth_of_parts more)
 
 -- a type that is a Stream
 abbrev pub is_stream : Ltype → Bool

@@ -1,7 +1,8 @@
 //! Values, the words that stand for them and the ports that they fit, by tables found by hand.
 
-ghost use Rattle.std.specs.Prelude.{◌≤◌, length};
-ghost use Rattle.logical_types.specs.Faults.{IsPlain, nodes, outermost};
+ghost use Rattle.std.specs.Prelude.{◌≤◌};
+ghost use Rattle.logical_types.specs.Faults.{IsPlain};
+ghost use Rattle.logical_types.specs.Size.{number_of_nodes};
 ghost use Rattle.logical_types.specs.Tree.{plain};
 ghost use Rattle.logical_value.specs.Element.{IsElement};
 ghost use Rattle.logical_value.specs.Tree as values;
@@ -230,7 +231,7 @@ fn write_unpacked(
     out: &mut List<u8>,
 ) -> Result<(), Memory>
     requires plain { IsPlain (plain ltype.now) }
-    requires few { length (nodes outermost (plain ltype.now)) ≤ 65536 }
+    requires few { number_of_nodes (plain ltype.now) ≤ 65536 }
 {
     let bits = width(ltype) as usize;
     let Ok(word) = Bits::from_hex(alloc, bits, digits) else {

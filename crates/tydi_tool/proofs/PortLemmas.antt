@@ -6,13 +6,13 @@ use Rattle.tydi_base.proofs.PieceLaws.{join-pieces_of}
 use Rattle.tydi_base.specs.Name.{is_name, name_of}
 use Rattle.tydi_base.specs.Path.{path_at}
 use Rattle.tydi_base.specs.Pieces.{pieces_of}
+use Rattle.logical_types.specs.Size.{number_of_nodes, nodes_in_parts}
 use Rattle.logical_types.specs.Tree.{Ltype, null, bits, group, union, stream, Parts, no_parts, part}
 use Rattle.til_resolve.specs.declared.project.Port.{Port}
 use Rattle.til_resolve.specs.declared.project.Project.{Project}
 use Rattle.til_resolve.specs.Lookups.{port_at}
 use Rattle.til_resolve.specs.PlainProject.{HasPortTypes, PlainPort, PlainProject, plain_port, plain_port_at, plain_project}
 use Rattle.til_resolve.specs.PortTypes.{IsPortType}
-use Rattle.til_resolve.specs.Types.{number_of_nodes, nodes_in_parts}
 use Rattle.til_resolve.proofs.PlainProjectLemmas.{port-plain_at}
 use Rattle.til_resolve.proofs.PortTypeLemmas.{found-valid}
 use Rattle.type_split.specs.Nodes.{number_of_streams, streams_in_parts}

@@ -1,16 +1,15 @@
 //! How many nodes a type has.
 
-ghost use Rattle.std.specs.Prelude.{◌≡◌, ◌-◌, ◌^◌, length, min};
-ghost use Rattle.logical_types.specs.Faults.{nodes, nodes_of_parts, outermost};
+ghost use Rattle.std.specs.Prelude.{◌≡◌, ◌-◌, ◌^◌, min};
+ghost use Rattle.logical_types.specs.Size as spec;
 ghost use Rattle.logical_types.specs.Tree.{plain, plain_of_stream, plain_parts};
 
-use logical_types::{LType, Part, StreamType};
+use crate::ltype::{LType, Part, StreamType};
 
-/// The nodes of a type, itself and all types in it, or the greatest number of 64 bits where there are more. A word of a type that has
-/// at most 65,536 may be unpacked.
+/// The nodes of a type, itself and all types in it, or the greatest number of 64 bits where there are more.
 #[cycle(number_of_nodes)]
 pub fn number_of_nodes(ltype: &LType) -> u64
-    ensures { result ≡ min (length (nodes outermost (plain ltype.now))) (2 ^ 64 - 1) }
+    ensures { result ≡ min (spec.number_of_nodes (plain ltype.now)) (2 ^ 64 - 1) }
 {
     match ltype {
         LType::Null => 1,
@@ -23,7 +22,7 @@ pub fn number_of_nodes(ltype: &LType) -> u64
 
 #[cycle(number_of_nodes)]
 fn nodes_in_parts(parts: &[Part]) -> u64
-    ensures { result ≡ min (length (nodes_of_parts outermost (plain_parts parts.now))) (2 ^ 64 - 1) }
+    ensures { result ≡ min (spec.nodes_in_parts (plain_parts parts.now)) (2 ^ 64 - 1) }
 {
     let mut count: u64 = 0;
     'parts: for part in parts {
@@ -34,7 +33,7 @@ fn nodes_in_parts(parts: &[Part]) -> u64
 
 #[cycle(number_of_nodes)]
 fn nodes_in_stream(stream: &StreamType) -> u64
-    ensures { result ≡ min (length (nodes outermost (plain_of_stream stream.now))) (2 ^ 64 - 1) }
+    ensures { result ≡ min (spec.number_of_nodes (plain_of_stream stream.now)) (2 ^ 64 - 1) }
 {
     let element = number_of_nodes(&stream.element);
     let user = number_of_nodes(&stream.user);
