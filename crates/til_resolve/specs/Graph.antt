@@ -1,6 +1,6 @@
 -- Things that lead to one another, by their numbers. It serves the search for cycles, and no public clause.
-use Rattle.std.specs.Prelude.{◌≡◌, ℕ, ◌+◌, ◌<◌, ◌≤◌, ◌⊎◌, Bool, false, true, not, List, [], ◌∷◌, ◌++◌, length, slice_get, slice_index_or, Some, IfSome, Contains, if◌then◌else◌}
-use Rattle.std.specs.List.{count_by, filter_map}
+use Rattle.std.specs.Prelude.{◌≡◌, ℕ, ◌+◌, ◌*◌, ◌<◌, ◌≤◌, ◌⊎◌, Bool, false, true, not, List, [], ◌∷◌, ◌++◌, length, slice_get, slice_index_or, Some, IfSome, Contains, if◌then◌else◌}
+use Rattle.std.specs.List.{count_by, filter_map, sum_by}
 use Rattle.til_parser.specs.declared.tree.AstPath.{AstPath}
 use Rattle.til_resolve.specs.Declarations.{Declaration, declaration, before, named_as, is_type, is_streamlet}
 use Rattle.til_resolve.specs.Cycles.{LeadsTo, paths_of_alias, paths_of_instances}
@@ -68,6 +68,10 @@ AreOrdered ranks order end = (one : ℕ) → one < end → slice_get order (rank
 -- at the rank of each number before this one stands a number of that rank, if the order is so long
 abbrev pub AreByRank : List ℕ → List ℕ → ℕ → Type 0
 AreByRank ranks order end = (one : ℕ) → one < end → IfSome (slice_get order (rank_of ranks one)) (λ other. rank_of ranks other ≡ rank_of ranks one)
+
+-- the steps of a walk over all: it begins at each number and leaves it, and goes along each edge
+abbrev pub steps_over : List (List ℕ) → ℕ
+steps_over graph = 2 * length graph + sum_by length graph
 
 -- ---- the graph of types
 

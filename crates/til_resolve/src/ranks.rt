@@ -6,8 +6,8 @@
 //! in the order of ranks, `tables` tests the order itself, and each has another way where a test fails. What rests on ranks is time:
 //! with those that are found every test passes, so that one walk is enough.
 
-ghost use Rattle.std.specs.Prelude.{◌≡◌, length, slice_get, slice_set, IfOk};
-ghost use Rattle.til_resolve.specs.Graph.{AreByRank, rank_of, targets_of};
+ghost use Rattle.std.specs.Prelude.{◌≡◌, ◌+◌, ◌-◌, ◌^◌, length, min, slice_get, slice_set, IfOk};
+ghost use Rattle.til_resolve.specs.Graph.{AreByRank, rank_of, steps_over, targets_of};
 
 use std::alloc::Global;
 use tydi_base::{List, Memory};
@@ -25,7 +25,8 @@ pub fn find_ranks(alloc: Global, graph: &[List<usize>]) -> Result<Vec<usize>, Me
 
 /// The numbers in the order of their ranks; of those of one rank, one.
 pub fn numbers_by_rank(alloc: Global, ranks: &[usize]) -> Result<Vec<usize>, Memory>
-    ensures { IfOk result (λ order. AreByRank ranks.now order.items (length ranks.now)) }
+    ensures whole { IfOk result (λ order. length order.items ≡ length ranks.now + 1) }
+    ensures ranked { IfOk result (λ order. AreByRank ranks.now order.items (length ranks.now)) }
 {
     let mut order = vec![in alloc; 0; ranks.len().saturating_add(1)]?;
     'numbers: for (number, rank) in ranks.iter().enumerate() {
@@ -34,10 +35,12 @@ pub fn numbers_by_rank(alloc: Global, ranks: &[usize]) -> Result<Vec<usize>, Mem
     Ok(order)
 }
 
-// As many steps as a walk can take.
-fn steps_of(graph: &[List<usize>]) -> usize {
-    let mut steps = graph.len().saturating_mul(4);
-    for targets in graph {
+// The steps of a walk over all, or the greatest number of 64 bits: one to begin at each number, one to leave it, and one along each edge.
+fn steps_of(graph: &[List<usize>]) -> usize
+    ensures { result ≡ min (steps_over graph.now) (2 ^ 64 - 1) }
+{
+    let mut steps = graph.len().saturating_mul(2);
+    'numbers: for targets in graph {
         steps = steps.saturating_add(targets.len());
     }
     steps
