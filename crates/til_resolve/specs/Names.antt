@@ -16,7 +16,8 @@ use Rattle.til_parser.specs.declared.tree.AstStmt.TheVariants as stmts
 use Rattle.til_parser.specs.Tree as tree
 use Rattle.til_parser.specs.Tree.{plain}
 use Rattle.til_resolve.specs.Paths.{is_same_path}
-use Rattle.til_resolve.specs.Declarations.{Declaration, PortOf, declaration, before, nowhere, place_of, path_of, named, named_as, own_ports, ports_of, ports_of_streamlet, is_type, is_interface, is_streamlet}
+use Rattle.til_resolve.specs.Declarations.{Declaration, PortOf, declaration, before, nowhere, place_of, path_of}
+use Rattle.til_resolve.specs.Declarations.{named, named_as, own_ports, ports_of, ports_of_streamlet, is_type, is_interface, is_streamlet}
 
 -- ---- what stands twice
 
