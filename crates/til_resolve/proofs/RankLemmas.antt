@@ -1,6 +1,7 @@
 -- What ranks show of a graph.
 use Rattle.std.proofs.Common.{◌≡◌, ℕ, ◌<◌, ◌≤◌, List, [], ◌∷◌, length, get_or, Contains, sym, subst, arith}
 use Rattle.std.proofs.lemmas.List.{get_or_read}
+use Rattle.std.proofs.lemmas.List.Elements.{Contains-get_or}
 use Rattle.til_resolve.specs.Cycles.{ByWay, LeadsTo}
 use Rattle.til_resolve.specs.Graph.{targets_of, Leads, Falls, NeverRises, rank_of}
 
@@ -12,6 +13,18 @@ Falls-from ranks graph one targets rank same is falls = λ other step. by other 
     by other there =
         let value : other ≡ get_or targets there.0 0 = get_or_read targets there.0 other there.1 (sym there.2) 0 in
         subst (λ n. rank_of ranks n < rank_of ranks one) (sym value) (subst (λ r. rank_of ranks (get_or targets there.0 0) < r) is (falls there.0 there.1))
+
+-- each target of a number is led to
+leads_at : (graph : List (List ℕ)) (one : ℕ) (targets : List ℕ) → targets ≡ targets_of graph one → (k : ℕ) → k < length targets → Leads graph one (get_or targets k 0)
+leads_at graph one targets same k within = subst (λ (l : List ℕ). Contains l (get_or targets k 0)) same (Contains-get_or targets k 0 within)
+
+pub Falls-at : (ranks : List ℕ) (graph : List (List ℕ)) (one : ℕ) (targets : List ℕ) (rank : ℕ) → targets ≡ targets_of graph one → rank ≡ rank_of ranks one
+    → Falls ranks graph one → (k : ℕ) → k < length targets → rank_of ranks (get_or targets k 0) < rank
+Falls-at ranks graph one targets rank same is falls k within = omega (arith, is, falls (get_or targets k 0) (leads_at graph one targets same k within))
+
+pub NeverRises-at : (ranks : List ℕ) (graph : List (List ℕ)) (one : ℕ) (targets : List ℕ) (rank : ℕ) → targets ≡ targets_of graph one → rank ≡ rank_of ranks one
+    → NeverRises ranks graph → (k : ℕ) → k < length targets → rank_of ranks (get_or targets k 0) ≤ rank
+NeverRises-at ranks graph one targets rank same is rises k within = omega (arith, is, rises one (get_or targets k 0) (leads_at graph one targets same k within))
 
 lower : (ranks : List ℕ) (graph : List (List ℕ)) → NeverRises ranks graph → (from to : ℕ) (way : List ℕ) → ByWay (Leads graph) from way to → rank_of ranks to ≤ rank_of ranks from
 lower ranks graph rises from to [] step = rises from to step

@@ -21,7 +21,7 @@ pub fn ranks_of(alloc: Global, graph: &[List<usize>]) -> Result<Vec<usize>, Memo
 }
 
 fn never_rises(graph: &[List<usize>], ranks: &[usize]) -> bool
-    ensures { IsTrue result → NeverRises ranks.now graph.now }
+    ensures { IsTrue result ↔ NeverRises ranks.now graph.now }
 {
     'numbers: for number in 0..graph.len() {
         if !never_rises_from(ranks, graph[number].as_slice(), rank_of(ranks, number)) {
@@ -32,7 +32,7 @@ fn never_rises(graph: &[List<usize>], ranks: &[usize]) -> bool
 }
 
 fn never_rises_from(ranks: &[usize], targets: &[usize], rank: usize) -> bool
-    ensures { IsTrue result → (k : ℕ) → k < length targets.now → rank_of ranks.now (slice_index targets.now k) ≤ rank }
+    ensures { IsTrue result ↔ ((k : ℕ) → k < length targets.now → rank_of ranks.now (slice_index targets.now k) ≤ rank) }
 {
     'targets: for target in targets {
         if rank_of(ranks, *target) > rank {
@@ -43,7 +43,7 @@ fn never_rises_from(ranks: &[usize], targets: &[usize], rank: usize) -> bool
 }
 
 fn falls_from(ranks: &[usize], targets: &[usize], rank: usize) -> bool
-    ensures { IsTrue result → (k : ℕ) → k < length targets.now → rank_of ranks.now (slice_index targets.now k) < rank }
+    ensures { IsTrue result ↔ ((k : ℕ) → k < length targets.now → rank_of ranks.now (slice_index targets.now k) < rank) }
 {
     'targets: for target in targets {
         if rank_of(ranks, *target) >= rank {
@@ -65,7 +65,7 @@ pub fn rank_of(ranks: &[usize], number: usize) -> usize
 
 /// Whether each number has a rank from 1 to the number of all, and leads to lower ones alone.
 pub fn are_ranked(graph: &[List<usize>], ranks: &[usize]) -> bool
-    ensures { IsTrue result → (one : ℕ) → one < length graph.now → IsRanked ranks.now graph.now one }
+    ensures { IsTrue result ↔ ((one : ℕ) → one < length graph.now → IsRanked ranks.now graph.now one) }
 {
     'numbers: for number in 0..graph.len() {
         if !is_ranked(graph, ranks, number) {
@@ -77,7 +77,7 @@ pub fn are_ranked(graph: &[List<usize>], ranks: &[usize]) -> bool
 
 fn is_ranked(graph: &[List<usize>], ranks: &[usize], number: usize) -> bool
     requires { number < length graph.now }
-    ensures { IsTrue result → IsRanked ranks.now graph.now number }
+    ensures { IsTrue result ↔ IsRanked ranks.now graph.now number }
 {
     let rank = rank_of(ranks, number);
     if rank == 0 || rank > graph.len() {

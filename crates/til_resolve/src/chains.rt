@@ -1,6 +1,6 @@
 //! Type declarations that only name another type, passed over. A table is made by one walk that promises nothing, and tested.
 
-ghost use Rattle.std.specs.Prelude.{◌≡◌, ◌<◌, length, IsTrue, IfOk, IfSome};
+ghost use Rattle.std.specs.Prelude.{◌≡◌, ◌<◌, ◌↔◌, length, IsTrue, IfOk, IfSome};
 ghost use Rattle.til_parser.specs.Tree.{plain};
 ghost use Rattle.til_resolve.specs.Chains as spec;
 ghost use Rattle.til_resolve.specs.Chains.{AreChains, AreLinks, IsLink};
@@ -84,7 +84,7 @@ fn next_of(scope: &Scope<'_>, number: usize) -> Option<usize>
 
 // Whether each entry of a table goes on that of the declaration that it only names, or is its own.
 fn are_links(scope: &Scope<'_>, chains: &[Chain]) -> bool
-    ensures { IsTrue result → AreLinks (declarations_of scope.now.declared) chains.now (length (declarations_of scope.now.declared)) }
+    ensures { IsTrue result ↔ AreLinks (declarations_of scope.now.declared) chains.now (length (declarations_of scope.now.declared)) }
 {
     'numbers: for number in 0..scope.len() {
         if !is_link(scope, chains, number) {
@@ -96,7 +96,7 @@ fn are_links(scope: &Scope<'_>, chains: &[Chain]) -> bool
 
 fn is_link(scope: &Scope<'_>, chains: &[Chain], number: usize) -> bool
     requires { number < length (declarations_of scope.now.declared) }
-    ensures { IsTrue result → IsLink (declarations_of scope.now.declared) chains.now number }
+    ensures { IsTrue result ↔ IsLink (declarations_of scope.now.declared) chains.now number }
 {
     let chain = chain_at(chains, number);
     if chain.skipped == 0 {
@@ -110,7 +110,7 @@ fn is_link(scope: &Scope<'_>, chains: &[Chain], number: usize) -> bool
 
 // Whether a chain is another with one name more before it.
 fn goes_on(chain: Chain, next: Chain) -> bool
-    ensures { IsTrue result → spec.GoesOn chain next }
+    ensures { IsTrue result ↔ spec.GoesOn chain next }
 {
     chain.skipped > 0 && chain.skipped - 1 == next.skipped && chain.root == next.root
 }

@@ -2,7 +2,7 @@
 //! each name, one walk in their order makes each entry once; that they fall, and that the order is theirs, is tested. Where they do
 //! not, the table is made round by round.
 
-ghost use Rattle.std.specs.Prelude.{◌≡◌, ◌<◌, ℕ, length, replicate, slice_set, IsTrue, IfOk};
+ghost use Rattle.std.specs.Prelude.{◌≡◌, ◌<◌, ◌↔◌, ℕ, length, replicate, slice_set, IsTrue, IfOk};
 ghost use Rattle.logical_types.specs.Tree.{Ltype, null};
 ghost use Rattle.til_parser.specs.Tree.{plain};
 ghost use Rattle.til_resolve.specs.Declarations.{declaration};
@@ -86,7 +86,7 @@ fn declared_entry<E: Entries>(
 
 // Whether each number stands at its rank.
 fn are_ordered(ranks: &[usize], order: &[usize], len: usize) -> bool
-    ensures { IsTrue result → AreOrdered ranks.now order.now len }
+    ensures { IsTrue result ↔ AreOrdered ranks.now order.now len }
 {
     'numbers: for number in 0..len {
         if order.get(rank_of(ranks, number)) != Some(&number) {

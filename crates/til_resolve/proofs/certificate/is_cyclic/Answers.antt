@@ -12,5 +12,5 @@ returns-then-falls_from c =
       λ is. absurd (false≢true is),
       λ way. absurd (acyclic ranks graph number c.requires.rises
           (Falls-from ranks graph number c.as_slice.result.now c.rank_of.result
-          (c.as_slice.ensures ∙ get_or_read graph number c.index-graph-number.result c.requires.within c.index-graph-number.is []) c.rank_of.ensures (c.falls_from.ensures c.if-falls_from.true)) way),
+          (c.as_slice.ensures ∙ get_or_read graph number c.index-graph-number.result c.requires.within c.index-graph-number.is []) c.rank_of.ensures (c.falls_from.ensures.0 c.if-falls_from.true)) way),
     )
