@@ -1,12 +1,11 @@
 -- The text of a type, stream after stream.
-use Rattle.std.proofs.Common.{◌≡◌, ℕ, ◌+◌, ◌<◌, ◌≤◌, inl, inr, Bool, true, false, nat_lt, ltb, List, [], ◌∷◌, ◌++◌, length, map, get_or, take, drop, slice_get, Option, Some, None, option_map, All, refl, sym, ap, ◌∙◌, subst, append_assoc, arith}
+use Rattle.std.proofs.Common.{◌≡◌, ℕ, ◌+◌, ◌<◌, inr, true, false, nat_lt, List, [], ◌∷◌, ◌++◌, length, map, get_or, take, drop, slice_get, Option, Some, option_map, All, refl, sym, ap, ◌∙◌, subst, append_assoc, arith}
 use Rattle.std.specs.List.{flat_map}
 use Rattle.std.proofs.lemmas.Bool.{ltb-true, ltb-false}
 use Rattle.std.proofs.lemmas.Grind.{flat_map-append}
 use Rattle.std.proofs.lemmas.List.{get_or-map, length-map, take_more, take-append-drop}
 use Rattle.std.proofs.lemmas.Option.{slice_get-get_or, slice_get-map, slice_get_past}
 use Rattle.logical_types.specs.Faults.{IsPlain}
-use Rattle.logical_types.specs.Tree.{plain}
 use Rattle.signal_layout.specs.declared.signal.Signal.{Signal}
 use Rattle.signal_layout.specs.declared.signal.Signal.TheVariants as signals
 use Rattle.type_split.specs.declared.split.Node.{Node}

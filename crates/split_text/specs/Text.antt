@@ -1,9 +1,8 @@
 -- What a port's type compiles to, as a text (this project's own): for each physical stream its head line, its root, the signals that it
 -- has with their widths, and the fields of its elements.
-use Rattle.std.specs.Prelude.{◌≡◌, ℕ, ◌<◌, ◌⊎◌, List, [], ◌∷◌, ◌++◌, length, slice_get, Option, Some, None, codes, decimal}
+use Rattle.std.specs.Prelude.{◌≡◌, ℕ, ◌<◌, ◌⊎◌, List, [], ◌++◌, length, slice_get, Option, Some, None, codes, decimal}
 use Rattle.std.specs.List.{flat_map}
 use Rattle.tydi_base.specs.Path.{path_text}
-use Rattle.physical_stream.specs.Params.{Parameters}
 use Rattle.physical_stream.specs.declared.head.Head.{Head}
 use Rattle.signal_layout.specs.Fields.{fields_of}
 use Rattle.signal_layout.specs.Layout.{width_of}

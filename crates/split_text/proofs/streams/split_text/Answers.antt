@@ -1,5 +1,4 @@
-use Rattle.std.proofs.Common.{◌≡◌, All, List, map, subst, sym, ap, ◌∙◌}
-use Rattle.type_split.specs.Nodes.{StreamNode}
+use Rattle.std.proofs.Common.{All, List, map, subst, sym, ap, ◌∙◌}
 use Rattle.type_split.specs.declared.split.Node.{Node}
 use Rattle.type_split.specs.Streams.{PlainSplit, node_view}
 use Rattle.split_text.proofs.PlainNodes.{HasPlain, plain-nodes}

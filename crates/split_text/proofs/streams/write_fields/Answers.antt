@@ -1,7 +1,6 @@
-use Rattle.std.proofs.Common.{◌≡◌, ◌++◌, List, ℕ, OnOk, Option, map, sym, ap, subst, ◌∙◌}
+use Rattle.std.proofs.Common.{◌≡◌, ◌++◌, List, ℕ, OnOk, Option, sym, ap, subst, ◌∙◌}
 use Rattle.std.specs.List.{flat_map}
 use Rattle.type_split.specs.Nodes.{StreamNode}
-use Rattle.type_split.specs.Streams.{node_view}
 use Rattle.split_text.specs.Text.{field_line, field_lines}
 use Rattle.split_text.proofs.TextLemmas.{no-node, plain-node, some-node}
 use Rattle.split_text.proofs.streams.write_fields.Goals as goal

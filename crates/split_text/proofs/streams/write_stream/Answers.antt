@@ -1,4 +1,4 @@
-use Rattle.std.proofs.Common.{◌≡◌, ◌++◌, List, ℕ, OnOk, map, slice_get, sym, ap, subst, ◌∙◌}
+use Rattle.std.proofs.Common.{◌≡◌, ◌++◌, List, ℕ, OnOk, map, slice_get, ap, subst, ◌∙◌}
 use Rattle.physical_stream.specs.StreamLine.{head_text}
 use Rattle.signal_layout.specs.Layout.{width_in, width_of}
 use Rattle.type_split.specs.Streams.{node_view}

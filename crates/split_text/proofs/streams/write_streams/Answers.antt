@@ -1,4 +1,4 @@
-use Rattle.std.proofs.Common.{◌≡◌, length, map, subst, sym, arith}
+use Rattle.std.proofs.Common.{map, arith}
 use Rattle.split_text.specs.Text.{stream_text}
 use Rattle.type_split.specs.Streams.{node_view}
 use Rattle.split_text.proofs.TextLemmas.{front-is}
