@@ -12,3 +12,4 @@ pub mod SpelledPieces
 pub mod SpelledTokens
 pub mod CountLemmas
 pub mod PrefixLemmas
+pub mod SpanLemmas

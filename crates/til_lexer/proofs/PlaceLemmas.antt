@@ -40,16 +40,16 @@ pub offset_past : (place : Place) (bytes : List ℕ) → (place_past place bytes
 offset_past place [] = omega arith
 offset_past place (byte ∷ bytes) = let next = offset_past (place_after place byte) bytes in let first = offset_after place byte in omega arith
 
-pub place_past-append : (place : Place) (front : List ℕ) (byte : ℕ) → place_past place (front ++ byte ∷ []) ≡ place_after (place_past place front) byte
-place_past-append place [] byte = refl
-place_past-append place (first ∷ front) byte = place_past-append (place_after place first) front byte
+pub place_past-append : (place : Place) (front rest : List ℕ) → place_past place (front ++ rest) ≡ place_past (place_past place front) rest
+place_past-append place [] rest = refl
+place_past-append place (byte ∷ front) rest = place_past-append (place_after place byte) front rest
 
 -- one byte more is passed
 pub past-suc : (place : Place) (bytes : List ℕ) (at : ℕ) → at < length bytes
     → place_past place (take (at + 1) bytes) ≡ place_after (place_past place (take at bytes)) (get_or bytes at 0)
 past-suc place bytes at within =
     let more : at + 1 ≡ suc at = omega arith in
-    rw (more, take-suc bytes at 0 within) (place_past-append place (take at bytes) (get_or bytes at 0))
+    rw (more, take-suc bytes at 0 within) (place_past-append place (take at bytes) (get_or bytes at 0 ∷ []))
 
 -- one byte more passes a test
 prefix-next : (test : ℕ → Bool) (bytes : List ℕ) (at : ℕ) → at < length bytes → test (get_or bytes at 0) ≡ true

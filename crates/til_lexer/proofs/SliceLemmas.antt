@@ -29,7 +29,7 @@ record At (text front bytes : List ℕ) (place : Place) : Type 0 where
 At-more : (text front : List ℕ) (byte : ℕ) (bytes : List ℕ) (place : Place) → At text front (byte ∷ bytes) place → At text (front ++ byte ∷ []) bytes (place_after place byte)
 At-more text front byte bytes place at = record {
   whole = at.whole ∙ sym (append_assoc front (byte ∷ []) bytes);
-  place_is = ap (λ (p : Place). place_after p byte) at.place_is ∙ sym (place_past-append start front byte);
+  place_is = ap (λ (p : Place). place_after p byte) at.place_is ∙ sym (place_past-append start front (byte ∷ []));
 }
 
 At-offset : (text front bytes : List ℕ) (place : Place) → At text front bytes place → place.offset ≡ length front

@@ -12,20 +12,16 @@ use Rattle.til_lexer.specs.declared.token.Token.{Token}
 use Rattle.til_lexer.specs.declared.token.TokenKind.{TokenKind}
 use Rattle.til_lexer.specs.declared.token.TokenKind.TheVariants as kinds
 use Rattle.til_lexer.specs.Pieces.{piece_at}
-use Rattle.til_lexer.specs.Places.{start, place_after, place_past}
+use Rattle.til_lexer.specs.Places.{start, place_past}
 use Rattle.til_lexer.specs.Spans.{is_space, space_length}
 use Rattle.til_lexer.specs.Spelling.{AreSpelled, HasForm, IsApart, IsSpelled, Spelled, SpelledTokensAreRead, SpellingsAreTheirTexts, own_text, runs_on, spelled_text, token_spelled, tokens_spelled}
 use Rattle.til_lexer.specs.Tokens.{tokens_from, tokens_in, tokens_of, with_front}
 use Rattle.til_lexer.proofs.CutLemmas.{is_space-ascii}
 use Rattle.til_lexer.proofs.FormBegins.{ascii_utf8, first_of_all, form_begins, form_utf8}
 use Rattle.til_lexer.proofs.LexLemmas.{tokens_from-piece, with_front-nil}
-use Rattle.til_lexer.proofs.PlaceLemmas.{offset_past}
+use Rattle.til_lexer.proofs.PlaceLemmas.{offset_past, place_past-append}
 use Rattle.til_lexer.proofs.SpelledPieces.{IsAfter, first_of_front, piece_is, prefix_up_to}
 use Rattle.til_lexer.proofs.WordLemmas.{all_ascii}
-
-place_past-append : (place : Place) (front rest : List ℕ) → place_past place (front ++ rest) ≡ place_past (place_past place front) rest
-place_past-append place [] rest = refl
-place_past-append place (byte ∷ front) rest = place_past-append (place_after place byte) front rest
 
 -- ---- a token, and white space, at the front of a text
 

@@ -1,9 +1,10 @@
 -- White space, comments, digits and what stands between two marks. This project's own.
-use Rattle.std.specs.Prelude.{◌≡◌, ℕ, ◌==◌, take, ◌&&◌, ◌||◌, nat_lt, Bool, List, [], ◌∷◌, length, slice_index, Option, Some, None, if◌then◌else◌}
+use Rattle.std.specs.Prelude.{◌≡◌, ℕ, ◌==◌, ◌≤◌, take, ◌&&◌, ◌||◌, not, nat_lt, Bool, List, [], ◌∷◌, length, slice_index, Option, Some, None, if◌then◌else◌}
 use Rattle.std.specs.Char.{is_ascii_digit}
 use Rattle.std.specs.List.{prefix_len, position_or_len}
 use Rattle.std.specs.Fn.{Shared}
 use denote.Ref.{Bor}
+use Rattle.tydi_base.specs.declared.pieces.TheConstants.{LINE_FEED}
 use Rattle.tydi_base.specs.declared.place.Place.{Place}
 use Rattle.til_lexer.specs.declared.spans.Span.{Span}
 use Rattle.til_lexer.specs.Places.{place_past}
@@ -11,6 +12,18 @@ use Rattle.til_lexer.specs.Places.{place_past}
 -- each call of a closure gives what a test of bytes does
 abbrev pub Decides : {F : Type 0} → Shared F (Bor ℕ × Unit {0}) Bool → F → (ℕ → Bool) → Type 0
 Decides {F} calls f test = (byte : Bor ℕ) (passes : Bool) → calls.post f (byte, tt) passes → passes ≡ test byte.now
+
+-- how many bytes at the front pass a test and are no LF
+abbrev pub in_line : (ℕ → Bool) → List ℕ → ℕ
+in_line test bytes = prefix_len (λ byte. not (byte == LINE_FEED) && test byte) bytes
+
+-- each call of a closure counts the bytes at the front of a text that pass a test and are no LF
+abbrev pub CountsInLine : {F : Type 0} → Shared F (Bor (List ℕ) × Unit {0}) ℕ → F → (ℕ → Bool) → Type 0
+CountsInLine {F} calls f test = (bytes : Bor (List ℕ)) (count : ℕ) → calls.post f (bytes, tt) count → count ≡ in_line test bytes.now
+
+-- each call of a closure counts bytes of the text that it is given
+abbrev pub CountsWithin : {F : Type 0} → Shared F (Bor (List ℕ) × Unit {0}) ℕ → F → Type 0
+CountsWithin {F} calls f = (bytes : Bor (List ℕ)) (count : ℕ) → calls.post f (bytes, tt) count → count ≤ length bytes.now
 
 -- space, tab, CR or LF
 abbrev pub is_space : ℕ → Bool

@@ -4,11 +4,12 @@ ghost use Rattle.std.specs.Prelude.{◌≡◌, ◌==◌, ◌+◌, ◌-◌, ◌^�
 ghost use Rattle.std.specs.Char.{is_ascii_digit};
 ghost use Rattle.std.specs.List.{prefix_len};
 ghost use Rattle.tydi_base.specs.Name.{is_name_byte};
+ghost use Rattle.til_lexer.specs.Places as places;
 ghost use Rattle.til_lexer.specs.Spans as spec;
-ghost use Rattle.til_lexer.specs.Spans.{Decides, IsMarked, IsSpan};
+ghost use Rattle.til_lexer.specs.Spans.{CountsInLine, CountsWithin, Decides, IsMarked, IsSpan};
 
-use crate::places::place_after;
-use memchr::memchr;
+use crate::places::{along, place_after};
+use memchr::{memchr, memchr2};
 use tydi_base::{LINE_FEED, Place};
 
 /// Whether a byte is white space.
@@ -32,29 +33,65 @@ pub(crate) struct Span {
     pub(crate) after: Place,
 }
 
-/// The bytes that pass a test and begin a text at this place, of which some may be LFs.
-fn span_while<F: Fn(&u8) -> bool>(place: Place, bytes: &[u8], passes: F) -> Span
-    requires calls { F.IsAlwaysCallable passes }
+impl Span {
+    /// So many bytes more, none of which is an LF.
+    fn along(self, count: usize) -> Span
+        requires fits { self.after.offset + count < 2 ^ 32 - 1 }
+        requires counted { self.count ≤ self.after.offset }
+        requires column { self.after.column ≤ self.after.offset + 1 }
+        ensures counts { result.count ≡ self.count + count }
+        ensures after { result.after ≡ places.along self.after count }
+    {
+        Span {
+            count: self.count + count,
+            after: along(self.after, count),
+        }
+    }
+
+    /// This byte more.
+    fn past(self, byte: u8) -> Span
+        requires fits { self.after.offset < 2 ^ 32 - 2 }
+        requires counted { self.count ≤ self.after.offset }
+        requires line { self.after.line ≤ self.after.offset + 1 }
+        requires column { self.after.column ≤ self.after.offset + 1 }
+        ensures counts { result.count ≡ self.count + 1 }
+        ensures after { result.after ≡ places.place_after self.after byte }
+    {
+        Span {
+            count: self.count + 1,
+            after: place_after(self.after, byte),
+        }
+    }
+}
+
+/// The bytes that pass a test and begin a text at this place, line by line. `in_line` counts the bytes that begin a text,
+/// pass and are no LF.
+fn span_while<F: Fn(&u8) -> bool, L: Fn(&[u8]) -> usize>(
+    place: Place,
+    bytes: &[u8],
+    passes: F,
+    in_line: L,
+) -> Span
+    requires tests { F.IsAlwaysCallable passes }
+    requires counts { L.IsAlwaysCallable in_line }
+    requires counted { CountsWithin L.Fn in_line }
     requires fits { place.offset + length bytes.now < 2 ^ 32 - 1 }
     requires line { place.line ≤ place.offset + 1 }
     requires column { place.column ≤ place.offset + 1 }
-    ensures value { (test : ℕ → Bool) → Decides F.Fn passes test → IsSpan place bytes.now (prefix_len test bytes.now) result }
+    ensures value { (test : ℕ → Bool) → Decides F.Fn passes test → CountsInLine L.Fn in_line test → IsSpan place bytes.now (prefix_len test bytes.now) result }
     ensures within { result.count ≤ length bytes.now }
 {
     let mut span = Span {
         count: 0,
         after: place,
     };
-    'bytes: for byte in bytes {
-        if !passes(byte) {
-            return span;
+    'lines: loop {
+        span = span.along(in_line(&bytes[span.count..]));
+        match bytes.get(span.count) {
+            Some(byte) if passes(byte) => span = span.past(*byte),
+            _ => return span,
         }
-        span = Span {
-            count: span.count + 1,
-            after: place_after(span.after, *byte),
-        };
     }
-    span
 }
 
 /// The white space that begins a text at this place.
@@ -70,7 +107,20 @@ pub(crate) fn space_span(place: Place, bytes: &[u8]) -> Span
         |byte: &u8| -> bool
             ensures { result ≡ spec.is_space byte.now }
         { is_space(*byte) },
+        |rest: &[u8]| -> usize
+            ensures { result ≡ spec.in_line spec.is_space rest.now }
+        { space_in_line(rest) },
     )
+}
+
+/// How many bytes of white space begin a text before its first LF.
+fn space_in_line(bytes: &[u8]) -> usize
+    ensures { result ≡ spec.in_line spec.is_space bytes.now }
+{
+    bytes
+        .iter()
+        .position(|byte| *byte == LINE_FEED || !is_space(*byte))
+        .unwrap_or(bytes.len())
 }
 
 /// How many bytes stand before a text's first LF, or in all.
@@ -127,10 +177,20 @@ pub(crate) fn until_mark(mark: u8, place: Place, bytes: &[u8]) -> Option<Span>
         |byte: &u8| -> bool
             ensures { result ≡ not (byte.now == mark) }
         { *byte != mark },
+        |rest: &[u8]| -> usize
+            ensures { result ≡ spec.in_line (λ byte. not (byte == mark)) rest.now }
+        { unmarked_in_line(mark, rest) },
     );
     if span.count < bytes.len() {
         Some(span)
     } else {
         None
     }
+}
+
+/// How many bytes stand before a text's first such mark or LF, or in all.
+fn unmarked_in_line(mark: u8, bytes: &[u8]) -> usize
+    ensures { result ≡ spec.in_line (λ byte. not (byte == mark)) bytes.now }
+{
+    memchr2(mark, LINE_FEED, bytes).unwrap_or(bytes.len())
 }

@@ -1,12 +1,14 @@
-use Rattle.std.proofs.Common.{◌≡◌, ◌+◌, ◌≤◌, ℕ, Bool, drop, take}
-use Rattle.std.specs.List.{prefix_len}
-use Rattle.til_lexer.specs.Places.{place_past}
-use Rattle.til_lexer.specs.Spans.{Decides}
+use Rattle.std.proofs.Common.{◌≡◌, ◌+◌, ◌-◌, ◌≤◌, ℕ, Bool, length}
+use Rattle.til_lexer.specs.Spans.{Decides, CountsInLine, CountsWithin}
+use Rattle.til_lexer.proofs.SpanLemmas.{Passed}
 use Rattle.til_lexer.proofs.spans.span_while.Given as goal
 
--- the bytes passed so far, and what is left of them, are all that is to be passed; and the place after them
-abbrev pub invariant-bytes : goal.invariant-bytes
-invariant-bytes g l = goal.F-IsAlwaysCallable g l.passes × (l.span.count ≡ l.byte-index)
-    × (l.span.after.offset ≡ l.fn.place.offset + l.byte-index) × (l.span.after.line ≤ l.span.after.offset + 1) × (l.span.after.column ≤ l.span.after.offset + 1)
-    × (l.span.after ≡ place_past l.fn.place (take l.byte-index l.bytes))
-    × ((test : ℕ → Bool) → Decides g.F.Fn l.passes test → prefix_len test l.fn.bytes ≡ l.byte-index + prefix_len test (drop l.byte-index l.bytes))
+-- the bytes of the lines so far and what is left of the text are all that is to be passed; and the place of the line that begins
+abbrev pub invariant-lines : goal.invariant-lines
+invariant-lines g l = goal.F-IsAlwaysCallable g l.passes × goal.L-IsAlwaysCallable g l.in_line × CountsWithin g.L.Fn l.in_line
+    × (l.span.count ≤ length l.bytes) × (l.span.after.offset ≡ l.fn.place.offset + l.span.count)
+    × (l.span.after.line ≤ l.span.after.offset + 1) × (l.span.after.column ≤ l.span.after.offset + 1)
+    × ((test : ℕ → Bool) → Decides g.F.Fn l.passes test → CountsInLine g.L.Fn l.in_line test → Passed test l.fn.place l.bytes l.span)
+
+abbrev pub decreases-lines : goal.decreases-lines
+decreases-lines g l = length l.bytes - l.span.count
