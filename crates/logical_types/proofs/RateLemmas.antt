@@ -1,9 +1,14 @@
 -- Room around a type for the throughputs in it: of types beside one another, and of a Stream around them.
-use Rattle.std.proofs.Common.{◌≡◌, ℕ, zero, suc, ◌*◌, ◌^◌, ◌<◌, ◌≤◌, ◌⊎◌, inl, inr, Bool, true, false, ◌&&◌, cond, max, sym, ap, ◌∙◌, subst, arith}
-use Rattle.std.proofs.Math.Nat.{mul_assoc, mul_right_comm, mul-le-mul_left, mul-le-mul_right, le_of_mul-le-mul_right, le-mul_of_pos_right, one-le-mul, div-mul_cancel}
-use Rattle.tydi_base.specs.Frac.{Fraction, IsProduct}
-use Rattle.logical_types.specs.Summary.{IsUpTo, AreRates, HasRates, AreJoined, AreRatesIn}
-use Rattle.logical_types.specs.Throughput.{divides, divisor_up_to, greatest_divisor, lowest, product_of}
+use Rattle.std.proofs.Common.{◌≡◌, ℕ, zero, suc, ◌*◌, ◌^◌, ◌<◌, ◌≤◌, ◌⊎◌, inl, inr, Bool, true, false, not, ◌&&◌, ◌||◌, cond, eqb, leb, ltb, max, refl, sym, ap, ◌∙◌, subst, arith}
+use Rattle.std.proofs.lemmas.Bool.{leb-true, leb-false, ltb-true}
+use Rattle.std.proofs.lemmas.Bool.Decides.{nat_tests}
+use Rattle.std.proofs.Math.Nat.{mul_assoc, mul_comm, zero-mul, mul_right_comm, mul-le-mul_left, mul-le-mul_right, le_of_mul-le-mul_right, le-mul_of_pos_right, one-le-mul, div-mul_cancel}
+use Rattle.tydi_base.specs.Frac.{Fraction}
+use Rattle.logical_types.specs.Summary.{IsUpTo, AreRates, HasRates, AreJoined, AreRatesIn, AreDimsIn, AreDimsJoined, dims_beside, dims_in_stream, greater, has_rates_inside, no_rates, rates_beside, rates_in_stream}
+use Rattle.logical_types.specs.Throughput.{divides, divisor_up_to, fits_words, greatest_divisor, lowest, product_of}
+use Rattle.logical_types.specs.declared.dims.Dims.{Dims}
+use Rattle.logical_types.specs.declared.ltype.Sync.{Sync}
+use Rattle.logical_types.specs.declared.ltype.Sync.TheVariants as syncs
 use Rattle.logical_types.specs.declared.rates.Rates.{Rates}
 use Rattle.logical_types.proofs.ThroughputLemmas.{up_to-divides}
 
@@ -76,11 +81,18 @@ HasRates-less around one joined num den product some has = record {
   lanes = narrower around.num (128 * around.den) one.product.num one.product.den joined.product.num joined.product.den some product has.lanes;
 }
 
-pub AreJoined-made : (one other : Rates) (num den : ℕ) (product : Fraction) → num ≡ max one.num other.num → den ≡ max one.den other.den
+AreJoined-made : (one other : Rates) (num den : ℕ) (product : Fraction) → num ≡ max one.num other.num → den ≡ max one.den other.den
     → (product ≡ one.product) ⊎ (product ≡ other.product) → IsUpTo one.product product → IsUpTo other.product product
     → AreRates one → AreRates other → AreJoined one other (record { num = num; den = den; product = product })
 AreJoined-made one other num den product nums dens chosen left right are these = record {
-  are = record { num = omega (arith, are.num, nums); den = omega (arith, are.den, dens); some = some chosen; whole = whole chosen };
+  are = record {
+    num = omega (arith, are.num, nums);
+    den = omega (arith, are.den, dens);
+    num_fits = omega (arith, are.num_fits, these.num_fits, nums);
+    den_fits = omega (arith, are.den_fits, these.den_fits, dens);
+    some = some chosen;
+    whole = whole chosen;
+  };
   one = λ around has. HasRates-less around one (record { num = num; den = den; product = product }) (omega (arith, nums)) (omega (arith, dens)) left (some chosen) has;
   other = λ around has. HasRates-less around other (record { num = num; den = den; product = product }) (omega (arith, nums)) (omega (arith, dens)) right (some chosen) has;
 }
@@ -113,12 +125,20 @@ lanes_inside an ad tn td mn md g x y some one other within = le_of_mul-le-mul_ri
     by : x * mn * g ≤ 128 * y * md * g
     by = subst (λ (n : ℕ). n ≤ 128 * y * md * g) (sym left) (subst (λ (n : ℕ). an * tn * mn ≤ n) (sym right) within)
 
-pub AreRatesIn-made : (throughput product : Fraction) (inner rates : Rates) → 1 ≤ throughput.num → 1 ≤ throughput.den
-    → rates.num ≡ throughput.num * inner.num → rates.den ≡ throughput.den * inner.den → IsProduct throughput inner.product product
+AreRatesIn-made : (throughput product : Fraction) (inner rates : Rates) → 1 ≤ throughput.num → 1 ≤ throughput.den → rates.num < 2 ^ 64 → rates.den < 2 ^ 64
+    → rates.num ≡ throughput.num * inner.num → rates.den ≡ throughput.den * inner.den
+    → 1 ≤ product.den → product.num * (throughput.den * inner.product.den) ≡ throughput.num * inner.product.num * product.den
     → IsUpTo product rates.product → IsUpTo (record { num = 1; den = 1 }) rates.product → 1 ≤ rates.product.den
     → AreRates inner → AreRatesIn throughput inner rates
-AreRatesIn-made throughput product inner rates upper lower nums dens is left right some are = record {
-  are = record { num = omega (arith, nums, one-le-mul upper are.num); den = omega (arith, dens, one-le-mul lower are.den); some = some; whole = omega (arith, right) };
+AreRatesIn-made throughput product inner rates upper lower num_fits den_fits nums dens whole value left right some are = record {
+  are = record {
+    num = omega (arith, nums, one-le-mul upper are.num);
+    den = omega (arith, dens, one-le-mul lower are.den);
+    num_fits = num_fits;
+    den_fits = den_fits;
+    some = some;
+    whole = omega (arith, right);
+  };
   some = upper;
   inside = λ around has. within around (lowest-divided (around.num * throughput.num) (around.den * throughput.den)) has;
 }
@@ -132,6 +152,102 @@ AreRatesIn-made throughput product inner rates upper lower nums dens is left rig
           (subst (λ (n : ℕ). around.den * n < 2 ^ 64) dens has.den);
       lanes = lanes_inside around.num around.den throughput.num throughput.den inner.product.num inner.product.den divided.by (product_of around throughput).num (product_of around throughput).den
           divided.some divided.num_is divided.den_is
-          (parted around.num (128 * around.den) throughput.num throughput.den inner.product.num inner.product.den product.num product.den is.terms.some is.value
+          (parted around.num (128 * around.den) throughput.num throughput.den inner.product.num inner.product.den product.num product.den whole value
           (narrower around.num (128 * around.den) product.num product.den rates.product.num rates.product.den some left has.lanes));
     }
+
+-- the product of two fractions in lowest terms has their value
+product-value : (one other : Fraction) → 1 ≤ one.den → 1 ≤ other.den
+    → (1 ≤ (product_of other one).den) × ((product_of other one).num * (one.den * other.den) ≡ one.num * other.num * (product_of other one).den)
+product-value one other left right = by (product_of other one) (lowest-divided (other.num * one.num) (other.den * one.den))
+  where
+    by : (product : Fraction) → IsDivided (other.num * one.num) (other.den * one.den) product
+        → (1 ≤ product.den) × (product.num * (one.den * other.den) ≡ one.num * other.num * product.den)
+    by product divided = (some product.den divided.by (subst (λ (n : ℕ). 1 ≤ n) (sym divided.den_is) (one-le-mul right left)), value)
+      where
+        some : (den by : ℕ) → 1 ≤ den * by → 1 ≤ den
+        some zero by positive = absurd (omega (arith, zero-mul by, positive))
+        some (suc den) by positive = omega arith
+
+        value : product.num * (one.den * other.den) ≡ one.num * other.num * product.den
+        value =
+            ap (λ (n : ℕ). product.num * n) (mul_comm one.den other.den ∙ sym divided.den_is ∙ mul_comm product.den divided.by)
+            ∙ sym (mul_assoc product.num divided.by product.den)
+            ∙ ap (λ (n : ℕ). n * product.den) (divided.num_is ∙ mul_comm other.num one.num)
+
+-- ---- the rates of types without Streams, of types beside one another, and of a Stream
+
+greater-chosen : (one other : Fraction) → (greater one other ≡ one) ⊎ (greater one other ≡ other)
+greater-chosen one other = by (leb (one.num * other.den) (other.num * one.den))
+  where
+    by : (less : Bool) → (cond less other one ≡ one) ⊎ (cond less other one ≡ other)
+    by true = inr refl
+    by false = inl refl
+
+greater-up_to : (one other : Fraction) → IsUpTo one (greater one other) × IsUpTo other (greater one other)
+greater-up_to one other = by (leb (one.num * other.den) (other.num * one.den)) refl
+  where
+    by : (less : Bool) → leb (one.num * other.den) (other.num * one.den) ≡ less → IsUpTo one (cond less other one) × IsUpTo other (cond less other one)
+    by true is = (leb-true (one.num * other.den) (other.num * one.den) is, omega arith)
+    by false is = (omega arith, omega (arith, leb-false (one.num * other.den) (other.num * one.den) is))
+
+pub no_rates-are : AreRates no_rates
+no_rates-are = record { num = omega arith; den = omega arith; num_fits = omega arith; den_fits = omega arith; some = omega arith; whole = omega arith }
+
+pub AreJoined-beside : (one other : Rates) → AreRates one → AreRates other → AreJoined one other (rates_beside one other)
+AreJoined-beside one other are these =
+    let up_to = greater-up_to one.product other.product in
+    AreJoined-made one other (max one.num other.num) (max one.den other.den) (greater one.product other.product) refl refl (greater-chosen one.product other.product) up_to.0 up_to.1 are these
+
+-- a throughput that has room around such types is not zero, and products fit
+record HasSome (throughput : Fraction) (inner : Rates) : Type 0 where
+  num : 1 ≤ throughput.num
+  den : 1 ≤ throughput.den
+  num_fits : throughput.num * inner.num < 2 ^ 64
+  den_fits : throughput.den * inner.den < 2 ^ 64
+
+room-parts : (throughput : Fraction) (inner : Rates) → has_rates_inside throughput inner ≡ true → HasSome throughput inner
+room-parts throughput inner =
+    by (ltb 0 throughput.den) (ltb (throughput.num * inner.num) (2 ^ 64)) (ltb (throughput.den * inner.den) (2 ^ 64)) (eqb throughput.num 0) (fits_words (product_of inner.product throughput))
+    refl refl refl refl
+  where
+    by : (some nums dens none fits : Bool) → ltb 0 throughput.den ≡ some → ltb (throughput.num * inner.num) (2 ^ 64) ≡ nums → ltb (throughput.den * inner.den) (2 ^ 64) ≡ dens
+        → eqb throughput.num 0 ≡ none → (some && nums && dens && not (none || not fits)) ≡ true → HasSome throughput inner
+    by true true true false fits lower upper_fits lower_fits upper is = record {
+      num = grind (arith, nat_tests);
+      den = ltb-true 0 throughput.den lower;
+      num_fits = ltb-true (throughput.num * inner.num) (2 ^ 64) upper_fits;
+      den_fits = ltb-true (throughput.den * inner.den) (2 ^ 64) lower_fits;
+    }
+    by true true true true fits lower upper_fits lower_fits upper is = let clash : false ≡ true = is in cc clash
+    by true true false none fits lower upper_fits lower_fits upper is = let clash : false ≡ true = is in cc clash
+    by true false dens none fits lower upper_fits lower_fits upper is = let clash : false ≡ true = is in cc clash
+    by false nums dens none fits lower upper_fits lower_fits upper is = let clash : false ≡ true = is in cc clash
+
+pub AreRatesIn-stream : (throughput : Fraction) (inner : Rates) → has_rates_inside throughput inner ≡ true → AreRates inner → AreRatesIn throughput inner (rates_in_stream throughput inner)
+AreRatesIn-stream throughput inner room are =
+    let some = room-parts throughput inner room in
+    let product = product-value throughput inner.product some.den are.some in
+    let up_to = greater-up_to (product_of inner.product throughput) (record { num = 1; den = 1 }) in
+    AreRatesIn-made throughput (product_of inner.product throughput) inner (rates_in_stream throughput inner) some.num some.den some.num_fits some.den_fits refl refl product.0 product.1 up_to.0 up_to.1
+    (whole (greater-chosen (product_of inner.product throughput) (record { num = 1; den = 1 })) product.0) are
+  where
+    whole : (greater (product_of inner.product throughput) (record { num = 1; den = 1 }) ≡ product_of inner.product throughput)
+        ⊎ (greater (product_of inner.product throughput) (record { num = 1; den = 1 }) ≡ record { num = 1; den = 1 })
+        → 1 ≤ (product_of inner.product throughput).den → 1 ≤ (greater (product_of inner.product throughput) (record { num = 1; den = 1 })).den
+    whole (inl is) some = subst (λ (p : Fraction). 1 ≤ p.den) (sym is) some
+    whole (inr is) some = subst (λ (p : Fraction). 1 ≤ p.den) (sym is) (omega arith)
+
+-- ---- dimensions
+
+pub AreDimsJoined-beside : (one other : Dims) → AreDimsJoined one other (dims_beside one other)
+AreDimsJoined-beside one other = record {
+  one = λ around has. record { over = omega (arith, has.over); own = omega (arith, has.own) };
+  other = λ around has. record { over = omega (arith, has.over); own = omega (arith, has.own) };
+}
+
+pub AreDimsIn-stream : (own : ℕ) (sync : Sync) (inner : Dims) → AreDimsIn own sync inner (dims_in_stream own sync inner)
+AreDimsIn-stream own syncs.Sync inner = record { inside = λ around has. record { over = omega (arith, has.over); own = omega (arith, has.own) } }
+AreDimsIn-stream own syncs.Desync inner = record { inside = λ around has. record { over = omega (arith, has.over); own = omega (arith, has.own) } }
+AreDimsIn-stream own syncs.Flatten inner = record { inside = λ around has. record { over = omega (arith, has.own); own = omega (arith, has.own) } }
+AreDimsIn-stream own syncs.FlatDesync inner = record { inside = λ around has. record { over = omega (arith, has.own); own = omega (arith, has.own) } }

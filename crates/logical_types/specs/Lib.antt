@@ -6,5 +6,6 @@ pub mod Names
 pub mod Throughput
 pub mod Faults
 pub mod Seen
+pub mod Fold
 pub mod Summary
 pub mod formers

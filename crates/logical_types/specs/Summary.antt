@@ -1,18 +1,132 @@
 -- What is known of a type without what it holds: enough to show that it has no fault. This project's own.
-use Rattle.std.specs.Prelude.{◌≡◌, ℕ, ◌+◌, ◌-◌, ◌*◌, ◌^◌, ◌<◌, ◌≤◌, max, ◌||◌, []}
+use Rattle.std.specs.Prelude.{◌≡◌, ℕ, ◌+◌, ◌-◌, ◌*◌, ◌^◌, ◌==◌, ◌<◌, ◌≤◌, nat_lt, nat_le, min, max, Bool, true, false, not, ◌&&◌, ◌||◌, [], length, Option, Some, None, if◌then◌else◌}
+use Rattle.std.specs.Option.{option_and_then, option_map}
 use Rattle.tydi_base.specs.Frac.{Fraction}
-use Rattle.logical_types.specs.Faults.{faults_within, faults_of_parts, dims_taken_over}
+use Rattle.tydi_base.specs.Width.{index_width}
+use Rattle.logical_types.specs.Faults.{dims_taken_over, faults_within, faults_of_parts, is_bad_throughput, outermost}
+use Rattle.logical_types.specs.Fold.{Layers, fold}
+use Rattle.logical_types.specs.Names.{has_name_twice}
 use Rattle.logical_types.specs.Throughput.{product_of}
-use Rattle.logical_types.specs.Tree.{Ltype, Parts, Settings, has_stream, have_stream}
+use Rattle.logical_types.specs.Tree.{Ltype, Parts, has_stream, have_stream}
 use Rattle.logical_types.specs.Width.{width_of, total_width, greatest_width, saturated}
 use Rattle.logical_types.specs.declared.dims.Dims.{Dims}
 use Rattle.logical_types.specs.declared.ltype.Sync.{Sync}
+use Rattle.logical_types.specs.declared.ltype.Sync.TheVariants as syncs
 use Rattle.logical_types.specs.declared.rates.Rates.{Rates}
 use Rattle.logical_types.specs.declared.streams.Around.{Around}
 use Rattle.logical_types.specs.declared.summary.Summary.{Summary}
 use Rattle.logical_types.specs.declared.summary.PartsSummary.{PartsSummary}
 
--- ---- throughputs
+-- ---- what a summary is
+
+-- the greater of two fractions
+abbrev pub greater : Fraction → Fraction → Fraction
+greater one other = if nat_le (one.num * other.den) (other.num * one.den) then other else one
+
+-- of a type without Streams: the way that stays at the type counts, with the product 1
+abbrev pub no_rates : Rates
+no_rates = record { num = 1; den = 1; product = outermost.product }
+
+abbrev pub no_dims : Dims
+no_dims = record { over = 0; own = 0 }
+
+-- of types beside one another
+abbrev pub rates_beside : Rates → Rates → Rates
+rates_beside one other = record { num = max one.num other.num; den = max one.den other.den; product = greater one.product other.product }
+
+abbrev pub dims_beside : Dims → Dims → Dims
+dims_beside one other = record { over = max one.over other.over; own = max one.own other.own }
+
+-- a throughput that is not zero has room around such types: the products of upper and of lower parts fit 64 bits, and so does the
+-- greatest product
+abbrev pub has_rates_inside : Fraction → Rates → Bool
+has_rates_inside throughput inner =
+    nat_lt 0 throughput.den && nat_lt (throughput.num * inner.num) (2 ^ 64) && nat_lt (throughput.den * inner.den) (2 ^ 64) && not (is_bad_throughput inner.product throughput)
+
+-- of a Stream around such types
+abbrev pub rates_in_stream : Fraction → Rates → Rates
+rates_in_stream throughput inner = record {
+  num = throughput.num * inner.num;
+  den = throughput.den * inner.den;
+  product = greater (product_of inner.product throughput) outermost.product;
+}
+
+-- a dimensionality, or the greatest number of 64 bits where it is over that
+abbrev pub capped_dims : ℕ → ℕ
+capped_dims dims = min dims (2 ^ 64 - 1)
+
+abbrev pub dims_in_stream : ℕ → Sync → Dims → Dims
+dims_in_stream own syncs.Sync inner = record { over = capped_dims (own + inner.over); own = inner.own }
+dims_in_stream own syncs.Desync inner = record { over = capped_dims (own + inner.over); own = inner.own }
+dims_in_stream own syncs.Flatten inner = record { over = 0; own = max inner.own (capped_dims (own + inner.over)) }
+dims_in_stream own syncs.FlatDesync inner = record { over = 0; own = max inner.own (capped_dims (own + inner.over)) }
+
+-- of a type of this width without Streams
+abbrev pub without_stream : ℕ → Summary
+without_stream width = record { width = width; has_stream = false; rates = no_rates; dims = no_dims }
+
+abbrev pub of_bits : ℕ → Option Summary
+of_bits width = if width == 0 || nat_lt 4096 width then None else Some (without_stream width)
+
+-- of a Stream: None where its user type has a Stream, or there is no room around what is in it
+abbrev pub of_stream : Fraction → ℕ → Sync → Summary → Summary → Option Summary
+of_stream throughput dims sync element user =
+    if user.has_stream || not (has_rates_inside throughput (rates_beside element.rates user.rates)) then None
+    else Some (record {
+      width = 0;
+      has_stream = true;
+      rates = rates_in_stream throughput (rates_beside element.rates user.rates);
+      dims = dims_in_stream dims sync (dims_beside element.dims user.dims);
+    })
+
+-- of no parts
+abbrev pub of_no_parts : PartsSummary
+of_no_parts = record { total = 0; widest = 0; has_stream = false; rates = no_rates; dims = no_dims }
+
+-- of parts and one more
+abbrev pub of_parts_and : PartsSummary → Summary → PartsSummary
+of_parts_and before one = record {
+  total = saturated (before.total + one.width);
+  widest = max before.widest one.width;
+  has_stream = before.has_stream || one.has_stream;
+  rates = rates_beside before.rates one.rates;
+  dims = dims_beside before.dims one.dims;
+}
+
+-- of a type of this width around parts, unless it is too wide
+abbrev pub around : PartsSummary → ℕ → Option Summary
+around sum width = if nat_lt 4096 width then None else Some (record { width = width; has_stream = sum.has_stream; rates = sum.rates; dims = sum.dims })
+
+abbrev pub of_group : PartsSummary → Option Summary
+of_group sum = around sum sum.total
+
+abbrev pub of_union : PartsSummary → ℕ → Option Summary
+of_union sum variants = if variants == 0 then None else around sum (saturated (sum.widest + index_width variants))
+
+-- ---- the summary of a type
+
+-- the summary of a type, by those of the types in it
+abbrev pub summarized : Layers (Option Summary) (Option PartsSummary)
+summarized = record {
+  of_null = Some (without_stream 0);
+  of_bits = of_bits;
+  of_group = λ names inside. if has_name_twice names then None else option_and_then of_group inside;
+  of_union = λ names inside. if has_name_twice names then None else option_and_then (λ sum. of_union sum (length names)) inside;
+  of_stream = λ settings element user. option_and_then (λ one. option_and_then (of_stream settings.throughput settings.dims settings.sync one) user) element;
+  of_no_parts = Some of_no_parts;
+  of_part = λ before one. option_and_then (λ sum. option_map (of_parts_and sum) one) before;
+}
+
+-- None where a part or the type itself has a fault that does not depend on what is around it, or where products on the way to a Stream
+-- in it do not fit 64 bits as they stand
+abbrev pub summary_of : Ltype → Option Summary
+summary_of ltype = fold summarized ltype
+
+-- a type with this summary is within the limits where there is no Stream around it
+abbrev pub shows_valid : Summary → Bool
+shows_valid summary = nat_le summary.rates.product.num (128 * summary.rates.product.den) && nat_le summary.dims.over 32 && nat_le summary.dims.own 32
+
+-- ---- what a summary says: of throughputs
 
 -- a fraction is no greater than another
 abbrev pub IsUpTo : Fraction → Fraction → Type 0
@@ -22,6 +136,8 @@ IsUpTo one other = one.num * other.den ≤ other.num * one.den
 pub record AreRates (rates : Rates) : Type 0 where
   pub num : 1 ≤ rates.num
   pub den : 1 ≤ rates.den
+  pub num_fits : rates.num < 2 ^ 64
+  pub den_fits : rates.den < 2 ^ 64
   pub some : 1 ≤ rates.product.den
   pub whole : rates.product.den ≤ rates.product.num
 
@@ -43,7 +159,7 @@ pub record AreRatesIn (throughput : Fraction) (inner rates : Rates) : Type 0 whe
   pub some : 1 ≤ throughput.num
   pub inside : (around : Fraction) → HasRates around rates → HasRates (product_of around throughput) inner
 
--- ---- dimensions
+-- ---- of dimensions
 
 -- so many dimensions around a type leave room for these: at most 32
 pub record HasDims (around : ℕ) (dims : Dims) : Type 0 where
@@ -57,7 +173,7 @@ pub record AreDimsJoined (first second joined : Dims) : Type 0 where
 pub record AreDimsIn (own : ℕ) (sync : Sync) (inner dims : Dims) : Type 0 where
   pub inside : (around : ℕ) → HasDims around dims → HasDims (own + dims_taken_over sync around) inner
 
--- ---- types
+-- ---- of types
 
 -- what is around a type leaves room for it
 pub record HasRoom (around : Around) (most : Rates) (deepest : Dims) : Type 0 where
@@ -80,16 +196,6 @@ pub record IsSummed (all rest : Parts) (sum : PartsSummary) : Type 0 where
   pub rates : AreRates sum.rates
   pub valid : (around : Around) → HasRoom around sum.rates sum.dims → faults_of_parts around rest ≡ [] → faults_of_parts around all ≡ []
 
--- a summary of a type of this width around parts
-pub record IsAround (sum : PartsSummary) (wide : ℕ) (summary : Summary) : Type 0 where
-  pub narrow : wide ≤ 4096
-  pub width : summary.width ≡ wide
-  pub has_stream : summary.has_stream ≡ sum.has_stream
-  pub rates : summary.rates ≡ sum.rates
-  pub dims : summary.dims ≡ sum.dims
-
--- the arguments of a Stream of which a summary speaks
-pub record HasSettings (times : Fraction) (deep : ℕ) (tied : Sync) (settings : Settings) : Type 0 where
-  pub throughput : settings.throughput ≡ times
-  pub dims : settings.dims ≡ deep
-  pub sync : settings.sync ≡ tied
+-- a summary says what it is to say
+abbrev pub SummariesAreOfTheType : Type 0
+SummariesAreOfTheType = (ltype : Ltype) (summary : Summary) → summary_of ltype ≡ Some summary → IsSummary ltype summary

@@ -1,8 +1,7 @@
 //! How many dimensions the Streams in a type have, whatever is around it.
 
-ghost use Rattle.std.specs.Prelude.{◌≡◌, IsTrue};
-ghost use Rattle.logical_types.specs.Faults.{outermost};
-ghost use Rattle.logical_types.specs.Summary.{AreDimsIn, AreDimsJoined, HasDims};
+ghost use Rattle.std.specs.Prelude.{◌≡◌, ◌&&◌, nat_le};
+ghost use Rattle.logical_types.specs.Summary as spec;
 
 use crate::ltype::Sync;
 use crate::streams::MOST_DIMS;
@@ -18,15 +17,14 @@ pub struct Dims {
 
 /// The dimensions of a type without Streams.
 pub fn no_dims() -> Dims
-    ensures over { result.over ≡ 0 }
-    ensures own { result.own ≡ 0 }
+    ensures { result ≡ spec.no_dims }
 {
     Dims { over: 0, own: 0 }
 }
 
 /// The dimensions of types beside one another.
 pub fn dims_beside(one: &Dims, other: &Dims) -> Dims
-    ensures { AreDimsJoined one.now other.now result }
+    ensures { result ≡ spec.dims_beside one.now other.now }
 {
     Dims {
         over: one.over.max(other.over),
@@ -36,7 +34,7 @@ pub fn dims_beside(one: &Dims, other: &Dims) -> Dims
 
 /// The dimensions of a Stream around such types.
 pub fn dims_in_stream(dims: u64, sync: Sync, inside: &Dims) -> Dims
-    ensures { AreDimsIn dims sync inside.now result }
+    ensures { result ≡ spec.dims_in_stream dims sync inside.now }
 {
     let most = dims.saturating_add(inside.over);
     match sync {
@@ -53,7 +51,7 @@ pub fn dims_in_stream(dims: u64, sync: Sync, inside: &Dims) -> Dims
 
 /// Whether such types are within the limits where there is no Stream around them.
 pub fn are_dims_few(dims: &Dims) -> bool
-    ensures { IsTrue result → HasDims outermost.dims dims.now }
+    ensures { result ≡ (nat_le dims.now.over 32 && nat_le dims.now.own 32) }
 {
     dims.over <= MOST_DIMS && dims.own <= MOST_DIMS
 }

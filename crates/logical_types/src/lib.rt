@@ -27,6 +27,7 @@ pub use rates::Rates;
 pub use shared::Shared;
 pub use streams::{Around, around_outermost, inside};
 pub use summary::{
-    PartsSummary, Summary, summary_of_bits, summary_of_no_parts, summary_of_null, summary_of_stream,
+    PartsSummary, Summary, summaries_are_of_the_type, summary_of_bits, summary_of_no_parts,
+    summary_of_null, summary_of_stream,
 };
 pub use widths::{saturated_width, union_width, width};

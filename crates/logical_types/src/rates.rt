@@ -1,10 +1,9 @@
 //! What the throughputs of the Streams in a type come to, whatever is around it.
 
-ghost use Rattle.std.specs.Prelude.{◌≡◌, ◌⊎◌, ◌≤◌, IsTrue, IfSome};
-ghost use Rattle.logical_types.specs.Faults.{outermost};
-ghost use Rattle.logical_types.specs.Summary.{AreJoined, AreRates, AreRatesIn, HasRates, IsUpTo};
+ghost use Rattle.std.specs.Prelude.{◌≡◌, ◌*◌, nat_le, Some, None, if◌then◌else◌};
+ghost use Rattle.logical_types.specs.Summary as spec;
 
-use crate::streams::{MOST_LANES, around_outermost};
+use crate::streams::{MOST_LANES, around_outermost, product_inside};
 use tydi_base::Frac;
 
 /// Of the ways from a type down to the Streams in it, the greatest products of the throughputs on them. The way that stays at the
@@ -21,7 +20,7 @@ pub struct Rates {
 
 /// The rates of a type without Streams.
 pub fn no_rates() -> Rates
-    ensures { AreRates result }
+    ensures { result ≡ spec.no_rates }
 {
     Rates {
         num: 1,
@@ -32,7 +31,7 @@ pub fn no_rates() -> Rates
 
 /// The rates of types beside one another.
 pub fn rates_beside(one: &Rates, other: &Rates) -> Rates
-    ensures { AreRates one.now → AreRates other.now → AreJoined one.now other.now result }
+    ensures { result ≡ spec.rates_beside one.now other.now }
 {
     Rates {
         num: one.num.max(other.num),
@@ -43,14 +42,11 @@ pub fn rates_beside(one: &Rates, other: &Rates) -> Rates
 
 /// The rates of a Stream of this throughput around such types. None where the throughput is zero, or a product does not fit.
 pub fn rates_in_stream(throughput: Frac, inside: &Rates) -> Option<Rates>
-    ensures { AreRates inside.now → IfSome result (AreRatesIn throughput inside.now) }
+    ensures { result ≡ (if spec.has_rates_inside throughput inside.now then Some (spec.rates_in_stream throughput inside.now) else None) }
 {
-    if throughput.num() == 0 {
-        return None;
-    }
+    let product = product_inside(throughput, inside.product)?;
     let num = throughput.num().checked_mul(inside.num)?;
     let den = throughput.den().checked_mul(inside.den)?;
-    let product = throughput.times(inside.product)?;
     Some(Rates {
         num,
         den,
@@ -60,19 +56,14 @@ pub fn rates_in_stream(throughput: Frac, inside: &Rates) -> Option<Rates>
 
 /// Whether such types are within the limits where there is no Stream around them.
 pub fn are_rates_few(rates: Rates) -> bool
-    ensures { IsTrue result → HasRates outermost.product rates }
+    ensures { result ≡ nat_le rates.product.num (128 * rates.product.den) }
 {
-    // That these fit 64 bits is known where they are read.
-    let (_num, _den) = (rates.num, rates.den);
     rates.product.ceil() <= MOST_LANES
 }
 
 // The greater of two fractions.
 fn greater(one: Frac, other: Frac) -> Frac
-    ensures chosen { (result ≡ one) ⊎ (result ≡ other) }
-    ensures one { IsUpTo one result }
-    ensures other { IsUpTo other result }
-    ensures some { 1 ≤ result.den }
+    ensures { result ≡ spec.greater one other }
 {
     if one.num() as u128 * other.den() as u128 <= other.num() as u128 * one.den() as u128 {
         other

@@ -49,8 +49,8 @@ pub fn inside(stream: &StreamType, around: &Around) -> Result<Around, TypeFault>
     Ok(Around { product, dims })
 }
 
-// The product of a throughput with that around it. None where it is zero or does not fit.
-fn product_inside(throughput: Frac, around: Frac) -> Option<Frac>
+/// The product of a throughput with that around it. None where it is zero or does not fit.
+pub(crate) fn product_inside(throughput: Frac, around: Frac) -> Option<Frac>
     ensures none { IfNone result (is_bad_throughput around throughput ≡ true) }
     ensures some { IfSome result (λ product. (is_bad_throughput around throughput ≡ false) × (product ≡ product_of around throughput)) }
 {

@@ -1,11 +1,11 @@
 //! What is known of a type without what it holds. From the summaries of the parts of a type follows its own, so a type of many nodes
 //! is shown to be valid by the summaries of the types that it names. Where there is none, or it is over a limit, nothing is known.
 
-ghost use Rattle.std.specs.Prelude.{◌≡◌, ℕ, false, List, IsTrue, IfSome};
+ghost use Rattle.std.specs.Prelude.{◌≡◌, Some, IsTrue};
 ghost use Rattle.logical_types.specs.Faults.{IsValid};
-ghost use Rattle.logical_types.specs.Names.{has_name_twice};
-ghost use Rattle.logical_types.specs.Summary.{AreRates, HasSettings, IsAround, IsSummary, IsSummed};
-ghost use Rattle.logical_types.specs.Tree.{Ltype, null, bits, group, union, stream, Parts, no_parts, part, Settings, names_of, number_of_parts};
+ghost use Rattle.logical_types.specs.Summary as spec;
+ghost use Rattle.logical_types.specs.Summary.{SummariesAreOfTheType};
+ghost use Rattle.logical_types.specs.Tree.{Ltype};
 
 use crate::checking::MOST_BITS;
 use crate::dims::{Dims, are_dims_few, dims_beside, dims_in_stream, no_dims};
@@ -37,14 +37,14 @@ pub struct PartsSummary {
 
 /// The summary of Null.
 pub fn summary_of_null() -> Summary
-    ensures { IsSummary null result }
+    ensures { result ≡ spec.without_stream 0 }
 {
     without_stream(0)
 }
 
 /// The summary of a Bits, if it has no fault.
 pub fn summary_of_bits(width: u64) -> Option<Summary>
-    ensures { IfSome result (IsSummary (bits width)) }
+    ensures { result ≡ spec.of_bits width }
 {
     if width == 0 || width > u64::from(MOST_BITS) {
         return None;
@@ -54,9 +54,7 @@ pub fn summary_of_bits(width: u64) -> Option<Summary>
 
 // The summary of a type of this width without Streams.
 fn without_stream(width: u32) -> Summary
-    ensures width { result.width ≡ width }
-    ensures has_stream { result.has_stream ≡ false }
-    ensures rates { AreRates result.rates }
+    ensures { result ≡ spec.without_stream width }
 {
     Summary {
         width,
@@ -74,8 +72,7 @@ pub fn summary_of_stream(
     dims: u64,
     sync: Sync,
 ) -> Option<Summary>
-    ensures { (one other : Ltype) (settings : Settings) → IsSummary one element.now → IsSummary other user.now → HasSettings throughput dims sync settings
-        → IfSome result (IsSummary (stream one other settings)) }
+    ensures { result ≡ spec.of_stream throughput dims sync element.now user.now }
 {
     if user.has_stream {
         return None;
@@ -92,7 +89,7 @@ pub fn summary_of_stream(
 
 /// The summary of no parts.
 pub fn summary_of_no_parts() -> PartsSummary
-    ensures { (all : Parts) → IsSummed all all result }
+    ensures { result ≡ spec.of_no_parts }
 {
     PartsSummary {
         total: 0,
@@ -106,7 +103,7 @@ pub fn summary_of_no_parts() -> PartsSummary
 impl PartsSummary {
     /// The summary of these parts and one more.
     pub fn and(&self, one: &Summary) -> PartsSummary
-        ensures { (all rest : Parts) (name : List ℕ) (ltype : Ltype) → IsSummed all (part name ltype rest) self.now → IsSummary ltype one.now → IsSummed all rest result }
+        ensures { result ≡ spec.of_parts_and self.now one.now }
     {
         PartsSummary {
             total: self.total.saturating_add(one.width),
@@ -119,14 +116,14 @@ impl PartsSummary {
 
     /// The summary of a Group of these parts, which have no two equal names.
     pub fn in_group(&self) -> Option<Summary>
-        ensures { (all : Parts) → IsSummed all no_parts self.now → has_name_twice (names_of all) ≡ false → IfSome result (IsSummary (group all)) }
+        ensures { result ≡ spec.of_group self.now }
     {
         self.within(self.total)
     }
 
     /// The summary of a Union of these parts, so many, which have no two equal names.
     pub fn in_union(&self, variants: usize) -> Option<Summary>
-        ensures { (all : Parts) → IsSummed all no_parts self.now → number_of_parts all ≡ variants → has_name_twice (names_of all) ≡ false → IfSome result (IsSummary (union all)) }
+        ensures { result ≡ spec.of_union self.now variants }
     {
         if variants == 0 {
             return None;
@@ -136,7 +133,7 @@ impl PartsSummary {
 
     // The summary of a type of this width around these parts, unless it is too wide.
     fn within(&self, width: u32) -> Option<Summary>
-        ensures { IfSome result (IsAround self.now width) }
+        ensures { result ≡ spec.around self.now width }
     {
         if width > MOST_BITS {
             return None;
@@ -153,8 +150,14 @@ impl PartsSummary {
 impl Summary {
     /// Whether a type with this summary is valid, as far as the summary shows.
     pub fn shows_valid(&self) -> bool
-        ensures { (ltype : Ltype) → IsSummary ltype self.now → IsTrue result → IsValid ltype }
+        ensures told { result ≡ spec.shows_valid self.now }
+        ensures valid { (ltype : Ltype) → spec.summary_of ltype ≡ Some self.now → IsTrue result → IsValid ltype }
     {
         are_rates_few(self.rates) && are_dims_few(&self.dims)
     }
 }
+
+/// The law of summaries: what the summary of a type says of it is so.
+pub fn summaries_are_of_the_type()
+    ensures { SummariesAreOfTheType }
+{}
