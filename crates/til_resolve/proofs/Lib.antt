@@ -26,7 +26,7 @@ mod ShapeLemmas
 mod ChainLemmas
 mod TableLemmas
 mod EntryLemmas
-mod SummaryLemmas
+mod FoldLemmas
 mod WrittenLemmas
 mod MisshapenLemmas
 mod BadTypeLemmas

@@ -17,6 +17,7 @@ pub mod Graph
 pub mod Suspects
 pub mod Shapes
 pub mod Tables
+pub mod Folds
 pub mod Written
 pub mod Chains
 pub mod BadTypes

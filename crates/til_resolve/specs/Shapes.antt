@@ -1,10 +1,8 @@
 -- How large types are, up to where they are too large, by the shapes of the declarations that they name. It serves the search for
 -- types that are too large or no Stream, and no public clause.
-use Rattle.std.specs.Prelude.{◌≡◌, ℕ, zero, suc, ◌+◌, ◌||◌, ◌&&◌, nat_lt, min, max, not, Bool, false, true, List, [], ◌∷◌, slice_index_or, Option, Some, None, IsTrue}
-use Rattle.til_parser.specs.declared.ltype.AstPart.{AstPart}
+use Rattle.std.specs.Prelude.{ℕ, zero, suc, ◌+◌, ◌||◌, ◌&&◌, nat_lt, min, max, not, Bool, false, true, List, slice_index_or, Option, Some, None, IsTrue}
 use Rattle.til_parser.specs.declared.tree.AstName.{AstName}
-use Rattle.til_parser.specs.Tree as tree
-use Rattle.til_parser.specs.Tree.{plain}
+use Rattle.logical_types.specs.Fold.{Layers}
 use Rattle.logical_types.specs.Size.{number_of_nodes, depth_of}
 use Rattle.logical_types.specs.Tree.{Ltype, null}
 use Rattle.til_resolve.specs.declared.shape.Shape.{Shape}
@@ -36,26 +34,17 @@ beside one other = record { nodes = min (one.nodes + other.nodes) 65537; depth =
 abbrev pub around : Bool → Shape → Shape
 around is_stream inside = record { nodes = min (inside.nodes + 1) 65537; depth = min (inside.depth + 1) 65; stream = is_stream }
 
--- ---- shapes of written types
-
--- the shape of a written type, where its paths have such shapes
-abbrev mutual
-  pub shape_by : (List AstName → Shape) → tree.Ltype → Shape
-  shape_by of tree.null = leaf
-  shape_by of (tree.bits width) = leaf
-  shape_by of (tree.group parts) = around false (shape_by_parts of parts)
-  shape_by of (tree.union parts) = around false (shape_by_parts of parts)
-  shape_by of (tree.stream element user settings) = around true (beside (shape_by of element) (shape_by of user))
-  shape_by of (tree.path names) = of names
-
-  pub shape_by_parts : (List AstName → Shape) → tree.Parts → Shape
-  shape_by_parts of tree.no_parts = nothing
-  shape_by_parts of (tree.part name ltype more) = beside (shape_by of ltype) (shape_by_parts of more)
-
--- the same of a list of parts
-abbrev pub shape_by_list : (List AstName → Shape) → List AstPart → Shape
-shape_by_list of [] = nothing
-shape_by_list of (first ∷ more) = beside (shape_by of (plain first.ltype)) (shape_by_list of more)
+-- what types come to as shapes
+abbrev pub shape_layers : Layers Shape Shape
+shape_layers = record {
+  of_null = leaf;
+  of_bits = λ width. leaf;
+  of_group = λ names inside. around false inside;
+  of_union = λ names inside. around false inside;
+  of_stream = λ settings element user. around true (beside element user);
+  of_no_parts = nothing;
+  of_part = beside;
+}
 
 -- ---- tables of what is known of declarations
 
@@ -67,14 +56,6 @@ entry_of_number least table (Some one) = slice_index_or table one least
 -- the entry of the type that a path names in a namespace
 abbrev pub entry_named : {X : Type 0} → X → List Declaration → List X → List (List ℕ) → List AstName → X
 entry_named least all table space names = entry_of_number least table (named_as is_type all space (record { names = names }))
-
--- the shape of the type that a path names in a namespace, by a table
-abbrev pub shape_named : List Declaration → List Shape → List (List ℕ) → List AstName → Shape
-shape_named = entry_named leaf
-
--- this is the shape of a type
-abbrev pub IsShapeOf : Ltype → Shape → Type 0
-IsShapeOf ltype shape = shape ≡ shape_of ltype
 
 -- the type of a declaration, with so many names replaced inside one another at most
 abbrev pub type_at : List Declaration → ℕ → ℕ → Ltype

@@ -8,8 +8,7 @@ use Rattle.til_resolve.specs.Cycles.{paths_of_alias}
 use Rattle.til_resolve.specs.Declarations.{Declaration, declaration, named_as, is_type}
 use Rattle.til_resolve.specs.Graph.{rank_of}
 use Rattle.til_resolve.specs.Names.{paths_in}
-use Rattle.til_resolve.specs.declared.shape.Shape.{Shape}
-use Rattle.til_resolve.specs.Shapes.{leaf, IsShapeOf, type_at}
+use Rattle.til_resolve.specs.Shapes.{type_at}
 use Rattle.til_resolve.specs.Types.{meaning_of, replaced}
 
 -- a table has the entry of each declaration, with so many names replaced inside one another at most
@@ -41,7 +40,3 @@ pub record AreEntriesBelow {X : Type 0} (least : X) (Is : Ltype → X → Type 0
   pub long : length table ≡ length all
   pub each : (one depth : ℕ) → one < length all → rank_of ranks one < end → rank_of ranks one ≤ depth → Is (type_at all depth one) (slice_index_or table one least)
   pub rest : (one : ℕ) → one < length all → end ≤ rank_of ranks one → slice_index_or table one least ≡ least
-
--- a table has the shape of each declaration
-abbrev pub IsTable : List Declaration → ℕ → List Shape → Type 0
-IsTable = AreEntries leaf IsShapeOf

@@ -2,7 +2,8 @@
 //! none: then it nearly always has one, and no type behind it is looked at. What was found of a declaration's type serves all that
 //! name it alone.
 
-ghost use Rattle.std.specs.Prelude.{◌≡◌, ◌<◌, List, length, slice_set, IsTrue, IfOk, None};
+ghost use Rattle.std.specs.Prelude.{◌≡◌, ◌<◌, ◌↔◌, List, All, length, slice_set, IsTrue, IfOk, None};
+ghost use Rattle.logical_types.specs.Summary.{summarized};
 ghost use Rattle.logical_types.specs.Tree.{plain};
 ghost use Rattle.til_resolve.specs.BadTypes.{AreAcyclic, IsFirstBad, AreFindings, bad_type, earlier_bad, first_fault};
 ghost use Rattle.til_resolve.specs.BadTypes as spec;
@@ -10,7 +11,8 @@ ghost use Rattle.til_resolve.specs.Faults.{IsToldUpTo, written_types};
 ghost use Rattle.til_resolve.specs.Scope.{declarations_of};
 ghost use Rattle.til_resolve.specs.Shapes.{type_at};
 ghost use Rattle.til_resolve.specs.SharedTypes.{ltype_at};
-ghost use Rattle.til_resolve.specs.Summaries.{AreSummaries};
+ghost use Rattle.til_resolve.specs.Summaries.{is_shown_valid};
+ghost use Rattle.til_resolve.specs.Folds.{AreFolds};
 ghost use Rattle.til_resolve.specs.Declarations.{Declaration, declaration};
 ghost use Rattle.til_parser.specs.Tree as tree;
 ghost use Rattle.til_resolve.specs.Types.{type_of};
@@ -75,8 +77,9 @@ fn are_shown_valid<'a>(
 ) -> bool
     requires written { AreWritten (declarations_of scope.now.declared) written.now }
     requires acyclic { AreAcyclic (declarations_of scope.now.declared) }
-    requires table { AreSummaries (declarations_of scope.now.declared) (length (declarations_of scope.now.declared)) table.now }
-    ensures { IsTrue result → IsFirstBad (written_types (declarations_of scope.now.declared)) None }
+    requires table { AreFolds summarized (declarations_of scope.now.declared) (length (declarations_of scope.now.declared)) table.now }
+    ensures shown { IsTrue result ↔ All (λ one. IsTrue (is_shown_valid (ltype_of (declarations_of scope.now.declared) one))) written.now }
+    ensures valid { IsTrue result → IsFirstBad (written_types (declarations_of scope.now.declared)) None }
 {
     'written: for one in written {
         if !is_shown_valid(scope, one, table) {
@@ -95,7 +98,7 @@ fn first_checked<'a>(
 ) -> Result<Option<BadType>, Memory>
     requires written { AreWritten (declarations_of scope.now.declared) written.now }
     requires acyclic { AreAcyclic (declarations_of scope.now.declared) }
-    requires table { AreSummaries (declarations_of scope.now.declared) (length (declarations_of scope.now.declared)) table.now }
+    requires table { AreFolds summarized (declarations_of scope.now.declared) (length (declarations_of scope.now.declared)) table.now }
     ensures { IfOk result (IsFirstBad (written_types (declarations_of scope.now.declared))) }
 {
     let mut findings = nothing_found(alloc, scope)?;
@@ -126,7 +129,7 @@ fn or_bad<'a>(
     findings: &mut Findings,
     found: Option<BadType>,
 ) -> Result<Option<BadType>, Memory>
-    requires table { AreSummaries (declarations_of scope.now.declared) (length (declarations_of scope.now.declared)) table.now }
+    requires table { AreFolds summarized (declarations_of scope.now.declared) (length (declarations_of scope.now.declared)) table.now }
     requires within { IsWithin (declarations_of scope.now.declared) one.now }
     requires acyclic { AreAcyclic (declarations_of scope.now.declared) }
     requires findings { AreFindings (declarations_of scope.now.declared) findings.old }

@@ -2,8 +2,9 @@
 
 ghost use Rattle.std.specs.Prelude.{◌≡◌, length, IfOk, None};
 ghost use Rattle.til_resolve.specs.Faults.{IsToldUpTo};
+ghost use Rattle.til_resolve.specs.Folds.{AreFolds};
 ghost use Rattle.til_resolve.specs.Scope.{declarations_of};
-ghost use Rattle.til_resolve.specs.Tables.{IsTable};
+ghost use Rattle.til_resolve.specs.Shapes.{shape_layers};
 ghost use Rattle.til_resolve.specs.Sought as spec;
 ghost use Rattle.til_resolve.specs.Written.{AreWritten};
 
@@ -46,7 +47,7 @@ fn first_type_fault<'a>(
     table: &[Shape],
 ) -> Result<Option<ResolveFault>, Memory>
     requires written { AreWritten (declarations_of scope.now.declared) written.now }
-    requires table { IsTable (declarations_of scope.now.declared) (length (declarations_of scope.now.declared)) table.now }
+    requires table { AreFolds shape_layers (declarations_of scope.now.declared) (length (declarations_of scope.now.declared)) table.now }
     requires early { IsToldUpTo (declarations_of scope.now.declared) 3 None }
     ensures { IfOk result (IsToldUpTo (declarations_of scope.now.declared) 5) }
 {

@@ -3,16 +3,17 @@
 ghost use Rattle.std.specs.Prelude.{◌≡◌, ◌<◌, [], ◌∷◌, length};
 ghost use Rattle.til_resolve.specs.Earliest.{IsEarliest};
 ghost use Rattle.til_resolve.specs.Faults.{HasTypeAt, written_types};
+ghost use Rattle.til_resolve.specs.Folds.{AreFolds};
 ghost use Rattle.til_resolve.specs.Scope.{declarations_of};
 ghost use Rattle.til_resolve.specs.Shapes as spec;
-ghost use Rattle.til_resolve.specs.Shapes.{IsMisshapen, shape_of};
-ghost use Rattle.til_resolve.specs.Tables.{IsTable};
+ghost use Rattle.til_resolve.specs.Shapes.{IsMisshapen, shape_layers, shape_of};
 ghost use Rattle.til_resolve.specs.Written.{AreWritten, IsWithin, in_port, ltype_of, written_type};
 
 use crate::earliest::earlier;
-use crate::measuring::{declared_shape, shape_in};
+use crate::folding::value_of;
 use crate::scope::Scope;
 use crate::shape::Shape;
+use crate::shapes::ShapeFold;
 use crate::written::{Written, place_of};
 use tydi_base::Place;
 
@@ -33,7 +34,7 @@ pub fn first_misshapen<'a>(
     sort: Sort,
 ) -> Option<Place>
     requires written { AreWritten (declarations_of scope.now.declared) written.now }
-    requires table { IsTable (declarations_of scope.now.declared) (length (declarations_of scope.now.declared)) table.now }
+    requires table { AreFolds shape_layers (declarations_of scope.now.declared) (length (declarations_of scope.now.declared)) table.now }
     ensures { IsEarliest (HasTypeAt (IsMisshapen sort) (written_types (declarations_of scope.now.declared))) result }
 {
     let mut found = None;
@@ -51,7 +52,7 @@ fn misshapen_at<'a>(
     sort: Sort,
 ) -> Option<Place>
     requires within { IsWithin (declarations_of scope.now.declared) one.now }
-    requires table { IsTable (declarations_of scope.now.declared) (length (declarations_of scope.now.declared)) table.now }
+    requires table { AreFolds shape_layers (declarations_of scope.now.declared) (length (declarations_of scope.now.declared)) table.now }
     ensures { IsEarliest (HasTypeAt (IsMisshapen sort) (written_type (declarations_of scope.now.declared) one.now ∷ [])) result }
 {
     let shape = shape_of(scope, one, table);
@@ -60,13 +61,10 @@ fn misshapen_at<'a>(
 
 fn shape_of<'a>(scope: &Scope<'a>, one: &Written<'a>, table: &[Shape]) -> Shape
     requires within { IsWithin (declarations_of scope.now.declared) one.now }
-    requires table { IsTable (declarations_of scope.now.declared) (length (declarations_of scope.now.declared)) table.now }
+    requires table { AreFolds shape_layers (declarations_of scope.now.declared) (length (declarations_of scope.now.declared)) table.now }
     ensures { result ≡ shape_of (ltype_of (declarations_of scope.now.declared) one.now) }
 {
-    match one {
-        Written::Declared(number) => declared_shape(scope, *number, table),
-        Written::Port { number, port } => shape_in(scope, *number, &port.ltype, table),
-    }
+    value_of::<ShapeFold>(scope, one, table)
 }
 
 fn is_in_port(one: &Written<'_>) -> bool
