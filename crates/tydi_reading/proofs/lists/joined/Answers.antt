@@ -1,4 +1,4 @@
-use Rattle.std.proofs.Common.{true, rules, arith, ◌∙◌, ap}
+use Rattle.std.proofs.Common.{true, rules, arith}
 use Rattle.std.specs.Prelude.{not}
 use Rattle.std.proofs.lemmas.Grind.{common_steps}
 use Rattle.tydi_reading.specs.Lists.{after_joint, joined}
