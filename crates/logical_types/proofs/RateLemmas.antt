@@ -1,16 +1,41 @@
 -- Room around a type for the throughputs in it: of types beside one another, and of a Stream around them.
-use Rattle.std.proofs.Common.{◌≡◌, ℕ, zero, suc, ◌*◌, ◌^◌, ◌<◌, ◌≤◌, ◌⊎◌, inl, inr, Bool, true, false, not, ◌&&◌, ◌||◌, cond, eqb, leb, ltb, max, refl, sym, ap, ◌∙◌, subst, arith}
+use Rattle.std.proofs.Common.{◌≡◌, ℕ, zero, suc, ◌+◌, ◌*◌, ◌^◌, ◌<◌, ◌≤◌, ◌⊎◌, inl, inr, Bool, true, false, not, ◌&&◌, ◌||◌, cond, eqb, leb, ltb, max, refl, sym, ap, ◌∙◌, subst, arith}
 use Rattle.std.proofs.lemmas.Bool.{leb-true, leb-false, ltb-true}
 use Rattle.std.proofs.lemmas.Bool.Decides.{nat_tests}
 use Rattle.std.proofs.Math.Nat.{mul_assoc, mul_comm, zero-mul, mul_right_comm, mul-le-mul_left, mul-le-mul_right, le_of_mul-le-mul_right, le-mul_of_pos_right, one-le-mul, div-mul_cancel}
 use Rattle.tydi_base.specs.Frac.{Fraction}
-use Rattle.logical_types.specs.Summary.{IsUpTo, AreRates, HasRates, AreJoined, AreRatesIn, AreDimsIn, AreDimsJoined, dims_beside, dims_in_stream, greater, has_rates_inside, no_rates, rates_beside, rates_in_stream}
+use Rattle.logical_types.specs.Summary.{AreRates, HasDims, HasRates, dims_beside, dims_in_stream, greater, has_rates_inside, no_rates, rates_beside, rates_in_stream}
+use Rattle.logical_types.specs.Faults.{dims_taken_over}
 use Rattle.logical_types.specs.Throughput.{divides, divisor_up_to, fits_words, greatest_divisor, lowest, product_of}
 use Rattle.logical_types.specs.declared.dims.Dims.{Dims}
 use Rattle.logical_types.specs.declared.ltype.Sync.{Sync}
 use Rattle.logical_types.specs.declared.ltype.Sync.TheVariants as syncs
 use Rattle.logical_types.specs.declared.rates.Rates.{Rates}
 use Rattle.logical_types.proofs.ThroughputLemmas.{up_to-divides}
+
+-- a fraction is no greater than another
+abbrev pub IsUpTo : Fraction → Fraction → Type 0
+IsUpTo one other = one.num * other.den ≤ other.num * one.den
+
+-- what leaves room for these leaves room for both
+pub record AreJoined (first second joined : Rates) : Type 0 where
+  pub are : AreRates joined
+  pub one : (around : Fraction) → HasRates around joined → HasRates around first
+  pub other : (around : Fraction) → HasRates around joined → HasRates around second
+
+-- what leaves room for these leaves room for a Stream of this throughput, and inside it for what is there
+pub record AreRatesIn (throughput : Fraction) (inner rates : Rates) : Type 0 where
+  pub are : AreRates rates
+  pub some : 1 ≤ throughput.num
+  pub inside : (around : Fraction) → HasRates around rates → HasRates (product_of around throughput) inner
+
+-- what leaves room for the dimensions of types leaves room for those beside one another, and for a Stream around them
+pub record AreDimsJoined (first second joined : Dims) : Type 0 where
+  pub one : (around : ℕ) → HasDims around joined → HasDims around first
+  pub other : (around : ℕ) → HasDims around joined → HasDims around second
+
+pub record AreDimsIn (own : ℕ) (sync : Sync) (inner dims : Dims) : Type 0 where
+  pub inside : (around : ℕ) → HasDims around dims → HasDims (own + dims_taken_over sync around) inner
 
 -- ---- fractions
 

@@ -1,5 +1,5 @@
 -- Summaries of types by those of what they hold.
-use Rattle.std.proofs.Common.{◌≡◌, ℕ, ◌+◌, ◌*◌, ◌-◌, ◌^◌, ◌<◌, ◌≤◌, ◌&&◌, Bool, true, false, ◌||◌, suc, cond, leb, ltb, ltb-false, eqb, not, min, List, [], ◌++◌, length, Option, None, Some, refl, sym, ap, ◌∙◌, subst, arith}
+use Rattle.std.proofs.Common.{◌≡◌, ℕ, ◌+◌, ◌*◌, ◌-◌, ◌^◌, ◌<◌, ◌≤◌, ◌&&◌, Bool, true, false, ◌||◌, suc, cond, leb, ltb, ltb-false, eqb, not, min, max, List, [], ◌++◌, length, Option, None, Some, refl, sym, ap, ◌∙◌, subst, arith}
 use Rattle.std.proofs.Math.Nat.{le-mul_of_pos_right, mul-le-mul_left, le_of_mul-le-mul_right}
 use Rattle.std.specs.Option.{option_and_then}
 use Rattle.std.proofs.lemmas.Bool.{leb-true}
@@ -16,14 +16,23 @@ use Rattle.logical_types.specs.declared.summary.Summary.{Summary}
 use Rattle.logical_types.specs.declared.summary.PartsSummary.{PartsSummary}
 use Rattle.logical_types.specs.Faults.{inside, nodes, nodes_of_parts, faults_at, faults_within, faults_of_parts, is_bad_throughput, IsValid, outermost}
 use Rattle.logical_types.specs.Names.{has_name_twice}
-use Rattle.logical_types.specs.Summary.{AreRates, HasRates, AreJoined, AreRatesIn, AreDimsJoined, AreDimsIn, HasRoom, IsSummary, IsSummed, SummariesAreOfTheType, around, dims_beside, dims_in_stream, has_rates_inside, of_bits, of_group, of_no_parts, of_parts_and, of_stream, of_union, rates_beside, rates_in_stream, shows_valid, summarized, summary_of, without_stream}
+use Rattle.logical_types.specs.Summary.{AreRates, HasRates, HasRoom, IsSummary, SummariesAreOfTheType, around, dims_beside, dims_in_stream, has_rates_inside, of_bits, of_group, of_no_parts, of_parts_and, of_stream, of_union, rates_beside, rates_in_stream, shows_valid, summarized, summary_of, without_stream}
 use Rattle.logical_types.specs.Fold.{fold_parts}
 use Rattle.logical_types.specs.Tree.{Ltype, null, bits, group, union, stream, Parts, no_parts, part, Settings, has_stream, have_stream, names_of, number_of_parts}
-use Rattle.logical_types.specs.Width.{width_of, total_width, tag_width}
+use Rattle.logical_types.specs.Width.{width_of, total_width, greatest_width, saturated, tag_width}
 use Rattle.logical_types.proofs.FaultLemmas.{passed, faults_within-rest}
-use Rattle.logical_types.proofs.RateLemmas.{AreDimsIn-stream, AreDimsJoined-beside, AreJoined-beside, AreRatesIn-stream, no_rates-are}
+use Rattle.logical_types.proofs.RateLemmas.{AreDimsIn, AreDimsJoined, AreJoined, AreRatesIn, AreDimsIn-stream, AreDimsJoined-beside, AreJoined-beside, AreRatesIn-stream, no_rates-are}
 
 -- ---- parts
+
+-- a summary of the parts that stand before the rest
+pub record IsSummed (all rest : Parts) (sum : PartsSummary) : Type 0 where
+  pub small : sum.total ≤ 2 ^ 32 - 1
+  pub total : saturated (sum.total + total_width rest) ≡ saturated (total_width all)
+  pub widest : max sum.widest (greatest_width rest) ≡ greatest_width all
+  pub has_stream : (sum.has_stream || have_stream rest) ≡ have_stream all
+  pub rates : AreRates sum.rates
+  pub valid : (around : Around) → HasRoom around sum.rates sum.dims → faults_of_parts around rest ≡ [] → faults_of_parts around all ≡ []
 
 or_moves : (a b c d : Bool) → b ≡ c → ((a || b) || d) ≡ (a || (c || d))
 or_moves true b c d same = refl

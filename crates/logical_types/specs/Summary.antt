@@ -3,12 +3,12 @@ use Rattle.std.specs.Prelude.{◌≡◌, ℕ, ◌+◌, ◌-◌, ◌*◌, ◌^◌
 use Rattle.std.specs.Option.{option_and_then, option_map}
 use Rattle.tydi_base.specs.Frac.{Fraction}
 use Rattle.tydi_base.specs.Width.{index_width}
-use Rattle.logical_types.specs.Faults.{dims_taken_over, faults_within, faults_of_parts, is_bad_throughput, outermost}
+use Rattle.logical_types.specs.Faults.{faults_within, is_bad_throughput, outermost}
 use Rattle.logical_types.specs.Fold.{Layers, fold}
 use Rattle.logical_types.specs.Names.{has_name_twice}
 use Rattle.logical_types.specs.Throughput.{product_of}
-use Rattle.logical_types.specs.Tree.{Ltype, Parts, has_stream, have_stream}
-use Rattle.logical_types.specs.Width.{width_of, total_width, greatest_width, saturated}
+use Rattle.logical_types.specs.Tree.{Ltype, has_stream}
+use Rattle.logical_types.specs.Width.{width_of, saturated}
 use Rattle.logical_types.specs.declared.dims.Dims.{Dims}
 use Rattle.logical_types.specs.declared.ltype.Sync.{Sync}
 use Rattle.logical_types.specs.declared.ltype.Sync.TheVariants as syncs
@@ -105,7 +105,7 @@ of_union sum variants = if variants == 0 then None else around sum (saturated (s
 
 -- ---- the summary of a type
 
--- the summary of a type, by those of the types in it
+-- what types come to as summaries
 abbrev pub summarized : Layers (Option Summary) (Option PartsSummary)
 summarized = record {
   of_null = Some (without_stream 0);
@@ -117,8 +117,8 @@ summarized = record {
   of_part = λ before one. option_and_then (λ sum. option_map (of_parts_and sum) one) before;
 }
 
--- None where a part or the type itself has a fault that does not depend on what is around it, or where products on the way to a Stream
--- in it do not fit 64 bits as they stand
+-- the summary of a type: there is none where a type in it has a fault whatever is around it, or where the products of the upper parts, of
+-- the lower parts or of the throughputs on a way to a Stream in it do not fit 64 bits
 abbrev pub summary_of : Ltype → Option Summary
 summary_of ltype = fold summarized ltype
 
@@ -127,10 +127,6 @@ abbrev pub shows_valid : Summary → Bool
 shows_valid summary = nat_le summary.rates.product.num (128 * summary.rates.product.den) && nat_le summary.dims.over 32 && nat_le summary.dims.own 32
 
 -- ---- what a summary says: of throughputs
-
--- a fraction is no greater than another
-abbrev pub IsUpTo : Fraction → Fraction → Type 0
-IsUpTo one other = one.num * other.den ≤ other.num * one.den
 
 -- the way that stays at the type is among those that are counted, so nothing is less than 1
 pub record AreRates (rates : Rates) : Type 0 where
@@ -147,31 +143,12 @@ pub record HasRates (around : Fraction) (rates : Rates) : Type 0 where
   pub den : around.den * rates.den < 2 ^ 64
   pub lanes : around.num * rates.product.num ≤ 128 * around.den * rates.product.den
 
--- what leaves room for these leaves room for both
-pub record AreJoined (first second joined : Rates) : Type 0 where
-  pub are : AreRates joined
-  pub one : (around : Fraction) → HasRates around joined → HasRates around first
-  pub other : (around : Fraction) → HasRates around joined → HasRates around second
-
--- what leaves room for these leaves room for a Stream of this throughput, and inside it for what is there
-pub record AreRatesIn (throughput : Fraction) (inner rates : Rates) : Type 0 where
-  pub are : AreRates rates
-  pub some : 1 ≤ throughput.num
-  pub inside : (around : Fraction) → HasRates around rates → HasRates (product_of around throughput) inner
-
 -- ---- of dimensions
 
 -- so many dimensions around a type leave room for these: at most 32
 pub record HasDims (around : ℕ) (dims : Dims) : Type 0 where
   pub over : around + dims.over ≤ 32
   pub own : dims.own ≤ 32
-
-pub record AreDimsJoined (first second joined : Dims) : Type 0 where
-  pub one : (around : ℕ) → HasDims around joined → HasDims around first
-  pub other : (around : ℕ) → HasDims around joined → HasDims around second
-
-pub record AreDimsIn (own : ℕ) (sync : Sync) (inner dims : Dims) : Type 0 where
-  pub inside : (around : ℕ) → HasDims around dims → HasDims (own + dims_taken_over sync around) inner
 
 -- ---- of types
 
@@ -186,15 +163,6 @@ pub record IsSummary (ltype : Ltype) (summary : Summary) : Type 0 where
   pub has_stream : summary.has_stream ≡ has_stream ltype
   pub rates : AreRates summary.rates
   pub valid : (around : Around) → HasRoom around summary.rates summary.dims → faults_within around ltype ≡ []
-
--- a summary of the parts that stand before the rest
-pub record IsSummed (all rest : Parts) (sum : PartsSummary) : Type 0 where
-  pub small : sum.total ≤ 2 ^ 32 - 1
-  pub total : saturated (sum.total + total_width rest) ≡ saturated (total_width all)
-  pub widest : max sum.widest (greatest_width rest) ≡ greatest_width all
-  pub has_stream : (sum.has_stream || have_stream rest) ≡ have_stream all
-  pub rates : AreRates sum.rates
-  pub valid : (around : Around) → HasRoom around sum.rates sum.dims → faults_of_parts around rest ≡ [] → faults_of_parts around all ≡ []
 
 -- a summary says what it is to say
 abbrev pub SummariesAreOfTheType : Type 0
