@@ -6,5 +6,6 @@ mod SeenLemmas
 pub mod ThroughputLemmas
 mod RateLemmas
 mod SummaryLemmas
+mod ShownLemmas
 pub mod FaultLemmas
 pub mod PlainTypes

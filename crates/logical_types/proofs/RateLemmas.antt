@@ -76,13 +76,13 @@ some_divisor (suc less) one other = by (divides (suc less) one && divides (suc l
     by false below = below
 
 -- both parts of a fraction in lowest terms were divided by one number
-record IsDivided (num den : ℕ) (fraction : Fraction) : Type 0 where
-  by : ℕ
-  some : 1 ≤ by
-  num_is : fraction.num * by ≡ num
-  den_is : fraction.den * by ≡ den
+pub record IsDivided (num den : ℕ) (fraction : Fraction) : Type 0 where
+  pub by : ℕ
+  pub some : 1 ≤ by
+  pub num_is : fraction.num * by ≡ num
+  pub den_is : fraction.den * by ≡ den
 
-lowest-divided : (num den : ℕ) → IsDivided num den (lowest num den)
+pub lowest-divided : (num den : ℕ) → IsDivided num den (lowest num den)
 unfolding lowest greatest_divisor
 lowest-divided num den =
     let both = up_to-divides den num den in
@@ -115,6 +115,8 @@ AreJoined-made one other num den product nums dens chosen left right are these =
     den = omega (arith, are.den, dens);
     num_fits = omega (arith, are.num_fits, these.num_fits, nums);
     den_fits = omega (arith, are.den_fits, these.den_fits, dens);
+    upper = upper chosen;
+    lower = lower chosen;
     some = some chosen;
     whole = whole chosen;
   };
@@ -125,6 +127,14 @@ AreJoined-made one other num den product nums dens chosen left right are these =
     some : (product ≡ one.product) ⊎ (product ≡ other.product) → 1 ≤ product.den
     some (inl is) = subst (λ (p : Fraction). 1 ≤ p.den) (sym is) are.some
     some (inr is) = subst (λ (p : Fraction). 1 ≤ p.den) (sym is) these.some
+
+    upper : (product ≡ one.product) ⊎ (product ≡ other.product) → product.num ≤ num
+    upper (inl is) = subst (λ (p : Fraction). p.num ≤ num) (sym is) (omega (arith, are.upper, nums))
+    upper (inr is) = subst (λ (p : Fraction). p.num ≤ num) (sym is) (omega (arith, these.upper, nums))
+
+    lower : (product ≡ one.product) ⊎ (product ≡ other.product) → product.den ≤ den
+    lower (inl is) = subst (λ (p : Fraction). p.den ≤ den) (sym is) (omega (arith, are.lower, dens))
+    lower (inr is) = subst (λ (p : Fraction). p.den ≤ den) (sym is) (omega (arith, these.lower, dens))
 
     whole : (product ≡ one.product) ⊎ (product ≡ other.product) → product.den ≤ product.num
     whole (inl is) = subst (λ (p : Fraction). p.den ≤ p.num) (sym is) are.whole
@@ -151,16 +161,19 @@ lanes_inside an ad tn td mn md g x y some one other within = le_of_mul-le-mul_ri
     by = subst (λ (n : ℕ). n ≤ 128 * y * md * g) (sym left) (subst (λ (n : ℕ). an * tn * mn ≤ n) (sym right) within)
 
 AreRatesIn-made : (throughput product : Fraction) (inner rates : Rates) → 1 ≤ throughput.num → 1 ≤ throughput.den → rates.num < 2 ^ 64 → rates.den < 2 ^ 64
+    → rates.product.num ≤ rates.num → rates.product.den ≤ rates.den
     → rates.num ≡ throughput.num * inner.num → rates.den ≡ throughput.den * inner.den
     → 1 ≤ product.den → product.num * (throughput.den * inner.product.den) ≡ throughput.num * inner.product.num * product.den
     → IsUpTo product rates.product → IsUpTo (record { num = 1; den = 1 }) rates.product → 1 ≤ rates.product.den
     → AreRates inner → AreRatesIn throughput inner rates
-AreRatesIn-made throughput product inner rates upper lower num_fits den_fits nums dens whole value left right some are = record {
+AreRatesIn-made throughput product inner rates upper lower num_fits den_fits below_num below_den nums dens whole value left right some are = record {
   are = record {
     num = omega (arith, nums, one-le-mul upper are.num);
     den = omega (arith, dens, one-le-mul lower are.den);
     num_fits = num_fits;
     den_fits = den_fits;
+    upper = below_num;
+    lower = below_den;
     some = some;
     whole = omega (arith, right);
   };
@@ -200,9 +213,20 @@ product-value one other left right = by (product_of other one) (lowest-divided (
             ∙ sym (mul_assoc product.num divided.by product.den)
             ∙ ap (λ (n : ℕ). n * product.den) (divided.num_is ∙ mul_comm other.num one.num)
 
+-- its parts are no greater than the products of greater parts
+pub product-below : (one other : Fraction) (num den : ℕ) → other.num ≤ num → other.den ≤ den
+    → ((product_of other one).num ≤ one.num * num) × ((product_of other one).den ≤ one.den * den)
+product-below one other num den upper lower = by (product_of other one) (lowest-divided (other.num * one.num) (other.den * one.den))
+  where
+    by : (product : Fraction) → IsDivided (other.num * one.num) (other.den * one.den) product → (product.num ≤ one.num * num) × (product.den ≤ one.den * den)
+    by product divided = (
+      omega (arith, le-mul_of_pos_right product.num divided.some, divided.num_is, mul-le-mul_right one.num upper, mul_comm num one.num),
+      omega (arith, le-mul_of_pos_right product.den divided.some, divided.den_is, mul-le-mul_right one.den lower, mul_comm den one.den),
+    )
+
 -- ---- the rates of types without Streams, of types beside one another, and of a Stream
 
-greater-chosen : (one other : Fraction) → (greater one other ≡ one) ⊎ (greater one other ≡ other)
+pub greater-chosen : (one other : Fraction) → (greater one other ≡ one) ⊎ (greater one other ≡ other)
 greater-chosen one other = by (leb (one.num * other.den) (other.num * one.den))
   where
     by : (less : Bool) → (cond less other one ≡ one) ⊎ (cond less other one ≡ other)
@@ -217,7 +241,7 @@ greater-up_to one other = by (leb (one.num * other.den) (other.num * one.den)) r
     by false is = (omega arith, omega (arith, leb-false (one.num * other.den) (other.num * one.den) is))
 
 pub no_rates-are : AreRates no_rates
-no_rates-are = record { num = omega arith; den = omega arith; num_fits = omega arith; den_fits = omega arith; some = omega arith; whole = omega arith }
+no_rates-are = record { num = omega arith; den = omega arith; num_fits = omega arith; den_fits = omega arith; upper = omega arith; lower = omega arith; some = omega arith; whole = omega arith }
 
 pub AreJoined-beside : (one other : Rates) → AreRates one → AreRates other → AreJoined one other (rates_beside one other)
 AreJoined-beside one other are these =
@@ -254,14 +278,18 @@ AreRatesIn-stream throughput inner room are =
     let some = room-parts throughput inner room in
     let product = product-value throughput inner.product some.den are.some in
     let up_to = greater-up_to (product_of inner.product throughput) (record { num = 1; den = 1 }) in
-    AreRatesIn-made throughput (product_of inner.product throughput) inner (rates_in_stream throughput inner) some.num some.den some.num_fits some.den_fits refl refl product.0 product.1 up_to.0 up_to.1
-    (whole (greater-chosen (product_of inner.product throughput) (record { num = 1; den = 1 })) product.0) are
+    let below = product-below throughput inner.product inner.num inner.den are.upper are.lower in
+    let chosen = greater-chosen (product_of inner.product throughput) (record { num = 1; den = 1 }) in
+    AreRatesIn-made throughput (product_of inner.product throughput) inner (rates_in_stream throughput inner) some.num some.den some.num_fits some.den_fits
+    (kept (λ p. p.num ≤ throughput.num * inner.num) chosen below.0 (one-le-mul some.num are.num)) (kept (λ p. p.den ≤ throughput.den * inner.den) chosen below.1 (one-le-mul some.den are.den)) refl refl product.0 product.1 up_to.0 up_to.1
+    (kept (λ p. 1 ≤ p.den) chosen product.0 (omega arith)) are
   where
-    whole : (greater (product_of inner.product throughput) (record { num = 1; den = 1 }) ≡ product_of inner.product throughput)
+    -- what is so of both is so of the greater
+    kept : (Is : Fraction → Type 0) → (greater (product_of inner.product throughput) (record { num = 1; den = 1 }) ≡ product_of inner.product throughput)
         ⊎ (greater (product_of inner.product throughput) (record { num = 1; den = 1 }) ≡ record { num = 1; den = 1 })
-        → 1 ≤ (product_of inner.product throughput).den → 1 ≤ (greater (product_of inner.product throughput) (record { num = 1; den = 1 })).den
-    whole (inl is) some = subst (λ (p : Fraction). 1 ≤ p.den) (sym is) some
-    whole (inr is) some = subst (λ (p : Fraction). 1 ≤ p.den) (sym is) (omega arith)
+        → Is (product_of inner.product throughput) → Is (record { num = 1; den = 1 }) → Is (greater (product_of inner.product throughput) (record { num = 1; den = 1 }))
+    kept Is (inl is) product one = subst Is (sym is) product
+    kept Is (inr is) product one = subst Is (sym is) one
 
 -- ---- dimensions
 

@@ -16,7 +16,7 @@ use Rattle.logical_types.specs.declared.summary.Summary.{Summary}
 use Rattle.logical_types.specs.declared.summary.PartsSummary.{PartsSummary}
 use Rattle.logical_types.specs.Faults.{inside, nodes, nodes_of_parts, faults_at, faults_within, faults_of_parts, is_bad_throughput, IsValid, outermost}
 use Rattle.logical_types.specs.Names.{has_name_twice}
-use Rattle.logical_types.specs.Summary.{AreRates, HasRates, HasRoom, IsSummary, SummariesAreOfTheType, around, dims_beside, dims_in_stream, has_rates_inside, of_bits, of_group, of_no_parts, of_parts_and, of_stream, of_union, rates_beside, rates_in_stream, shows_valid, summarized, summary_of, without_stream}
+use Rattle.logical_types.specs.Summary.{AreRates, HasRates, HasRoom, IsSummary, SummariesAreOfTheType, around, dims_beside, dims_in_stream, has_rates_inside, of_bits, of_group, of_no_parts, of_parts_and, of_stream, of_union, rates_beside, rates_in_stream, shows_valid, summarized, summary_of, without_stream, greatest_product, greatest_product_in}
 use Rattle.logical_types.specs.Fold.{fold_parts}
 use Rattle.logical_types.specs.Tree.{Ltype, null, bits, group, union, stream, Parts, no_parts, part, Settings, has_stream, have_stream, names_of, number_of_parts}
 use Rattle.logical_types.specs.Width.{width_of, total_width, greatest_width, saturated, tag_width}
@@ -32,6 +32,8 @@ pub record IsSummed (all rest : Parts) (sum : PartsSummary) : Type 0 where
   pub widest : max sum.widest (greatest_width rest) ≡ greatest_width all
   pub has_stream : (sum.has_stream || have_stream rest) ≡ have_stream all
   pub rates : AreRates sum.rates
+  pub num : max sum.rates.num (greatest_product_in (λ throughput. throughput.num) rest) ≡ greatest_product_in (λ throughput. throughput.num) all
+  pub den : max sum.rates.den (greatest_product_in (λ throughput. throughput.den) rest) ≡ greatest_product_in (λ throughput. throughput.den) all
   pub valid : (around : Around) → HasRoom around sum.rates sum.dims → faults_of_parts around rest ≡ [] → faults_of_parts around all ≡ []
 
 or_moves : (a b c d : Bool) → b ≡ c → ((a || b) || d) ≡ (a || (c || d))
@@ -39,7 +41,7 @@ or_moves true b c d same = refl
 or_moves false b c d same = ap (λ x. x || d) same
 
 -- one part more
-IsSummed-more : (all rest : Parts) (name : List ℕ) (ltype : Ltype) (sum : PartsSummary) (one : Summary) → IsSummed all (part name ltype rest) sum → IsSummary ltype one
+pub IsSummed-more : (all rest : Parts) (name : List ℕ) (ltype : Ltype) (sum : PartsSummary) (one : Summary) → IsSummed all (part name ltype rest) sum → IsSummary ltype one
     → IsSummed all rest (of_parts_and sum one)
 IsSummed-more all rest name ltype sum one so is = record {
   small = omega arith;
@@ -47,6 +49,8 @@ IsSummed-more all rest name ltype sum one so is = record {
   widest = omega (arith, so.widest, is.width);
   has_stream = or_moves sum.has_stream one.has_stream (has_stream ltype) (have_stream rest) is.has_stream ∙ so.has_stream;
   rates = joined.are;
+  num = omega (arith, so.num, is.num);
+  den = omega (arith, so.den, is.den);
   valid = λ outside room none.
       so.valid outside (record { rates = joined.one outside.product room.rates; dims = dims.one outside.dims room.dims })
       (flat_map-append faults_at (nodes outside ltype) (nodes_of_parts outside rest)
@@ -67,7 +71,7 @@ or_false false = refl
 
 -- ---- a Group and a Union
 
-not_wide : (width : ℕ) → width ≤ 4096 → ltb 4096 width ≡ false
+pub not_wide : (width : ℕ) → width ≤ 4096 → ltb 4096 width ≡ false
 not_wide width narrow = grind (arith, nat_tests)
 
 -- where there is a summary of a type around parts, it is no wider than it may be
@@ -85,18 +89,20 @@ around-is sum width summary = by (ltb 4096 width) refl
 
 -- a type around parts that has no fault itself
 around-parts : (ltype : Ltype) (all : Parts) (sum : PartsSummary) (width : ℕ) (summary : Summary) → IsSummed all no_parts sum → IsAround sum width summary
-    → width ≡ width_of ltype → have_stream all ≡ has_stream ltype
+    → width ≡ width_of ltype → have_stream all ≡ has_stream ltype → ((part_of : Fraction → ℕ) → greatest_product_in part_of all ≡ greatest_product part_of ltype)
     → ((outside : Around) → faults_of_parts outside all ≡ [] → faults_within outside ltype ≡ []) → IsSummary ltype summary
-around-parts ltype all sum width summary so made wide streams valid = subst (IsSummary ltype) (sym made.is) (record {
+around-parts ltype all sum width summary so made wide streams products valid = subst (IsSummary ltype) (sym made.is) (record {
   width = wide;
   has_stream = sym (or_false sum.has_stream) ∙ so.has_stream ∙ streams;
   rates = so.rates;
+  num = omega (arith, so.num, so.rates.num, products (λ throughput. throughput.num));
+  den = omega (arith, so.den, so.rates.den, products (λ throughput. throughput.den));
   valid = λ outside room. valid outside (so.valid outside room refl);
 })
 
 IsSummary-group : (all : Parts) (sum : PartsSummary) (summary : Summary) → IsSummed all no_parts sum → has_name_twice (names_of all) ≡ false → of_group sum ≡ Some summary → IsSummary (group all) summary
 IsSummary-group all sum summary so once is =
-    around-parts (group all) all sum sum.total summary so made wide refl
+    around-parts (group all) all sum sum.total summary so made wide refl (λ part_of. refl)
     (λ outside none. ap (λ (l : List TypeFault). l ++ faults_of_parts outside all) (passed _ _ _ (not_wide (total_width all) few) ∙ passed _ _ _ once) ∙ none)
   where
     made : IsAround sum sum.total summary
@@ -108,7 +114,7 @@ IsSummary-group all sum summary so once is =
     few : total_width all ≤ 4096
     few = omega (arith, wide, made.narrow)
 
-number-names : (parts : Parts) → length (names_of parts) ≡ number_of_parts parts
+pub number-names : (parts : Parts) → length (names_of parts) ≡ number_of_parts parts
 number-names no_parts = refl
 number-names (part name ltype more) = ap suc (number-names more)
 
@@ -124,7 +130,7 @@ IsSummary-union : (all : Parts) (sum : PartsSummary) (summary : Summary) → IsS
 unfolding tag_width
 IsSummary-union no_parts sum summary so once is = absurd (cc is)
 IsSummary-union (part name ltype more) sum summary so once is =
-    around-parts (union (part name ltype more)) (part name ltype more) sum _ summary so made wide refl
+    around-parts (union (part name ltype more)) (part name ltype more) sum _ summary so made wide refl (λ part_of. refl)
     (λ outside none. ap (λ (l : List TypeFault). l ++ faults_of_parts outside (part name ltype more)) (passed _ _ _ (not_wide (width_of (union (part name ltype more))) few) ∙ passed _ _ _ once) ∙ none)
   where
     tag : index_width (length (names_of (part name ltype more))) ≡ index_width (number_of_parts (part name ltype more))
@@ -207,6 +213,8 @@ IsSummary-stream element user settings one other summary is these found = subst 
   width = refl;
   has_stream = refl;
   rates = rates.are;
+  num = ap (λ n. settings.throughput.num * n) (ap (λ n. max n other.rates.num) is.num ∙ ap (max (greatest_product (λ throughput. throughput.num) element)) these.num);
+  den = ap (λ n. settings.throughput.den * n) (ap (λ n. max n other.rates.den) is.den ∙ ap (max (greatest_product (λ throughput. throughput.den) element)) these.den);
   valid = valid;
 })
   where
@@ -245,19 +253,25 @@ IsSummary-stream element user settings one other summary is these found = subst 
 
 -- ---- all types
 
-none-summed : (all : Parts) → IsSummed all all of_no_parts
+product-some : (part_of : Fraction → ℕ) (parts : Parts) → 1 ≤ greatest_product_in part_of parts
+product-some part_of no_parts = omega arith
+product-some part_of (part name ltype more) = omega (arith, product-some part_of more)
+
+pub none-summed : (all : Parts) → IsSummed all all of_no_parts
 none-summed all = record {
   small = omega arith;
   total = omega arith;
   widest = omega arith;
   has_stream = refl;
   rates = no_rates-are;
+  num = omega (arith, product-some (λ throughput. throughput.num) all);
+  den = omega (arith, product-some (λ throughput. throughput.den) all);
   valid = λ outside room none. none;
 }
 
 -- a summary of a type without Streams that has no fault
-plain-summary : (ltype : Ltype) (width : ℕ) → width ≡ width_of ltype → false ≡ has_stream ltype → ((outside : Around) → faults_within outside ltype ≡ []) → IsSummary ltype (without_stream width)
-plain-summary ltype width wide streams valid = record { width = wide; has_stream = streams; rates = no_rates-are; valid = λ outside room. valid outside }
+plain-summary : (ltype : Ltype) (width : ℕ) → width ≡ width_of ltype → false ≡ has_stream ltype → ((part_of : Fraction → ℕ) → 1 ≡ greatest_product part_of ltype) → ((outside : Around) → faults_within outside ltype ≡ []) → IsSummary ltype (without_stream width)
+plain-summary ltype width wide streams one valid = record { width = wide; has_stream = streams; rates = no_rates-are; num = one (λ throughput. throughput.num); den = one (λ throughput. throughput.den); valid = λ outside room. valid outside }
 
 IsSummary-bits : (width : ℕ) (summary : Summary) → of_bits width ≡ Some summary → IsSummary (bits width) summary
 IsSummary-bits width summary = by (eqb width 0) (ltb 4096 width) refl refl
@@ -267,7 +281,7 @@ IsSummary-bits width summary = by (eqb width 0) (ltb 4096 width) refl refl
     by false true none narrow is = absurd (cc is)
     by false false none narrow is =
         let made : without_stream width ≡ summary = cc is in
-        subst (IsSummary (bits width)) made (plain-summary (bits width) width refl refl (λ outside. ap (λ (l : List TypeFault). l ++ []) (passed _ _ _ none ∙ passed _ _ _ narrow)))
+        subst (IsSummary (bits width)) made (plain-summary (bits width) width refl refl (λ part_of. refl) (λ outside. ap (λ (l : List TypeFault). l ++ []) (passed _ _ _ none ∙ passed _ _ _ narrow)))
 
 -- the summary of parts and one more is made of both
 record IsMore (before : Option PartsSummary) (one : Option Summary) (sum : PartsSummary) : Type 0 where
@@ -286,7 +300,7 @@ mutual
   pub summary-is : SummariesAreOfTheType
   summary-is null summary is =
       let made : without_stream 0 ≡ summary = cc is in
-      subst (IsSummary null) made (plain-summary null 0 refl refl (λ outside. refl))
+      subst (IsSummary null) made (plain-summary null 0 refl refl (λ part_of. refl) (λ outside. refl))
   summary-is (bits width) summary is = IsSummary-bits width summary is
   summary-is (group parts) summary is = by (has_name_twice (names_of parts)) (fold_parts summarized (Some of_no_parts) parts) refl (summed-from parts parts (Some of_no_parts) (λ first same. subst (IsSummed parts parts) (cc same) (none-summed parts))) is
     where
@@ -321,6 +335,9 @@ mutual
       subst (IsSummed all more) parted.is
       (IsSummed-more all more name ltype parted.first parted.next (so parted.first parted.first_is) (summary-is ltype parted.next parted.next_is)))
       sum is
+
+pub summed-of : (parts : Parts) (sum : PartsSummary) → fold_parts summarized (Some of_no_parts) parts ≡ Some sum → IsSummed parts no_parts sum
+summed-of parts sum is = summed-from parts parts (Some of_no_parts) (λ first same. subst (IsSummed parts parts) (cc same) (none-summed parts)) sum is
 
 -- ---- a summary that shows that its type is valid
 

@@ -1,13 +1,13 @@
 -- What is known of a type without what it holds: enough to show that it has no fault. This project's own.
-use Rattle.std.specs.Prelude.{◌≡◌, ℕ, ◌+◌, ◌-◌, ◌*◌, ◌^◌, ◌==◌, ◌<◌, ◌≤◌, nat_lt, nat_le, min, max, Bool, true, false, not, ◌&&◌, ◌||◌, [], length, Option, Some, None, if◌then◌else◌}
+use Rattle.std.specs.Prelude.{◌≡◌, ◌↔◌, ℕ, ◌+◌, ◌-◌, ◌*◌, ◌^◌, ◌==◌, ◌<◌, ◌≤◌, nat_lt, nat_le, min, max, Bool, true, false, not, ◌&&◌, ◌||◌, [], length, Option, Some, None, if◌then◌else◌}
 use Rattle.std.specs.Option.{option_and_then, option_map}
 use Rattle.tydi_base.specs.Frac.{Fraction}
 use Rattle.tydi_base.specs.Width.{index_width}
-use Rattle.logical_types.specs.Faults.{faults_within, is_bad_throughput, outermost}
+use Rattle.logical_types.specs.Faults.{IsValid, faults_within, is_bad_throughput, outermost}
 use Rattle.logical_types.specs.Fold.{Layers, fold}
 use Rattle.logical_types.specs.Names.{has_name_twice}
 use Rattle.logical_types.specs.Throughput.{product_of}
-use Rattle.logical_types.specs.Tree.{Ltype, has_stream}
+use Rattle.logical_types.specs.Tree.{Ltype, null, bits, group, union, stream, Parts, no_parts, part, has_stream}
 use Rattle.logical_types.specs.Width.{width_of, saturated}
 use Rattle.logical_types.specs.declared.dims.Dims.{Dims}
 use Rattle.logical_types.specs.declared.ltype.Sync.{Sync}
@@ -134,6 +134,8 @@ pub record AreRates (rates : Rates) : Type 0 where
   pub den : 1 ≤ rates.den
   pub num_fits : rates.num < 2 ^ 64
   pub den_fits : rates.den < 2 ^ 64
+  pub upper : rates.product.num ≤ rates.num
+  pub lower : rates.product.den ≤ rates.den
   pub some : 1 ≤ rates.product.den
   pub whole : rates.product.den ≤ rates.product.num
 
@@ -152,18 +154,57 @@ pub record HasDims (around : ℕ) (dims : Dims) : Type 0 where
 
 -- ---- of types
 
+-- the greatest product of such parts of the throughputs on a way from a type down to a Stream in it, as they stand; 1 where there is none
+abbrev mutual
+  pub greatest_product : (Fraction → ℕ) → Ltype → ℕ
+  greatest_product part_of null = 1
+  greatest_product part_of (bits width) = 1
+  greatest_product part_of (group parts) = greatest_product_in part_of parts
+  greatest_product part_of (union parts) = greatest_product_in part_of parts
+  greatest_product part_of (stream element user settings) = part_of settings.throughput * max (greatest_product part_of element) (greatest_product part_of user)
+
+  pub greatest_product_in : (Fraction → ℕ) → Parts → ℕ
+  greatest_product_in part_of no_parts = 1
+  greatest_product_in part_of (part name ltype more) = max (greatest_product part_of ltype) (greatest_product_in part_of more)
+
 -- what is around a type leaves room for it
 pub record HasRoom (around : Around) (most : Rates) (deepest : Dims) : Type 0 where
   pub rates : HasRates around.product most
   pub dims : HasDims around.dims deepest
 
--- a summary of a type: its width, whether a Stream stands in it, and that it has no fault where there is room for it
+-- a summary of a type: its width, whether a Stream stands in it, its greatest products, and that it has no fault where there is room for it
 pub record IsSummary (ltype : Ltype) (summary : Summary) : Type 0 where
   pub width : summary.width ≡ width_of ltype
   pub has_stream : summary.has_stream ≡ has_stream ltype
   pub rates : AreRates summary.rates
+  pub num : summary.rates.num ≡ greatest_product (λ throughput. throughput.num) ltype
+  pub den : summary.rates.den ≡ greatest_product (λ throughput. throughput.den) ltype
   pub valid : (around : Around) → HasRoom around summary.rates summary.dims → faults_within around ltype ≡ []
 
 -- a summary says what it is to say
 abbrev pub SummariesAreOfTheType : Type 0
 SummariesAreOfTheType = (ltype : Ltype) (summary : Summary) → summary_of ltype ≡ Some summary → IsSummary ltype summary
+
+-- ---- which types are shown to be valid
+
+-- a summary, if there is one, shows its type valid
+abbrev pub shows : Option Summary → Bool
+shows None = false
+shows (Some summary) = shows_valid summary
+
+-- a type has a summary, which shows it valid
+abbrev pub is_shown_valid : Ltype → Bool
+is_shown_valid ltype = shows (summary_of ltype)
+
+-- the products of upper parts, and those of lower ones, fit 64 bits as they stand
+pub record FitAsTheyStand (ltype : Ltype) : Type 0 where
+  pub num : greatest_product (λ throughput. throughput.num) ltype < 2 ^ 64
+  pub den : greatest_product (λ throughput. throughput.den) ltype < 2 ^ 64
+
+-- a type is valid, and products fit as they stand
+abbrev pub IsShownValid : Ltype → Type 0
+IsShownValid ltype = IsValid ltype × FitAsTheyStand ltype
+
+-- these are exactly the types that are shown to be valid
+abbrev pub ValidTypesAreShown : Type 0
+ValidTypesAreShown = (ltype : Ltype) → is_shown_valid ltype ≡ true ↔ IsShownValid ltype

@@ -28,6 +28,6 @@ pub use shared::Shared;
 pub use streams::{Around, around_outermost, inside};
 pub use summary::{
     PartsSummary, Summary, summaries_are_of_the_type, summary_of_bits, summary_of_no_parts,
-    summary_of_null, summary_of_stream,
+    summary_of_null, summary_of_stream, valid_types_are_shown,
 };
 pub use widths::{saturated_width, union_width, width};

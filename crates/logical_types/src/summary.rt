@@ -1,11 +1,10 @@
 //! What is known of a type without what it holds. From the summaries of the parts of a type follows its own, so a type of many nodes
-//! is shown to be valid by the summaries of the types that it names. Where there is none, or it is over a limit, nothing is known.
+//! is shown to be valid by the summaries of the types that it names. A type that is not shown to be valid has a fault, or products of
+//! throughputs that do not fit 64 bits as they stand.
 
-ghost use Rattle.std.specs.Prelude.{◌≡◌, Some, IsTrue};
-ghost use Rattle.logical_types.specs.Faults.{IsValid};
+ghost use Rattle.std.specs.Prelude.{◌≡◌};
 ghost use Rattle.logical_types.specs.Summary as spec;
-ghost use Rattle.logical_types.specs.Summary.{SummariesAreOfTheType};
-ghost use Rattle.logical_types.specs.Tree.{Ltype};
+ghost use Rattle.logical_types.specs.Summary.{SummariesAreOfTheType, ValidTypesAreShown};
 
 use crate::checking::MOST_BITS;
 use crate::dims::{Dims, are_dims_few, dims_beside, dims_in_stream, no_dims};
@@ -148,10 +147,9 @@ impl PartsSummary {
 }
 
 impl Summary {
-    /// Whether a type with this summary is valid, as far as the summary shows.
+    /// Whether a type with this summary is within the limits where there is no Stream around it.
     pub fn shows_valid(&self) -> bool
-        ensures told { result ≡ spec.shows_valid self.now }
-        ensures valid { (ltype : Ltype) → spec.summary_of ltype ≡ Some self.now → IsTrue result → IsValid ltype }
+        ensures { result ≡ spec.shows_valid self.now }
     {
         are_rates_few(self.rates) && are_dims_few(&self.dims)
     }
@@ -160,4 +158,10 @@ impl Summary {
 /// The law of summaries: what the summary of a type says of it is so.
 pub fn summaries_are_of_the_type()
     ensures { SummariesAreOfTheType }
+{}
+
+/// The law of what summaries show: a type is shown to be valid exactly where it is valid, and the upper parts of the throughputs on each
+/// way to a Stream in it, multiplied as they stand, fit 64 bits, and so do the lower ones.
+pub fn valid_types_are_shown()
+    ensures { ValidTypesAreShown }
 {}

@@ -1,13 +1,15 @@
 -- The first written type that has a fault, one type after another, and what is kept of the types of declarations.
-use Rattle.std.proofs.Common.{◌≡◌, ℕ, suc, ◌+◌, ◌<◌, ◌≤◌, Bool, true, false, ◌&&◌, cond, eqb, ltb, find, List, [], ◌∷◌, ◌++◌, length, map, replicate, get_or, set, take, Option, Some, None, is_some, IfSome, Contains, refl, sym, ap, subst, ◌∙◌, arith}
+use Rattle.std.proofs.Common.{◌≡◌, All, ℕ, zero, suc, ◌+◌, ◌<◌, ◌≤◌, Bool, true, false, ◌&&◌, cond, eqb, ltb, find, List, [], ◌∷◌, ◌++◌, length, map, replicate, get_or, set, take, Option, Some, None, is_some, IfSome, Contains, refl, sym, ap, subst, ◌∙◌, arith}
 use Rattle.std.specs.Bool.{then_some}
 use Rattle.std.proofs.lemmas.Bool.{leb-true, leb-false, lt-ltb, ltb-true}
 use Rattle.std.proofs.lemmas.Bool.Decides.{nat_tests}
-use Rattle.std.proofs.lemmas.List.{take_more, take_all, map-append}
+use Rattle.std.specs.List.{slice_get}
+use Rattle.std.proofs.lemmas.List.{get_or_default, take_more, take_all, map-append}
 use Rattle.std.proofs.lemmas.List.Elements.{Contains-append_left, Contains-append_right, Contains-push}
 use Rattle.tydi_base.specs.declared.place.Place.{Place}
 use Rattle.logical_types.specs.declared.fault.TypeFault.{TypeFault}
 use Rattle.logical_types.specs.declared.ltype.LType.{LType}
+use Rattle.logical_types.specs.Summary.{IsShownValid}
 use Rattle.til_resolve.specs.declared.bad_types.BadType.{BadType}
 use Rattle.til_resolve.specs.declared.bad_types.Findings.{Findings}
 use Rattle.til_resolve.specs.declared.bad_types.Verdict.{Verdict}
@@ -159,6 +161,20 @@ pub IsFirstBad-all : (all : List Declaration) (written : List Written) (i : ℕ)
     → IsFirstBad (map (written_type all) (take i written)) found → IsFirstBad (written_types all) found
 IsFirstBad-all all written i found done are so =
     subst (λ (l : List WrittenType). IsFirstBad l found) (ap (map (written_type all)) (take_all i written done) ∙ are.types) so
+
+-- none is found where each is shown to be valid
+pub IsFirstBad-shown : (all : List Declaration) (written : List Written) → AreWritten all written → All (λ one. IsShownValid (ltype_of all one)) written → IsFirstBad (written_types all) None
+IsFirstBad-shown all [] are shown = IsFirstBad-all all [] 0 None (omega arith) are IsFirstBad-none
+IsFirstBad-shown all (first ∷ more) are shown = IsFirstBad-all all (first ∷ more) (length (first ∷ more)) None (omega arith) are (from (length (first ∷ more)) (omega arith))
+  where
+    from : (end : ℕ) → end ≤ length (first ∷ more) → IsFirstBad (map (written_type all) (take end (first ∷ more))) None
+    from zero within = IsFirstBad-none
+    from (suc end) within =
+        let next : end + 1 ≡ suc end = omega arith in
+        subst (λ (n : ℕ). IsFirstBad (map (written_type all) (take n (first ∷ more))) None) next
+        (IsFirstBad-valid all (first ∷ more) end (get_or (first ∷ more) end first) (omega arith)
+        (get_or_default (first ∷ more) end first (get_or (first ∷ more) end first) (omega arith))
+        (ap (λ l. slice_get l 0) (shown end first (omega arith)).0) (from end (omega arith)))
 
 -- ---- what one turn finds
 

@@ -21,7 +21,6 @@ pub mod Folds
 pub mod Written
 pub mod Chains
 pub mod BadTypes
-pub mod Summaries
 pub mod Project
 pub mod Making
 pub mod SharedTypes

@@ -3,7 +3,7 @@
 //! name it alone.
 
 ghost use Rattle.std.specs.Prelude.{◌≡◌, ◌<◌, ◌↔◌, List, All, length, slice_set, IsTrue, IfOk, None};
-ghost use Rattle.logical_types.specs.Summary.{summarized};
+ghost use Rattle.logical_types.specs.Summary.{IsShownValid, summarized};
 ghost use Rattle.logical_types.specs.Tree.{plain};
 ghost use Rattle.til_resolve.specs.BadTypes.{AreAcyclic, IsFirstBad, AreFindings, bad_type, earlier_bad, first_fault};
 ghost use Rattle.til_resolve.specs.BadTypes as spec;
@@ -11,7 +11,6 @@ ghost use Rattle.til_resolve.specs.Faults.{IsToldUpTo, written_types};
 ghost use Rattle.til_resolve.specs.Scope.{declarations_of};
 ghost use Rattle.til_resolve.specs.Shapes.{type_at};
 ghost use Rattle.til_resolve.specs.SharedTypes.{ltype_at};
-ghost use Rattle.til_resolve.specs.Summaries.{is_shown_valid};
 ghost use Rattle.til_resolve.specs.Folds.{AreFolds};
 ghost use Rattle.til_resolve.specs.Declarations.{Declaration, declaration};
 ghost use Rattle.til_parser.specs.Tree as tree;
@@ -70,16 +69,15 @@ pub fn first_bad_type<'a>(
     first_checked(alloc, scope, written, table.as_slice())
 }
 
+// Whether all written types are shown to be valid.
 fn are_shown_valid<'a>(
     scope: &Scope<'a>,
     written: &[Written<'a>],
     table: &[Option<Summary>],
 ) -> bool
     requires written { AreWritten (declarations_of scope.now.declared) written.now }
-    requires acyclic { AreAcyclic (declarations_of scope.now.declared) }
     requires table { AreFolds summarized (declarations_of scope.now.declared) (length (declarations_of scope.now.declared)) table.now }
-    ensures shown { IsTrue result ↔ All (λ one. IsTrue (is_shown_valid (ltype_of (declarations_of scope.now.declared) one))) written.now }
-    ensures valid { IsTrue result → IsFirstBad (written_types (declarations_of scope.now.declared)) None }
+    ensures { IsTrue result ↔ All (λ one. IsShownValid (ltype_of (declarations_of scope.now.declared) one)) written.now }
 {
     'written: for one in written {
         if !is_shown_valid(scope, one, table) {

@@ -1,11 +1,11 @@
 //! The summary of the type of each declaration.
 
-ghost use Rattle.std.specs.Prelude.{◌≡◌, refl, length, IsTrue, IfOk, None};
+ghost use Rattle.std.specs.Prelude.{◌≡◌, ◌↔◌, refl, length, IsTrue, IfOk, None};
 ghost use Rattle.logical_types.specs.Summary as spec;
+ghost use Rattle.logical_types.specs.Summary.{IsShownValid};
 ghost use Rattle.til_resolve.specs.BadTypes.{first_fault};
 ghost use Rattle.til_resolve.specs.Folds.{AreFolds, IsFoldOf, written_names};
 ghost use Rattle.til_resolve.specs.Scope.{declarations_of};
-ghost use Rattle.til_resolve.specs.Summaries.{is_shown_valid};
 ghost use Rattle.til_resolve.specs.Written.{IsWithin, ltype_of};
 
 use crate::folding::{Fold, entry_in, value_of};
@@ -15,7 +15,7 @@ use crate::tables::{Entries, table_of};
 use crate::written::Written;
 use logical_types::{
     Named, PartsSummary, Summary, has_name_twice, summary_of_bits, summary_of_no_parts,
-    summary_of_null, summary_of_stream,
+    summary_of_null, summary_of_stream, valid_types_are_shown,
 };
 use std::alloc::Global;
 use til_parser::{AstPart, AstStream, AstType};
@@ -123,13 +123,15 @@ pub fn summaries(alloc: Global, scope: &Scope<'_>) -> Result<List<Option<Summary
     table_of::<SummaryFold>(alloc, scope)
 }
 
-/// Whether a written type is shown to have no fault.
+/// Whether a written type is shown to be valid by its summary: exactly where it is, and the upper parts of the throughputs on each way to
+/// a Stream in it, multiplied as they stand, fit 64 bits, and so do the lower ones.
 pub fn is_shown_valid<'a>(scope: &Scope<'a>, one: &Written<'a>, table: &[Option<Summary>]) -> bool
     requires within { IsWithin (declarations_of scope.now.declared) one.now }
     requires table { AreFolds spec.summarized (declarations_of scope.now.declared) (length (declarations_of scope.now.declared)) table.now }
-    ensures shown { result ≡ is_shown_valid (ltype_of (declarations_of scope.now.declared) one.now) }
+    ensures shown { IsTrue result ↔ IsShownValid (ltype_of (declarations_of scope.now.declared) one.now) }
     ensures valid { IsTrue result → first_fault (ltype_of (declarations_of scope.now.declared) one.now) ≡ None }
 {
+    valid_types_are_shown();
     match value_of::<SummaryFold>(scope, one, table) {
         Some(summary) => summary.shows_valid(),
         None => false,
