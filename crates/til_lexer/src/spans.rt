@@ -188,7 +188,9 @@ pub(crate) fn until_mark(mark: u8, place: Place, bytes: &[u8]) -> Option<Span>
     }
 }
 
-/// How many bytes stand before a text's first such mark or LF, or in all.
+/// How many bytes stand before a text's first such mark or LF, or in all. It is kept apart: its vectors would take from each
+/// other piece the registers that it needs.
+#[inline(never)]
 fn unmarked_in_line(mark: u8, bytes: &[u8]) -> usize
     ensures { result ≡ spec.in_line (λ byte. not (byte == mark)) bytes.now }
 {
