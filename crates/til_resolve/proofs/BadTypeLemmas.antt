@@ -202,9 +202,9 @@ earlier_bad-none (Some bad) place = refl
 
 -- ---- what is told before
 
-pub acyclic-told : (all : List Declaration) → IsToldUpTo all 4 None → AreAcyclic all
-acyclic-told all none = record {
-  each = λ one within leads. none.told (faults.CyclicType (declaration all one).name.place) (omega arith)
+pub acyclic-told : (all : List Declaration) (order : ℕ) → 3 ≤ order → IsToldUpTo all order None → AreAcyclic all
+acyclic-told all order enough none = record {
+  each = λ one within leads. none.told (faults.CyclicType (declaration all one).name.place) enough
       (record { one = one; within = within; at = record { at = refl; leads = leads } });
 }
 

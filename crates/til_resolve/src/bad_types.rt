@@ -76,6 +76,7 @@ fn are_shown_valid<'a>(
     table: &[Option<Summary>],
 ) -> bool
     requires written { AreWritten (declarations_of scope.now.declared) written.now }
+    requires acyclic { AreAcyclic (declarations_of scope.now.declared) }
     requires table { AreFolds summarized (declarations_of scope.now.declared) (length (declarations_of scope.now.declared)) table.now }
     ensures { IsTrue result ↔ All (λ one. IsShownValid (ltype_of (declarations_of scope.now.declared) one)) written.now }
 {

@@ -4,18 +4,19 @@ ghost use Rattle.std.specs.Prelude.{◌≡◌, ◌<◌, length, slice_index_or};
 ghost use Rattle.logical_types.specs.Fold.{Layers, fold};
 ghost use Rattle.til_parser.specs.Tree.{plain};
 ghost use Rattle.til_parser.specs.Tree as tree;
+ghost use Rattle.til_resolve.specs.BadTypes.{AreAcyclic};
 ghost use Rattle.til_resolve.specs.Declarations.{declaration};
 ghost use Rattle.til_resolve.specs.Folds.{AreFolds, IsFoldOf, fold_by, fold_by_list, written_names};
 ghost use Rattle.til_resolve.specs.Scope.{declarations_of};
 ghost use Rattle.til_resolve.specs.Shapes.{entry_named};
-ghost use Rattle.til_resolve.specs.Tables.{IsMadeFor, IsMadeOf};
+ghost use Rattle.til_resolve.specs.Tables.{IsMadeOf};
 ghost use Rattle.til_resolve.specs.Types.{settings_of};
 ghost use Rattle.til_resolve.specs.Written.{IsWithin, ltype_of};
 
 use crate::kinds::Asked;
 use crate::scope::Scope;
 use crate::written::Written;
-use til_parser::{AstKind, AstPart, AstPath, AstStream, AstType};
+use til_parser::{AstPart, AstPath, AstStream, AstType};
 
 /// What types come to, by what the types in them come to.
 pub trait Fold {
@@ -57,23 +58,13 @@ pub trait Fold {
 /// What a written type comes to.
 pub fn value_of<'a, F: Fold>(scope: &Scope<'a>, one: &Written<'a>, table: &[F::Value]) -> F::Value
     requires within { IsWithin (declarations_of scope.now.declared) one.now }
+    requires acyclic { AreAcyclic (declarations_of scope.now.declared) }
     requires table { AreFolds F.layers (declarations_of scope.now.declared) (length (declarations_of scope.now.declared)) table.now }
     ensures { result ≡ fold F.layers (ltype_of (declarations_of scope.now.declared) one.now) }
 {
     match one {
-        Written::Declared(number) => declared_value::<F>(scope, *number, table),
+        Written::Declared(number) => value_at::<F>(table, *number),
         Written::Port { number, port } => entry_in::<F>(scope, *number, &port.ltype, table),
-    }
-}
-
-// What the type comes to that a declaration gives a name to; of one that is no type, what Null comes to.
-fn declared_value<F: Fold>(scope: &Scope<'_>, number: usize, table: &[F::Value]) -> F::Value
-    requires { number < length (declarations_of scope.now.declared) }
-    ensures { IsMadeFor F.layers.of_null (IsFoldOf F.layers) (declarations_of scope.now.declared) number table.now result }
-{
-    match scope.get(number).kind {
-        AstKind::Alias(ltype) => entry_in::<F>(scope, number, ltype, table),
-        _ => F::null(),
     }
 }
 

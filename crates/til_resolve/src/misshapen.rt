@@ -1,6 +1,7 @@
 //! Types that are too large, and ports whose type is no Stream.
 
 ghost use Rattle.std.specs.Prelude.{◌≡◌, ◌<◌, [], ◌∷◌, length};
+ghost use Rattle.til_resolve.specs.BadTypes.{AreAcyclic};
 ghost use Rattle.til_resolve.specs.Earliest.{IsEarliest};
 ghost use Rattle.til_resolve.specs.Faults.{HasTypeAt, written_types};
 ghost use Rattle.til_resolve.specs.Folds.{AreFolds};
@@ -34,6 +35,7 @@ pub fn first_misshapen<'a>(
     sort: Sort,
 ) -> Option<Place>
     requires written { AreWritten (declarations_of scope.now.declared) written.now }
+    requires acyclic { AreAcyclic (declarations_of scope.now.declared) }
     requires table { AreFolds shape_layers (declarations_of scope.now.declared) (length (declarations_of scope.now.declared)) table.now }
     ensures { IsEarliest (HasTypeAt (IsMisshapen sort) (written_types (declarations_of scope.now.declared))) result }
 {
@@ -52,6 +54,7 @@ fn misshapen_at<'a>(
     sort: Sort,
 ) -> Option<Place>
     requires within { IsWithin (declarations_of scope.now.declared) one.now }
+    requires acyclic { AreAcyclic (declarations_of scope.now.declared) }
     requires table { AreFolds shape_layers (declarations_of scope.now.declared) (length (declarations_of scope.now.declared)) table.now }
     ensures { IsEarliest (HasTypeAt (IsMisshapen sort) (written_type (declarations_of scope.now.declared) one.now ∷ [])) result }
 {
@@ -61,6 +64,7 @@ fn misshapen_at<'a>(
 
 fn shape_of<'a>(scope: &Scope<'a>, one: &Written<'a>, table: &[Shape]) -> Shape
     requires within { IsWithin (declarations_of scope.now.declared) one.now }
+    requires acyclic { AreAcyclic (declarations_of scope.now.declared) }
     requires table { AreFolds shape_layers (declarations_of scope.now.declared) (length (declarations_of scope.now.declared)) table.now }
     ensures { result ≡ shape_of (ltype_of (declarations_of scope.now.declared) one.now) }
 {

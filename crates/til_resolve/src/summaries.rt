@@ -3,7 +3,7 @@
 ghost use Rattle.std.specs.Prelude.{◌≡◌, ◌↔◌, refl, length, IsTrue, IfOk, None};
 ghost use Rattle.logical_types.specs.Summary as spec;
 ghost use Rattle.logical_types.specs.Summary.{IsShownValid};
-ghost use Rattle.til_resolve.specs.BadTypes.{first_fault};
+ghost use Rattle.til_resolve.specs.BadTypes.{AreAcyclic, first_fault};
 ghost use Rattle.til_resolve.specs.Folds.{AreFolds, IsFoldOf, written_names};
 ghost use Rattle.til_resolve.specs.Scope.{declarations_of};
 ghost use Rattle.til_resolve.specs.Written.{IsWithin, ltype_of};
@@ -127,6 +127,7 @@ pub fn summaries(alloc: Global, scope: &Scope<'_>) -> Result<List<Option<Summary
 /// a Stream in it, multiplied as they stand, fit 64 bits, and so do the lower ones.
 pub fn is_shown_valid<'a>(scope: &Scope<'a>, one: &Written<'a>, table: &[Option<Summary>]) -> bool
     requires within { IsWithin (declarations_of scope.now.declared) one.now }
+    requires acyclic { AreAcyclic (declarations_of scope.now.declared) }
     requires table { AreFolds spec.summarized (declarations_of scope.now.declared) (length (declarations_of scope.now.declared)) table.now }
     ensures shown { IsTrue result ↔ IsShownValid (ltype_of (declarations_of scope.now.declared) one.now) }
     ensures valid { IsTrue result → first_fault (ltype_of (declarations_of scope.now.declared) one.now) ≡ None }
