@@ -56,7 +56,9 @@ pub fn has_name_twice<N: Named>(parts: &N) -> bool
     has_name_twice_among_many(parts)
 }
 
-// The same with a great table.
+// The same with a great table. It is kept apart: put into a function that calls itself, the table would take 256 KiB of the stack for
+// each type that stands in another.
+#[inline(never)]
 fn has_name_twice_among_many<N: Named>(parts: &N) -> bool
     ensures { result ≡ spec.has_name_twice (N.names parts.now) }
 {
