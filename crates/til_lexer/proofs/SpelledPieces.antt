@@ -21,7 +21,7 @@ use Rattle.til_lexer.specs.declared.token.TokenKind.{TokenKind}
 use Rattle.til_lexer.specs.declared.token.TokenKind.TheVariants as kinds
 use Rattle.til_lexer.specs.Pieces.{piece_at, word_token, mark_at, number_at, number_token, symbol_token, single_symbol, double_symbol, closed_token}
 use Rattle.til_lexer.specs.Spans.{is_space, begins_comment, digits_at, digits_after_point, until_mark}
-use Rattle.til_lexer.specs.Spelling.{AreDigits, HasForm, IsBetween, IsPointNumber, IsWholeNumber, runs_on}
+use Rattle.til_lexer.specs.Spelling.{AreDigits, HasForm, IsBetween, IsPointNumber, IsWholeNumber, runs_on, goes_on}
 use Rattle.til_lexer.specs.Words.{starts_word, word_of, continues}
 use Rattle.til_lexer.proofs.FormBegins.{Begins, first_of_all, form_begins, form_utf8, name_bytes, name_letter}
 use Rattle.til_lexer.proofs.WordLemmas.{chars-ascii, first_char, letter_starts, word-name}
@@ -50,11 +50,11 @@ prefix_up_to p front rest all fails = let none = prefix_none p rest fails in let
 
 -- ---- the byte after a token
 
--- a text in UTF-8 that begins with ASCII, or is empty, and does not go on with a token of this kind
-pub record IsAfter (kind : TokenKind) (rest : List ℕ) : Type 0 where
+-- a text in UTF-8 that begins with ASCII, or is empty, with which a token of this kind and text does not go on
+pub record IsAfter (kind : TokenKind) (spelling rest : List ℕ) : Type 0 where
   pub utf8 : IsUtf8 rest
   pub ascii : get_or rest 0 0 < 128
-  pub stops : runs_on kind (get_or rest 0 0) ≡ false
+  pub stops : goes_on kind spelling (get_or rest 0 0) ≡ false
 
 pub first_of_front : (front rest : List ℕ) → 0 < length front → get_or (front ++ rest) 0 0 ≡ get_or front 0 0
 first_of_front front rest some = get_or_append_left front rest 0 0 some
@@ -93,7 +93,7 @@ begins_front front rest begins =
     }
 
 -- what begins with no letter and no `_` is a mark, where it has a form
-mark_found : (place : Place) (kind : TokenKind) (front rest : List ℕ) → HasForm kind front → IsAfter kind rest
+mark_found : (place : Place) (kind : TokenKind) (front rest : List ℕ) → HasForm kind front → IsAfter kind front rest
     → starts_name (get_or front 0 0) ≡ false → piece_at place (front ++ rest) ≡ mark_at place (front ++ rest)
 mark_found place kind front rest form after letter =
     let begins = form_begins kind front form in
@@ -109,7 +109,7 @@ unfolding chars
 not_on [] utf8 ascii is_not = refl
 not_on (byte ∷ bytes) utf8 ascii is_not = ap continues (chars-ascii byte bytes utf8 ascii) ∙ is_xid_continue-ascii byte ascii ∙ is_not
 
-word_is : (place : Place) (word rest : List ℕ) → HasForm kinds.Word word → IsAfter kinds.Word rest
+word_is : (place : Place) (word rest : List ℕ) → HasForm kinds.Word word → IsAfter kinds.Word word rest
     → piece_at place (word ++ rest) ≡ Ok (pieces.Token kinds.Word (length word))
 word_is place word rest form after =
     let begins = form_begins kinds.Word word form in
@@ -160,6 +160,26 @@ number_stops byte stops = by_cases (is_ascii_digit byte) (eqb byte 46) stops
     by_cases true point is = absurd cc
     by_cases false point is = (refl, is)
 
+-- what goes on with no token of a kind goes on with none of its texts
+pub goes-less : (kind : TokenKind) (spelling : List ℕ) (byte : ℕ) → runs_on kind byte ≡ false → goes_on kind spelling byte ≡ false
+goes-less kinds.Number spelling byte stops = let stop = number_stops byte stops in rw (stop.0, stop.1) (never (list_all is_ascii_digit spelling))
+  where
+    never : (b : Bool) → (b && false) ≡ false
+    never true = refl
+    never false = refl
+goes-less kind spelling byte stops = stops
+
+-- digits go on as any number does, and a number with a point with a digit alone
+digits_stop : (digits : List ℕ) (byte : ℕ) → list_all is_ascii_digit digits ≡ true → goes_on kinds.Number digits byte ≡ false → runs_on kinds.Number byte ≡ false
+digits_stop digits byte each stops = subst (λ b. (is_ascii_digit byte || (b && eqb byte 46)) ≡ false) each stops
+
+no_digit : (number : List ℕ) (byte : ℕ) → goes_on kinds.Number number byte ≡ false → is_ascii_digit byte ≡ false
+no_digit number byte stops = by_cases (is_ascii_digit byte) (list_all is_ascii_digit number && eqb byte 46) stops
+  where
+    by_cases : (digit point : Bool) → (digit || point) ≡ false → digit ≡ false
+    by_cases true point is = absurd cc
+    by_cases false point is = refl
+
 whole_is : (place : Place) (whole rest : List ℕ) → IsWholeNumber whole → runs_on kinds.Number (get_or rest 0 0) ≡ false
     → mark_at place (whole ++ rest) ≡ Ok (pieces.Token kinds.Number (length whole))
 whole_is place whole rest is stops =
@@ -172,19 +192,19 @@ whole_is place whole rest is stops =
     ∙ ap (number_token place (length whole)) fraction ∙ whole_token place (length whole) is.few
 
 point_is : (place : Place) (before behind rest : List ℕ) → AreDigits before → AreDigits behind → length before + length behind ≤ 18
-    → runs_on kinds.Number (get_or rest 0 0) ≡ false
+    → is_ascii_digit (get_or rest 0 0) ≡ false
     → mark_at place (before ++ (46 ∷ behind ++ rest)) ≡ Ok (pieces.Token kinds.Number (length before + 1 + length behind))
 point_is place before behind rest are_before are_behind few stops =
     let text : List ℕ = before ++ (46 ∷ behind ++ rest) in
     let digits : digits_at text ≡ length before = prefix_up_to is_ascii_digit before (46 ∷ behind ++ rest) are_before.each refl in
     let fraction : digits_after_point (drop (digits_at text) text) ≡ length behind =
     ap (λ n. digits_after_point (drop n text)) digits ∙ ap digits_after_point (drop-append_seam before (46 ∷ behind ++ rest))
-    ∙ prefix_up_to is_ascii_digit behind rest are_behind.each (number_stops (get_or rest 0 0) stops).0 in
+    ∙ prefix_up_to is_ascii_digit behind rest are_behind.each stops in
     number_mark place text (first_digit before (46 ∷ behind ++ rest) are_before)
     ∙ ap (λ n. number_token place n (digits_after_point (drop (digits_at text) text))) digits ∙ ap (number_token place (length before)) fraction
     ∙ point_token place (length before) (length behind) are_behind.some few
 
-point_number_is : (place : Place) (text rest : List ℕ) → IsPointNumber text → runs_on kinds.Number (get_or rest 0 0) ≡ false
+point_number_is : (place : Place) (text rest : List ℕ) → IsPointNumber text → is_ascii_digit (get_or rest 0 0) ≡ false
     → mark_at place (text ++ rest) ≡ Ok (pieces.Token kinds.Number (length text))
 point_number_is place text rest is stops =
     let flat : text ++ rest ≡ is.before ++ (46 ∷ is.behind ++ rest) = ap (λ l. l ++ rest) is.parts ∙ append_assoc is.before (46 ∷ is.behind) rest in
@@ -242,11 +262,11 @@ unfolding mark_at symbol_token double_symbol single_symbol
 colon_is place rest stops = rw stops refl
 
 mark_is : (place : Place) (kind : TokenKind) (text rest : List ℕ) → HasForm kind text → starts_name (get_or text 0 0) ≡ false
-    → runs_on kind (get_or rest 0 0) ≡ false → mark_at place (text ++ rest) ≡ Ok (pieces.Token kind (length text))
+    → goes_on kind text (get_or rest 0 0) ≡ false → mark_at place (text ++ rest) ≡ Ok (pieces.Token kind (length text))
 unfolding mark_at symbol_token double_symbol single_symbol
 mark_is place kinds.Word text rest form letter stops = let named = name_letter text form in absurd (grind (arith, nat_tests))
-mark_is place kinds.Number text rest (inl whole) letter stops = whole_is place text rest whole stops
-mark_is place kinds.Number text rest (inr point) letter stops = point_number_is place text rest point stops
+mark_is place kinds.Number text rest (inl whole) letter stops = whole_is place text rest whole (digits_stop text (get_or rest 0 0) whole.digits.each stops)
+mark_is place kinds.Number text rest (inr point) letter stops = point_number_is place text rest point (no_digit text (get_or rest 0 0) stops)
 mark_is place kinds.Quoted text rest form letter stops = quoted_is place text rest form
 mark_is place kinds.Doc text rest form letter stops = doc_is place text rest form
 mark_is place kinds.OpenBrace text rest form letter stops = symbol_is place kinds.OpenBrace text _ rest form refl
@@ -285,12 +305,12 @@ word_or_mark kinds.Equals text form = inr (ap (λ l. starts_name (get_or l 0 0))
 word_or_mark kinds.Point text form = inr (ap (λ l. starts_name (get_or l 0 0)) form)
 word_or_mark kinds.DoubleDash text form = inr (ap (λ l. starts_name (get_or l 0 0)) form)
 
-pub piece_is : (place : Place) (kind : TokenKind) (text rest : List ℕ) → HasForm kind text → IsAfter kind rest
+pub piece_is : (place : Place) (kind : TokenKind) (text rest : List ℕ) → HasForm kind text → IsAfter kind text rest
     → piece_at place (text ++ rest) ≡ Ok (pieces.Token kind (length text))
 piece_is place kind text rest form after = either_way (word_or_mark kind text form)
   where
     either_way : (kind ≡ kinds.Word) ⊎ (starts_name (get_or text 0 0) ≡ false) → piece_at place (text ++ rest) ≡ Ok (pieces.Token kind (length text))
     either_way (inl same) =
-        let word = word_is place text rest (subst (λ k. HasForm k text) same form) (subst (λ k. IsAfter k rest) same after) in
+        let word = word_is place text rest (subst (λ k. HasForm k text) same form) (subst (λ k. IsAfter k text rest) same after) in
         word ∙ ap (λ k. Ok (pieces.Token k (length text))) (sym same)
     either_way (inr letter) = mark_found place kind text rest form after letter ∙ mark_is place kind text rest form letter after.stops

@@ -14,18 +14,18 @@ use Rattle.til_lexer.specs.declared.token.TokenKind.TheVariants as kinds
 use Rattle.til_lexer.specs.Pieces.{piece_at}
 use Rattle.til_lexer.specs.Places.{start, place_past}
 use Rattle.til_lexer.specs.Spans.{is_space, space_length}
-use Rattle.til_lexer.specs.Spelling.{AreSpelled, HasForm, IsApart, IsSpelled, Spelled, SpelledTokensAreRead, SpellingsAreTheirTexts, own_text, runs_on, spelled_text, token_spelled, tokens_spelled}
+use Rattle.til_lexer.specs.Spelling.{AreSpelled, HasForm, IsApart, IsSpelled, Spelled, SpelledTokensAreRead, SpellingsAreTheirTexts, own_text, runs_on, goes_on, spelled_text, token_spelled, tokens_spelled}
 use Rattle.til_lexer.specs.Tokens.{tokens_from, tokens_in, tokens_of, with_front}
 use Rattle.til_lexer.proofs.CutLemmas.{is_space-ascii}
 use Rattle.til_lexer.proofs.FormBegins.{ascii_utf8, first_of_all, form_begins, form_utf8}
 use Rattle.til_lexer.proofs.LexLemmas.{tokens_from-piece, with_front-nil}
 use Rattle.til_lexer.proofs.PlaceLemmas.{offset_past, place_past-append}
-use Rattle.til_lexer.proofs.SpelledPieces.{IsAfter, first_of_front, piece_is, prefix_up_to}
+use Rattle.til_lexer.proofs.SpelledPieces.{IsAfter, first_of_front, goes-less, piece_is, prefix_up_to}
 use Rattle.til_lexer.proofs.WordLemmas.{all_ascii}
 
 -- ---- a token, and white space, at the front of a text
 
-token_step : (place : Place) (kind : TokenKind) (front rest : List ℕ) → HasForm kind front → IsAfter kind rest
+token_step : (place : Place) (kind : TokenKind) (front rest : List ℕ) → HasForm kind front → IsAfter kind front rest
     → tokens_from 0 place (front ++ rest) ≡ with_front (tokens_in place (found.Token kind (length front))) (tokens_from 0 (place_past place front) rest)
 token_step place kind front rest form after =
     let some = (form_begins kind front form).some in
@@ -116,24 +116,24 @@ opens (piece ∷ pieces) are =
     }
 
 -- the byte after a token does not go on with it
-next_stops : (kind : TokenKind) (gap : List ℕ) (piece : Spelled) (pieces : List Spelled) → piece.kind ≡ kind → piece.gap ≡ gap
-    → list_all is_space gap ≡ true → IsApart piece pieces → AreSpelled pieces → runs_on kind (get_or (gap ++ spelled_text pieces) 0 0) ≡ false
-next_stops kind (byte ∷ gap) piece pieces is_kind is_gap all apart are = space_stops kind byte (first_of_all is_space byte gap all)
-next_stops kind [] piece [] is_kind is_gap all apart are = ends_anywhere kind
-next_stops kind [] piece (next ∷ pieces) is_kind is_gap all apart are = ap (runs_on kind) (first_spelled next pieces are.0)
-    ∙ ap (λ k. runs_on k (get_or next.spelling 0 0)) (sym is_kind) ∙ apart is_gap
+next_stops : (gap : List ℕ) (piece : Spelled) (pieces : List Spelled) → piece.gap ≡ gap → list_all is_space gap ≡ true → IsApart piece pieces → AreSpelled pieces
+    → goes_on piece.kind piece.spelling (get_or (gap ++ spelled_text pieces) 0 0) ≡ false
+next_stops (byte ∷ gap) piece pieces is_gap all apart are =
+    goes-less piece.kind piece.spelling byte (space_stops piece.kind byte (first_of_all is_space byte gap all))
+next_stops [] piece [] is_gap all apart are = goes-less piece.kind piece.spelling 0 (ends_anywhere piece.kind)
+next_stops [] piece (next ∷ pieces) is_gap all apart are = ap (goes_on piece.kind piece.spelling) (first_spelled next pieces are.0) ∙ apart is_gap
 
 next_ascii : (gap rest : List ℕ) → list_all is_space gap ≡ true → get_or rest 0 0 < 128 → get_or (gap ++ rest) 0 0 < 128
 next_ascii [] rest all ascii = ascii
 next_ascii (byte ∷ gap) rest all ascii = is_space-ascii byte (first_of_all is_space byte gap all)
 
-after : (piece : Spelled) (pieces : List Spelled) → AreSpelled (piece ∷ pieces) → IsAfter piece.kind (piece.gap ++ spelled_text pieces)
+after : (piece : Spelled) (pieces : List Spelled) → AreSpelled (piece ∷ pieces) → IsAfter piece.kind piece.spelling (piece.gap ++ spelled_text pieces)
 after piece pieces are =
     let rest = opens pieces are.2 in
     record {
       utf8 = IsUtf8-append piece.gap (spelled_text pieces) (gap_utf8 piece.gap are.0.space) rest.utf8;
       ascii = next_ascii piece.gap (spelled_text pieces) are.0.space rest.ascii;
-      stops = next_stops piece.kind piece.gap piece pieces refl refl are.0.space are.1 are.2;
+      stops = next_stops piece.gap piece pieces refl are.0.space are.1 are.2;
     }
 
 -- ---- the law

@@ -7,8 +7,6 @@ use Rattle.std.specs.Str.{chars}
 use Rattle.tydi_base.specs.declared.place.Place.{Place}
 use Rattle.til_lexer.specs.declared.fault.LexFault.{LexFault}
 use Rattle.til_lexer.specs.declared.fault.LexFault.TheVariants as faults
-use Rattle.til_lexer.specs.declared.marks.TheConstants.{HASH, QUOTE}
-use Rattle.til_lexer.specs.declared.numbers.TheConstants.{MOST_DIGITS}
 use Rattle.til_lexer.specs.declared.token.TokenKind.{TokenKind}
 use Rattle.til_lexer.specs.declared.token.TokenKind.TheVariants as kinds
 use Rattle.til_lexer.specs.declared.piece.Piece.{Piece}
@@ -32,7 +30,7 @@ number_length whole fraction = if fraction == 0 then whole else whole + 1 + frac
 -- the token that a number of so many digits before and after its point is: a fault where they are too many
 unfoldable pub number_token : Place → ℕ → ℕ → Result Piece LexFault
 number_token place whole fraction =
-    if nat_lt MOST_DIGITS (whole + fraction) then Err (faults.NumberTooLong place)
+    if nat_lt 18 (whole + fraction) then Err (faults.NumberTooLong place)
     else Ok (Token kinds.Number (number_length whole fraction))
 
 -- the number at the front of a text: digits, and then a point and digits where both stand there
@@ -79,8 +77,8 @@ symbol_at place bytes = symbol_token place (double_symbol (slice_index bytes 0) 
 unfoldable pub mark_at : Place → List ℕ → Result Piece LexFault
 mark_at place bytes =
     if is_ascii_digit (slice_index bytes 0) then number_at place bytes
-    else (if slice_index bytes 0 == QUOTE then closed_token kinds.Quoted (faults.OpenString place) (until_mark QUOTE (drop 1 bytes))
-    else (if slice_index bytes 0 == HASH then closed_token kinds.Doc (faults.OpenDoc place) (until_mark HASH (drop 1 bytes))
+    else (if slice_index bytes 0 == 34 then closed_token kinds.Quoted (faults.OpenString place) (until_mark 34 (drop 1 bytes))
+    else (if slice_index bytes 0 == 35 then closed_token kinds.Doc (faults.OpenDoc place) (until_mark 35 (drop 1 bytes))
     else symbol_at place bytes))
 
 -- the piece at the front of a text, or the fault there. The front of the text stands at this place.

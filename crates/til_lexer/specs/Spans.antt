@@ -4,7 +4,6 @@ use Rattle.std.specs.Char.{is_ascii_digit}
 use Rattle.std.specs.List.{prefix_len, position_or_len}
 use Rattle.std.specs.Fn.{Shared}
 use denote.Ref.{Bor}
-use Rattle.tydi_base.specs.declared.pieces.TheConstants.{LINE_FEED}
 use Rattle.tydi_base.specs.declared.place.Place.{Place}
 use Rattle.til_lexer.specs.declared.spans.Span.{Span}
 use Rattle.til_lexer.specs.Places.{place_past}
@@ -15,7 +14,7 @@ Decides {F} calls f test = (byte : Bor ℕ) (passes : Bool) → calls.post f (by
 
 -- how many bytes at the front pass a test and are no LF
 abbrev pub in_line : (ℕ → Bool) → List ℕ → ℕ
-in_line test bytes = prefix_len (λ byte. not (byte == LINE_FEED) && test byte) bytes
+in_line test bytes = prefix_len (λ byte. not (byte == 10) && test byte) bytes
 
 -- each call of a closure counts the bytes at the front of a text that pass a test and are no LF
 abbrev pub CountsInLine : {F : Type 0} → Shared F (Bor (List ℕ) × Unit {0}) ℕ → F → (ℕ → Bool) → Type 0

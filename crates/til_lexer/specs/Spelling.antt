@@ -1,5 +1,5 @@
 -- The form of each kind of token, and how tokens are spelled so that they are read again. This project's own.
-use Rattle.std.specs.Prelude.{◌≡◌, ℕ, ◌+◌, ◌-◌, ◌<◌, ◌≤◌, ◌==◌, ◌||◌, ◌⊎◌, Bool, false, List, [], ◌∷◌, ◌++◌, length, take, drop, map, slice_index}
+use Rattle.std.specs.Prelude.{◌≡◌, ℕ, ◌+◌, ◌-◌, ◌<◌, ◌≤◌, ◌==◌, ◌&&◌, ◌||◌, ◌⊎◌, Bool, false, List, [], ◌∷◌, ◌++◌, length, take, drop, map, slice_index}
 use Rattle.std.specs.Prelude.{Ok, IsTrue, All, codes}
 use Rattle.std.specs.Char.{is_ascii_digit}
 use Rattle.std.specs.List.{list_all}
@@ -8,8 +8,6 @@ use Rattle.tydi_base.specs.declared.place.Place.{Place}
 use Rattle.tydi_base.specs.Name.{is_name_byte, has_name_form}
 use Rattle.tydi_base.specs.Pieces.{Lacks}
 use Rattle.til_lexer.specs.declared.token.Token.{Token}
-use Rattle.til_lexer.specs.declared.marks.TheConstants.{HASH, QUOTE}
-use Rattle.til_lexer.specs.declared.numbers.TheConstants.{MOST_DIGITS}
 use Rattle.til_lexer.specs.declared.token.TokenKind.{TokenKind}
 use Rattle.til_lexer.specs.declared.token.TokenKind.TheVariants as kinds
 use Rattle.til_lexer.specs.Places.{start, place_past}
@@ -30,7 +28,7 @@ pub record AreDigits (digits : List ℕ) : Type 0 where
 -- a number without a point: digits, not too many
 pub record IsWholeNumber (text : List ℕ) : Type 0 where
   pub digits : AreDigits text
-  pub few : length text ≤ MOST_DIGITS
+  pub few : length text ≤ 18
 
 -- a number with a point: digits before it and digits behind it, not too many in all
 pub record IsPointNumber (text : List ℕ) : Type 0 where
@@ -39,7 +37,7 @@ pub record IsPointNumber (text : List ℕ) : Type 0 where
   pub parts : text ≡ before ++ 46 ∷ behind
   pub digits_before : AreDigits before
   pub digits_behind : AreDigits behind
-  pub few : length before + length behind ≤ MOST_DIGITS
+  pub few : length before + length behind ≤ 18
 
 -- a text in UTF-8 between two such marks, without such a mark in it
 pub record IsBetween (mark : ℕ) (text : List ℕ) : Type 0 where
@@ -52,8 +50,8 @@ pub record IsBetween (mark : ℕ) (text : List ℕ) : Type 0 where
 abbrev pub HasForm : TokenKind → List ℕ → Type 0
 HasForm kinds.Word text = IsTrue (has_name_form text)
 HasForm kinds.Number text = IsWholeNumber text ⊎ IsPointNumber text
-HasForm kinds.Quoted text = IsBetween QUOTE text
-HasForm kinds.Doc text = IsBetween HASH text
+HasForm kinds.Quoted text = IsBetween 34 text
+HasForm kinds.Doc text = IsBetween 35 text
 HasForm kinds.OpenBrace text = text ≡ codes "{"
 HasForm kinds.CloseBrace text = text ≡ codes "}"
 HasForm kinds.OpenParen text = text ≡ codes "("
@@ -79,12 +77,17 @@ abbrev pub spelled_text : List Spelled → List ℕ
 spelled_text [] = []
 spelled_text (piece ∷ pieces) = (piece.spelling ++ piece.gap) ++ spelled_text pieces
 
--- a token of this kind would go on with this byte after it
+-- some token of this kind would go on with this byte after it
 abbrev pub runs_on : TokenKind → ℕ → Bool
 runs_on kinds.Word byte = is_name_byte byte
 runs_on kinds.Number byte = is_ascii_digit byte || byte == 46
 runs_on kinds.Colon byte = byte == 58
 runs_on kind byte = false
+
+-- a token of this kind and text would go on with this byte after it: a number with a point goes on with digits alone
+abbrev pub goes_on : TokenKind → List ℕ → ℕ → Bool
+goes_on kinds.Number spelling byte = is_ascii_digit byte || (list_all is_ascii_digit spelling && byte == 46)
+goes_on kind spelling byte = runs_on kind byte
 
 -- a token has the form of its kind, and white space after it
 pub record IsSpelled (piece : Spelled) : Type 0 where
@@ -94,7 +97,7 @@ pub record IsSpelled (piece : Spelled) : Type 0 where
 -- a token with no white space after it would not go on with the one that follows, if one does
 abbrev pub IsApart : Spelled → List Spelled → Type 0
 IsApart piece [] = Unit {0}
-IsApart piece (next ∷ pieces) = piece.gap ≡ [] → runs_on piece.kind (slice_index next.spelling 0) ≡ false
+IsApart piece (next ∷ pieces) = piece.gap ≡ [] → goes_on piece.kind piece.spelling (slice_index next.spelling 0) ≡ false
 
 -- each of these tokens is spelled in its form, and apart from the next
 abbrev pub AreSpelled : List Spelled → Type 0

@@ -8,7 +8,6 @@ ghost use Rattle.til_lexer.specs.Tokens.{length_of, tokens_in, tokens_of};
 use crate::fault::LexFault;
 use crate::piece::Piece;
 use crate::pieces::piece_at;
-use crate::places::start;
 use crate::token::Token;
 use std::alloc::Global;
 use tydi_base::{List, Memory, Place};
@@ -20,7 +19,7 @@ pub fn lex(alloc: Global, text: &str) -> Result<List<Token>, LexFault>
     ensures gives { Gives fault_in (λ tokens. tokens) result (tokens_of text.now) }
 {
     let mut tokens = List::new(alloc);
-    let mut place = start();
+    let mut place = Place::start();
     let mut rest = text;
     'pieces: while !rest.is_empty() {
         let (piece, after) = piece_at(place, rest)?;

@@ -1,7 +1,6 @@
-//! The tokens of a text in the Tydi Intermediate Language. `lex` gives the tokens of a text, each with its place, or the
-//! text's first fault with its place; `specs/Tokens.antt` says which these are, and `specs/Spelling.antt` what form each kind
-//! has and which texts are read as given tokens. It stands on `tydi_base` and, for which characters a word may have, on
-//! `unicode_ident`.
+//! The tokens of a text in the Tydi Intermediate Language. `lex` gives the tokens, each with its place, or the first error with its
+//! place. `specs/Tokens.antt` says which tokens a text has, and `specs/Spelling.antt` which form each kind has. The crate stands on
+//! `tydi_base`, and on `unicode_ident` for the characters of a word.
 #![tactic(auto)]
 
 mod fault;
@@ -11,7 +10,6 @@ mod marks;
 mod numbers;
 mod piece;
 mod pieces;
-mod places;
 mod spans;
 mod symbols;
 mod token;

@@ -9,7 +9,6 @@ ghost use Rattle.tydi_base.specs.declared.pieces.TheConstants.{LINE_FEED};
 use crate::fault::LexFault;
 use crate::numbers::number_at;
 use crate::piece::{Piece, on_line};
-use crate::places::along;
 use crate::spans::until_mark;
 use crate::symbols::symbol_at;
 use crate::token::TokenKind;
@@ -57,8 +56,8 @@ fn closed_token(
     requires column { place.column ≤ place.offset + 1 }
     ensures { result ≡ placed place (mark ∷ after.now) (spec.closed_token kind fault (until_mark mark after.now)) }
 {
-    match until_mark(mark, along(place, 1), after) {
-        Some(span) => Ok((Piece::Token(kind, span.count + 2), along(span.after, 1))),
+    match until_mark(mark, place.along(1), after) {
+        Some(span) => Ok((Piece::Token(kind, span.count + 2), span.after.along(1))),
         None => Err(fault),
     }
 }

@@ -5,7 +5,6 @@ ghost use Rattle.til_lexer.specs.Found.{along_line};
 ghost use Rattle.til_lexer.specs.Tokens.{length_of};
 
 use crate::fault::LexFault;
-use crate::places::along;
 use crate::token::TokenKind;
 use tydi_base::Place;
 
@@ -40,5 +39,5 @@ pub(crate) fn on_line(
     ensures { result ≡ along_line place found }
 {
     let piece = found?;
-    Ok((piece, along(place, piece.len())))
+    Ok((piece, place.along(piece.len())))
 }

@@ -8,7 +8,6 @@ ghost use Rattle.til_lexer.specs.Places as places;
 ghost use Rattle.til_lexer.specs.Spans as spec;
 ghost use Rattle.til_lexer.specs.Spans.{CountsInLine, CountsWithin, Decides, IsMarked, IsSpan};
 
-use crate::places::{along, place_after};
 use memchr::{memchr, memchr2};
 use tydi_base::{LINE_FEED, Place};
 
@@ -44,7 +43,7 @@ impl Span {
     {
         Span {
             count: self.count + count,
-            after: along(self.after, count),
+            after: self.after.along(count),
         }
     }
 
@@ -59,7 +58,7 @@ impl Span {
     {
         Span {
             count: self.count + 1,
-            after: place_after(self.after, byte),
+            after: self.after.after(byte),
         }
     }
 }

@@ -20,6 +20,11 @@ pub mod SliceLemmas
 pub mod WritingLemmas
 pub mod WidthLaws
 pub mod PlainWords
+pub mod LevelOrder
+pub mod LevelLaws
+pub mod LevelText
+pub mod PlacePassing
+pub mod BinaryLemmas
 pub mod SetLemmas
 pub mod LengthLemmas
 pub mod PlaceLemmas

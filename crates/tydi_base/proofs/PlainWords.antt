@@ -68,11 +68,20 @@ is_after-lacks low separator word less e = All-from_get_or (λ byte. byte ≢ se
 pub are_plain-append : (front rest : List (List ℕ)) → are_plain front ≡ true → are_plain rest ≡ true → are_plain (front ++ rest) ≡ true
 are_plain-append front rest e f = list_all-append is_plain front rest ∙ both (are_plain front) (are_plain rest) e f
 
+pub plain-append : (front rest : List ℕ) → is_plain front ≡ true → is_plain rest ≡ true → is_plain (front ++ rest) ≡ true
+plain-append = is_after-append 32
+
 digit-plain : (byte : ℕ) → is_ascii_digit byte ≡ true → nat_lt 32 byte ≡ true
 digit-plain byte e = grind (arith, nat_tests)
 
 pub decimal-plain : (n : ℕ) → n < 2 ^ 64 → is_plain (decimal n) ≡ true
 decimal-plain n lt = is_after-by 32 is_ascii_digit digit-plain (decimal n) (digits_decimal own n lt)
+
+digit-after_point : (byte : ℕ) → is_ascii_digit byte ≡ true → nat_lt 46 byte ≡ true
+digit-after_point byte e = grind (arith, nat_tests)
+
+pub decimal-lacks_point : (n : ℕ) → n < 2 ^ 64 → Lacks 46 (decimal n)
+decimal-lacks_point n lt = is_after-lacks 46 46 (decimal n) (omega arith) (is_after-by 46 is_ascii_digit digit-after_point (decimal n) (digits_decimal own n lt))
 
 hex_one-plain : (value : ℕ) → is_plain (hex_digit value ∷ []) ≡ true
 unfolding hex_digit

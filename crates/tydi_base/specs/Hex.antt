@@ -2,22 +2,20 @@
 use Rattle.std.specs.Prelude.{ℕ, ◌+◌, ◌-◌, ◌*◌, ◌/◌, ◌%◌, Bool, true, not, ◌&&◌, eqb, ltb, leb, if◌then◌else◌, List, [], ◌∷◌, ◌++◌, length, take, drop, Option, Some, None, option_map, option_and_then}
 use Rattle.std.specs.Option.{unwrap_or}
 use Rattle.tydi_base.specs.Bits.{bits_of, number_of_bits, zero_bits}
-use Rattle.tydi_base.specs.declared.decimal.TheConstants.{ZERO}
-use Rattle.tydi_base.specs.declared.hex.TheConstants.{LETTER_A, NO_DIGIT}
 
 -- the byte of the digit of this value: `0` to `9` and then `a` to `f`
 unfoldable pub hex_digit : ℕ → ℕ
-hex_digit value = if ltb value 10 then ZERO + value else (LETTER_A + (value - 10))
+hex_digit value = if ltb value 10 then 48 + value else (97 + (value - 10))
 
 -- the value of the digit that this byte is: None where it is none of `0` to `9` and `a` to `f`
 unfoldable pub digit_of : ℕ → Option ℕ
 digit_of byte =
-    if leb ZERO byte && ltb byte (ZERO + 10) then Some (byte - ZERO)
-    else (if leb LETTER_A byte && ltb byte (LETTER_A + 6) then Some (byte - LETTER_A + 10) else None)
+    if leb 48 byte && ltb byte (48 + 10) then Some (byte - 48)
+    else (if leb 97 byte && ltb byte (97 + 6) then Some (byte - 97 + 10) else None)
 
--- the value of the digit that this byte is, or NO_DIGIT where it is none
+-- the value of the digit that this byte is, or 255 where it is none
 unfoldable pub marked_digit : ℕ → ℕ
-marked_digit byte = unwrap_or (digit_of byte) NO_DIGIT
+marked_digit byte = unwrap_or (digit_of byte) 255
 
 -- the spelling of a word: a digit for each four of its bits, from the low end, the highest digit first
 unfoldable pub hex_of : List Bool → List ℕ

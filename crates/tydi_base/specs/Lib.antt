@@ -3,6 +3,9 @@ pub mod Hex
 pub mod Numbers
 pub mod HexWords
 pub mod Level
+pub mod Binary
+pub mod Lending
+pub mod Places
 pub mod Reading
 pub mod Decimal
 pub mod Pieces

@@ -3,7 +3,6 @@ use Rattle.std.specs.Prelude.{ℕ, ◌-◌, Bool, false, ◌==◌, ◌&&◌, ◌
 use Rattle.std.specs.Char.{is_ascii_alphabetic, is_ascii_alphanumeric}
 use Rattle.std.specs.List.{list_all}
 use Rattle.std.specs.Str.{bytes_eq}
-use Rattle.tydi_base.specs.declared.name.TheConstants.{UNDERSCORE}
 use Rattle.tydi_base.specs.declared.name.Letters.{Letters}
 use Rattle.tydi_base.specs.declared.name.Letters.TheVariants as letters
 
@@ -14,7 +13,7 @@ letters_of (letters.Many many) = many
 
 -- an ASCII letter, a digit or `_`
 abbrev pub is_name_byte : ℕ → Bool
-is_name_byte byte = is_ascii_alphanumeric byte || byte == UNDERSCORE
+is_name_byte byte = is_ascii_alphanumeric byte || byte == 95
 
 -- the first byte is an ASCII letter
 abbrev pub begins_with_letter : List ℕ → Bool
@@ -22,12 +21,12 @@ begins_with_letter text = is_ascii_alphabetic (slice_index text 0)
 
 -- the last byte is `_`
 abbrev pub ends_in_underscore : List ℕ → Bool
-ends_in_underscore text = slice_index text (length text - 1) == UNDERSCORE
+ends_in_underscore text = slice_index text (length text - 1) == 95
 
 -- somewhere two `_` stand together
 abbrev pub has_double_underscore : List ℕ → Bool
 has_double_underscore [] = false
-has_double_underscore (byte ∷ bytes) = (byte == UNDERSCORE && slice_index bytes 0 == UNDERSCORE) || has_double_underscore bytes
+has_double_underscore (byte ∷ bytes) = (byte == 95 && slice_index bytes 0 == 95) || has_double_underscore bytes
 
 -- the words that name the kinds of logical types, and nothing else
 abbrev pub is_reserved : List ℕ → Bool

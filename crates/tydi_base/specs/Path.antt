@@ -3,22 +3,21 @@ use Rattle.std.specs.Prelude.{◌≡◌, ℕ, ◌<◌, Bool, true, false, ◌==�
 use Rattle.std.specs.List.{list_all, join_with_byte, flat_map, onto_first}
 use Rattle.std.specs.Str.{bytes_eq}
 use Rattle.tydi_base.specs.Name.{is_name}
-use Rattle.tydi_base.specs.declared.path.TheConstants.{COLON, POINT}
 use Rattle.tydi_base.specs.Pieces.{pieces_of}
 
 -- two colons together stand at the front
 abbrev pub begins_with_colons : List ℕ → Bool
-begins_with_colons text = slice_index text 0 == COLON && slice_index text 1 == COLON
+begins_with_colons text = slice_index text 0 == 58 && slice_index text 1 == 58
 
 -- the pieces between two colons together: from the left, the first two that stand together end a piece
 abbrev pub colon_pieces : List ℕ → List (List ℕ)
 colon_pieces [] = [] ∷ []
 colon_pieces (byte ∷ []) = (byte ∷ []) ∷ []
-colon_pieces (byte ∷ next ∷ rest) = if byte == COLON && next == COLON then [] ∷ colon_pieces rest else onto_first byte (colon_pieces (next ∷ rest))
+colon_pieces (byte ∷ next ∷ rest) = if byte == 58 && next == 58 then [] ∷ colon_pieces rest else onto_first byte (colon_pieces (next ∷ rest))
 
 -- the pieces of a path's text, between `::` or between `.`
 abbrev pub path_pieces : Bool → List ℕ → List (List ℕ)
-path_pieces colons text = if colons then colon_pieces text else pieces_of POINT text
+path_pieces colons text = if colons then colon_pieces text else pieces_of 46 text
 
 -- the names between the separators of a text, where each piece is a name
 abbrev pub names_of : Bool → List ℕ → Option (List (List ℕ))
@@ -35,12 +34,12 @@ path_of text = path_at false text
 -- the text of a path with `.` between the names, and `-` for the empty path
 abbrev pub path_text : List (List ℕ) → List ℕ
 path_text [] = codes "-"
-path_text (name ∷ names) = join_with_byte POINT (name ∷ names)
+path_text (name ∷ names) = join_with_byte 46 (name ∷ names)
 
 -- the text of a path with `::` between the names; `-`, which is then read as no path, for the empty path
 abbrev pub colon_text : List (List ℕ) → List ℕ
 colon_text [] = codes "-"
-colon_text (name ∷ names) = name ++ flat_map (λ next. COLON ∷ COLON ∷ next) names
+colon_text (name ∷ names) = name ++ flat_map (λ next. 58 ∷ 58 ∷ next) names
 
 -- the text of a path, with `::` or with `.` between the names
 abbrev pub spelled_path : Bool → List (List ℕ) → List ℕ

@@ -1,7 +1,6 @@
 -- The pieces of a text between bytes of one kind. This project's own.
 use Rattle.std.specs.Prelude.{◌≡◌, ◌≢◌, ℕ, ◌<◌, ◌==◌, List, length, All}
 use Rattle.std.specs.List.{slice_split, join_with_byte}
-use Rattle.tydi_base.specs.declared.pieces.TheConstants.{LINE_FEED, SPACE}
 
 -- the pieces between the separators, an empty one where two stand together
 abbrev pub pieces_of : ℕ → List ℕ → List (List ℕ)
@@ -9,11 +8,11 @@ pieces_of separator text = slice_split (λ byte. byte == separator) text
 
 -- the words of a line, with one space between each two
 abbrev pub words_of : List ℕ → List (List ℕ)
-words_of line = pieces_of SPACE line
+words_of line = pieces_of 32 line
 
 -- the lines of a text up to each LF, and what follows the last LF
 abbrev pub lines_of : List ℕ → List (List ℕ)
-lines_of text = pieces_of LINE_FEED text
+lines_of text = pieces_of 10 text
 
 -- a text in which the separator does not stand
 abbrev pub Lacks : ℕ → List ℕ → Type 0

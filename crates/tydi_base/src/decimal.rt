@@ -1,6 +1,6 @@
-//! Decimal numbers in texts, with no sign and no leading zero.
+//! Decimal numbers in texts, with no sign.
 
-ghost use Rattle.std.specs.Prelude.{◌≡◌, ◌≤◌, ◌+◌, ◌*◌, ◌^◌, ◌++◌, [], ◌∷◌, length, Some, IsTrue, decimal, OnOk, OnErr};
+ghost use Rattle.std.specs.Prelude.{◌≡◌, ◌≤◌, ◌<◌, ℕ, IfSome, IfNone, ◌+◌, ◌*◌, ◌^◌, ◌++◌, [], ◌∷◌, length, Some, IsTrue, decimal, OnOk, OnErr};
 ghost use Rattle.std.specs.List.{list_all};
 ghost use Rattle.std.specs.Char as chars;
 ghost use Rattle.tydi_base.specs.Decimal as spec;
@@ -76,27 +76,121 @@ fn are_digits(bytes: &[u8]) -> bool
     bytes.iter().all(|byte| byte.is_ascii_digit())
 }
 
+/// A number that decimal digits are read as, one digit after another.
+trait FromDigits: Copy {
+    // The least number that it is too narrow for.
+    ghost limit: { ℕ };
+
+    // The number that it is.
+    ghost value: { Self → ℕ };
+
+    /// The number of no digits.
+    fn nothing() -> Self
+        ensures zero { value result ≡ 0 }
+        ensures fits { 0 < limit };
+
+    /// The number with one more digit, where it fits.
+    fn with_digit(self, digit: u8) -> Option<Self>
+        ensures some { IfSome result (λ more. (value more ≡ 10 * value self + digit) × (value more < limit)) }
+        ensures none { IfNone result (limit ≤ 10 * value self + digit) };
+}
+
+impl FromDigits for u64 {
+    ghost limit = { 2 ^ 64 };
+
+    ghost value = { λ number. number };
+
+    fn nothing() -> u64 {
+        0
+    }
+
+    fn with_digit(self, digit: u8) -> Option<u64> {
+        self.checked_mul(10)?.checked_add(u64::from(digit))
+    }
+}
+
+impl FromDigits for u128 {
+    ghost limit = { 2 ^ 128 };
+
+    ghost value = { λ number. number };
+
+    fn nothing() -> u128 {
+        0
+    }
+
+    fn with_digit(self, digit: u8) -> Option<u128> {
+        self.checked_mul(10)?.checked_add(u128::from(digit))
+    }
+}
+
+/// The number that these digits spell, where it fits.
+fn spelled_number<N: FromDigits>(digits: &[u8]) -> Option<N>
+    requires { IsTrue (list_all chars.is_ascii_digit digits.now) }
+    ensures some { IfSome result (λ number. (N.value number ≡ spec.read_on 0 digits.now) × (N.value number < N.limit)) }
+    ensures none { IfNone result (N.limit ≤ spec.read_on 0 digits.now) }
+{
+    let mut value = N::nothing();
+    'digits: for digit in digits {
+        match value.with_digit(*digit - ZERO) {
+            Some(more) => value = more,
+            None => return None,
+        }
+    }
+    Some(value)
+}
+
 /// The number that these digits spell, which may begin with zeros. None exactly where it is 2 ^ 64 or more.
 pub fn number_of_digits(digits: &[u8]) -> Option<u64>
     requires { IsTrue (list_all chars.is_ascii_digit digits.now) }
     ensures { result ≡ spec.below (2 ^ 64) (Some (spec.read_on 0 digits.now)) }
 {
-    let mut value: u64 = 0;
-    for digit in digits {
-        value = with_digit(value, *digit - ZERO)?;
-    }
-    Some(value)
+    spelled_number(digits)
 }
 
-/// The number with one more digit, where it fits.
-fn with_digit(value: u64, digit: u8) -> Option<u64>
-    ensures { result ≡ spec.below (2 ^ 64) (Some (10 * value + digit)) }
+/// The same of a wide number. None exactly where it is 2 ^ 128 or more.
+pub fn wide_number_of_digits(digits: &[u8]) -> Option<u128>
+    requires { IsTrue (list_all chars.is_ascii_digit digits.now) }
+    ensures { result ≡ spec.below (2 ^ 128) (Some (spec.read_on 0 digits.now)) }
 {
-    value.checked_mul(10)?.checked_add(u64::from(digit))
+    spelled_number(digits)
+}
+
+/// The wide number that these digits spell: at least one digit, and no leading zero. None exactly where they spell none, or
+/// one of 2 ^ 128 or more.
+pub fn read_wide_decimal(digits: &[u8]) -> Option<u128>
+    ensures { result ≡ spec.below (2 ^ 128) (spec.decimal_of digits.now) }
+{
+    if !is_decimal(digits) {
+        return None;
+    }
+    wide_number_of_digits(digits)
+}
+
+/// The wide number that these digits spell: at least one digit, and any leading zeros. None exactly where they spell none, or
+/// one of 2 ^ 128 or more.
+pub fn read_padded_decimal(digits: &[u8]) -> Option<u128>
+    ensures { result ≡ spec.below (2 ^ 128) (spec.padded_decimal_of digits.now) }
+{
+    if digits.is_empty() {
+        return None;
+    }
+    if !are_digits(digits) {
+        return None;
+    }
+    wide_number_of_digits(digits)
 }
 
 /// Adds the digits of a number at the end. After `Memory` the list is as before.
 pub fn write_decimal(n: u64, out: &mut List<u8>) -> Result<(), Memory>
+    ensures ok { OnOk result (out.new ≡ out.old ++ decimal n) }
+    ensures err { OnErr result (out.new ≡ out.old) }
+{
+    let mut buffer = Buffer::new();
+    out.extend_from_slice(buffer.format(n).as_bytes())
+}
+
+/// Adds the digits of a wide number at the end. After `Memory` the list is as before.
+pub fn write_wide_decimal(n: u128, out: &mut List<u8>) -> Result<(), Memory>
     ensures ok { OnOk result (out.new ≡ out.old ++ decimal n) }
     ensures err { OnErr result (out.new ≡ out.old) }
 {
@@ -118,8 +212,11 @@ pub fn decimal_length(number: u64) -> u64
     digits
 }
 
-/// The law of reading and spelling: each number that fits has one spelling, and is read from nothing else.
+/// The laws of reading and spelling numbers below 2 ^ 128: each has one spelling with no leading zero, and is read from nothing
+/// else; with leading zeros it is read from these and that spelling, and from nothing else.
 pub fn decimals_are_read_as_spelled()
     ensures spelled { spec.DecimalsAreReadAsSpelled }
     ensures read { spec.DecimalsAreSpelledAsRead }
+    ensures padded { spec.PaddedDecimalsAreReadAsSpelled }
+    ensures padded_read { spec.PaddedDecimalsAreSpelledAsRead }
 {}

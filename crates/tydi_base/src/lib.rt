@@ -1,7 +1,8 @@
-//! What every crate of Tydi stands on: texts, names, paths, levels and words of bits, each seen by contracts as the list,
-//! number or record that it stands for, and the small readers that all text formats share.
+//! The types and small readers that every crate uses: lists, texts, places, names, paths, levels, words of bits, fractions, numbers, and
+//! the writing of texts. Contracts see each type as the list, number or record that it stands for. The crate stands on the kit alone.
 #![tactic(auto)]
 
+mod binary;
 mod bits;
 mod boxed;
 mod compared;
@@ -28,16 +29,19 @@ mod width;
 mod words_left;
 mod writing;
 
+pub use binary::{Binary, binary_is_read_as_spelled};
 pub use bits::Bits;
 pub use boxed::Boxed;
 pub use decimal::{
-    decimal_length, decimals_are_read_as_spelled, number_of_digits, read_decimal, write_decimal,
+    decimal_length, decimals_are_read_as_spelled, number_of_digits, read_decimal,
+    read_padded_decimal, read_wide_decimal, wide_number_of_digits, write_decimal,
+    write_wide_decimal,
 };
 pub use digit_numbers::{hex_number, hex_number_within};
 pub use frac::Frac;
 pub use hex::{digit_value, hex_length, hexadecimal_is_read_as_spelled};
 pub use hex_word::BitsFault;
-pub use level::Level;
+pub use level::{Level, levels_are_ordered, levels_are_read_as_spelled};
 pub use list::List;
 pub use memory::Memory;
 pub use name::{Name, has_name_form, is_name};

@@ -1,6 +1,9 @@
-ghost use Rattle.std.specs.Prelude.{◌≡◌, ◌≤◌, ◌<◌, [], ◌∷◌, ◌++◌, take, length, slice_get, ◌↔◌, IsTrue, IfOk, OnOk, OnErr, OnSome, MatchOption};
+ghost use Rattle.std.specs.Prelude.{◌≡◌, ◌≤◌, ◌<◌, [], ◌∷◌, ◌++◌, take, length, slice_get, ◌↔◌, IsTrue, IsSome, IfSome, IfOk, OnOk, OnErr, OnSome, MatchOption};
 ghost use Rattle.std.specs.Option.{option_copied};
+ghost use Rattle.std.specs.List.{slice_index_or};
 ghost use Rattle.std.specs.Slice.Iter.{iter_rest};
+ghost use Rattle.std.specs.Borrow.{sem};
+ghost use Rattle.tydi_base.specs.Lending.{LendsElement};
 
 use crate::memory::Memory;
 use std::alloc::Global;
@@ -34,12 +37,23 @@ impl<T> List<T> {
         }
     }
 
+    /// The empty list, with room for so many elements.
+    pub fn with_capacity(alloc: Global, count: usize) -> Result<List<T>, Memory>
+        ensures { IfOk result (λ list. list ≡ []) }
+    {
+        Ok(List {
+            elements: Vec::with_capacity(alloc, count)?,
+        })
+    }
+
+    /// The list of what a `Vec` holds. It takes no memory.
     pub fn from_vec(elements: Vec<T>) -> List<T>
         ensures { result ≡ elements.items }
     {
         List { elements }
     }
 
+    /// The `Vec` of its elements. It takes no memory.
     pub fn into_vec(self) -> Vec<T>
         ensures { result.items ≡ self }
     {
@@ -71,6 +85,15 @@ impl<T> List<T> {
         self.elements.get(index)
     }
 
+    /// The element at this place, for writing. None exactly where there is none.
+    pub fn get_mut(&mut self, index: usize) -> Option<&mut T>
+        ensures* writes_back { sem 𝓛 (LendsElement T.row self.entry index result) }
+        ensures some { IsSome result ↔ (index < length self.old) }
+        ensures value { IfSome result (λ element. element.now ≡ slice_index_or self.old index element.now) }
+    {
+        self.elements.get_mut(index)
+    }
+
     pub fn iter(&self) -> slice::Iter<'_, T>
         ensures { iter_rest result ≡ self.now }
     {
@@ -79,6 +102,14 @@ impl<T> List<T> {
 }
 
 impl<T: Drop> List<T> {
+    /// Makes room for so many elements more. The list stays as it is.
+    pub fn reserve(&mut self, count: usize) -> Result<(), Memory>
+        ensures { self.new ≡ self.old }
+    {
+        self.elements.reserve(count)?;
+        Ok(())
+    }
+
     /// Adds an element at the end. After `Memory` the list is as before.
     pub fn push(&mut self, element: T) -> Result<(), Memory>
         ensures ok { OnOk result (self.new ≡ self.old ++ element ∷ []) }

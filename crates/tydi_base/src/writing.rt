@@ -8,7 +8,7 @@ ghost use Rattle.tydi_base.specs.Path.{colon_text, path_text};
 ghost use Rattle.tydi_base.specs.Writing.{StandsInFront};
 
 use crate::bits::Bits;
-use crate::decimal::write_decimal;
+use crate::decimal::{write_decimal, write_wide_decimal};
 use crate::list::List;
 use crate::memory::Memory;
 use crate::name::Name;
@@ -135,6 +135,14 @@ impl Written for u64 {
 
     fn write_to(&self, out: &mut List<u8>) -> Result<(), Memory> {
         write_decimal(*self, out)
+    }
+}
+
+impl Written for u128 {
+    ghost text = { decimal };
+
+    fn write_to(&self, out: &mut List<u8>) -> Result<(), Memory> {
+        write_wide_decimal(*self, out)
     }
 }
 

@@ -1,6 +1,6 @@
-//! The outside of Tydi: where files come from and where text goes, with the faults that either may have. A `Store` hands out
-//! the bytes of files by name, a `Sink` takes bytes, and each says in its contract what a call that fails leaves behind. Both
-//! stand here in memory, which fails exactly where it is told to, and over the system, of which no contract can tell content.
+//! Files and outputs. A `Store` hands out the bytes of files by name, a `Sink` takes bytes, and the contract of each call says what a
+//! call that fails leaves behind. Both stand here in memory, for tests, and over the system, whose content no contract can show. The
+//! crate stands on `tydi_base`.
 #![tactic(auto)]
 
 mod calls;
