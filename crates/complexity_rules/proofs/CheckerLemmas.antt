@@ -26,12 +26,12 @@ use Rattle.complexity_rules.specs.declared.effect.Effect.{Effect}
 length-one_more : (cycles : List Cycle) (now : Cycle) → length (cycles ++ now ∷ []) ≡ length cycles + 1
 length-one_more cycles now = length-append cycles (now ∷ [])
 
-waiting_of-one_more : (cycles : List Cycle) (now : Cycle) → waiting_of (cycles ++ now ∷ []) ≡ refused_in now
+pub waiting_of-one_more : (cycles : List Cycle) (now : Cycle) → waiting_of (cycles ++ now ∷ []) ≡ refused_in now
 waiting_of-one_more [] now = refl
 waiting_of-one_more (c ∷ []) now = refl
 waiting_of-one_more (c ∷ d ∷ more) now = waiting_of-one_more (d ∷ more) now
 
-done_of-one_more : (cycles : List Cycle) (now : Cycle) → done_of (cycles ++ now ∷ []) ≡ done_of cycles ++ done_in now
+pub done_of-one_more : (cycles : List Cycle) (now : Cycle) → done_of (cycles ++ now ∷ []) ≡ done_of cycles ++ done_in now
 done_of-one_more cycles now = flat_map-append done_in cycles (now ∷ []) ∙ ap (λ (ts : List Transfer). done_of cycles ++ ts) (append-nil (done_in now))
 
 pub items_done-one_more : (p : Parameters) (cycles : List Cycle) (now : Cycle) → items_done p (cycles ++ now ∷ []) ≡ items_done p cycles ++ items_of_all p (done_in now)

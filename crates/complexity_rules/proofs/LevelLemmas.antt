@@ -9,18 +9,20 @@ use Rattle.physical_stream.specs.declared.item.Item.{Item}
 use Rattle.physical_stream.specs.declared.rule.Rule.{Rule}
 use Rattle.physical_stream.specs.declared.rule.Rule.TheVariants.{LaneLast, Strobe, Empty, Nest}
 use Rattle.physical_stream.specs.declared.transfer.Transfer.{Transfer}
+use Rattle.tydi_base.specs.Level.{LevelNumbers}
+use Rattle.tydi_base.proofs.LevelOrder.{numbers_rise}
 use Rattle.physical_stream.specs.Levels.{at_level}
-use Rattle.complexity_rules.specs.Levels.{BreaksBelow, RulesBreakBelow, IsRaised, OffencesFall, OffencesFallBy, EndingStays}
+use Rattle.complexity_rules.specs.Levels.{AtMostIsRaised, BreaksBelow, FirstNumbersBind, RulesBindBelow, RulesBreakBelow, IsRaised, OffencesFall, OffencesFallBy, EndingStays}
 
 -- a rule on the transfer that is shown, where one forbids no more than another
 on_shown : (P Q : Transfer → Type 0) → ((t : Transfer) → P t → Q t) → (shown : Option Transfer) → OnShown P shown → OnShown Q shown
 on_shown P Q less None broken = broken
 on_shown P Q less (Some t) broken = less t broken
 
-lane_last-at_level : (level : ℕ) (p : Parameters) (t : Transfer) → BreaksLaneLast (at_level level p) t → BreaksLaneLast p t
+lane_last-at_level : (level : LevelNumbers) (p : Parameters) (t : Transfer) → BreaksLaneLast (at_level level p) t → BreaksLaneLast p t
 lane_last-at_level level p t broken = record { lane = broken.lane; dim = broken.dim; early = broken.early; within = broken.within; marked = broken.marked }
 
-strobe-at_level : (level : ℕ) (p : Parameters) (t : Transfer) → BreaksStrobe (at_level level p) t → BreaksStrobe p t
+strobe-at_level : (level : LevelNumbers) (p : Parameters) (t : Transfer) → BreaksStrobe (at_level level p) t → BreaksStrobe p t
 strobe-at_level level p t broken = record {
   one = broken.one;
   other = broken.other;
@@ -30,14 +32,14 @@ strobe-at_level level p t broken = record {
   other_clear = broken.other_clear;
 }
 
-empty-at_level : (level : ℕ) (p : Parameters) (done : List Item) (t : Transfer) → BreaksEmpty (at_level level p) done t → BreaksEmpty p done t
+empty-at_level : (level : LevelNumbers) (p : Parameters) (done : List Item) (t : Transfer) → BreaksEmpty (at_level level p) done t → BreaksEmpty p done t
 empty-at_level level p done t broken = record { inactive = broken.inactive; closes = broken.closes }
 
-nest-at_level : (level : ℕ) (p : Parameters) (done : List Item) (t : Transfer) → BreaksNest (at_level level p) done t → BreaksNest p done t
+nest-at_level : (level : LevelNumbers) (p : Parameters) (done : List Item) (t : Transfer) → BreaksNest (at_level level p) done t → BreaksNest p done t
 nest-at_level level p done t broken = record { front = broken.front; dim = broken.dim; rest = broken.rest; splits = broken.splits; misplaced = broken.misplaced }
 
 -- what a rule forbids is the same at each level
-forbids-at_level : (rule : Rule) (level : ℕ) (p : Parameters) (before : List Cycle) (now : Cycle) → Forbids rule (at_level level p) before now → Forbids rule p before now
+forbids-at_level : (rule : Rule) (level : LevelNumbers) (p : Parameters) (before : List Cycle) (now : Cycle) → Forbids rule (at_level level p) before now → Forbids rule p before now
 forbids-at_level LaneLast level p before now broken = on_shown (BreaksLaneLast (at_level level p)) (BreaksLaneLast p) (lane_last-at_level level p) now.shown broken
 forbids-at_level Strobe level p before now broken = on_shown (BreaksStrobe (at_level level p)) (BreaksStrobe p) (strobe-at_level level p) now.shown broken
 forbids-at_level Empty level p before now broken =
@@ -82,3 +84,12 @@ offences_fall = offences_fall_by (λ stream. BreaksAfter) (λ stream. rules_brea
 
 pub ending_stays : EndingStays
 ending_stays from to raised = ap (ending_of to.params) raised.cycles ∙ ap (λ (p : Parameters). ending_of p from.cycles) raised.params
+
+pub rules_bind_below : RulesBindBelow
+rules_bind_below rule lower level under binds = let rises = numbers_rise lower level under in omega arith
+
+pub first_numbers_bind : FirstNumbersBind
+first_numbers_bind rule level other same = (λ binds. omega arith, λ binds. omega arith)
+
+pub at_most_is_raised : AtMostIsRaised
+at_most_is_raised from to cycles params under = record { cycles = cycles; params = params; level = numbers_rise from.params.level to.params.level under }

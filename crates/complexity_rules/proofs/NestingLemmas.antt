@@ -33,7 +33,7 @@ module _ (p : Parameters) (cycles : List Cycle) (level : IsLevel p.level) (kept 
   placed_shown n within t shown = false_from_ne_true _ (λ misplaced. kept n (record {
     now = get_or cycles n idle;
     stands = slice_get-get_or cycles n idle within;
-    broken = (level.1, subst (OnShown (BreaksNest p (before n))) (sym shown) ((BreaksNest-misplaced p (before n) t).0 misplaced));
+    broken = (level.first.1, subst (OnShown (BreaksNest p (before n))) (sym shown) ((BreaksNest-misplaced p (before n) t).0 misplaced));
   }))
 
   placed_done : (tail : Option Tail) (ready : Bool) (shown : Option Transfer) → ((t : Transfer) → shown ≡ Some t → has_misplaced tail (items_of p t) ≡ false) →

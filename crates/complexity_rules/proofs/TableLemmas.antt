@@ -5,11 +5,11 @@ use Rattle.std.proofs.lemmas.List.{at_drop_more, at_drop_all}
 use Rattle.std.proofs.lemmas.Option.{get_or_from_slice_get, slice_get-get_or, slice_get_within}
 use Rattle.std.proofs.lemmas.Bool.Decides.{nat_tests}
 use borrow.Author.Count.{below_more}
-use Rattle.tydi_base.specs.Level.{IsLevel, number_of}
+use Rattle.tydi_base.specs.Level.{IsFirst, IsLevel, LevelNumbers, number_of}
 use Rattle.physical_stream.specs.Rules.{Binds, binds_up_to, number_of_rule}
 use Rattle.physical_stream.specs.declared.rule.Rule.{Rule}
 use Rattle.physical_stream.specs.declared.rule.Rule.TheVariants.{Hold}
-use Rattle.complexity_rules.specs.Table.{IsMonotone, IsMonotoneRow}
+use Rattle.complexity_rules.specs.Table.{IsMonotone, IsMonotoneRow, SaysWhatBinds}
 use Rattle.complexity_rules.specs.declared.table.TheConstants.{BINDS}
 
 -- no cell is true after a false one, where this one stands before them
@@ -155,19 +155,18 @@ row_says other = record { within = omega arith; many = refl; up_to = refl }
 abbrev pub cell_at : ℕ → ℕ → Bool
 cell_at number level = get_or (get_or BINDS.cells (number - 1) []) (level - 1) false
 
-cell_test : (rule : Rule) (level : ℕ) → IsLevel level → IsTrue (cell_at (number_of_rule rule) level) ↔ Binds rule level
+cell_test : (rule : Rule) (place : ℕ) (level : LevelNumbers) → place ≡ number_of level → IsFirst place → IsTrue (cell_at (number_of_rule rule) place) ↔ Binds rule level
 unfolding row_of
-cell_test rule level within =
+cell_test rule place level placed within =
     let says = row_says rule in
     let many = says.many in
-    let cell : cell_at (number_of_rule rule) level ≡ nat_lt (level - 1) (binds_up_to rule) =
-    up_to-cell (binds_up_to rule) 0 (level - 1) (level - 1) (row_of rule) says.up_to (omega arith) (omega arith) in
+    let cell : cell_at (number_of_rule rule) place ≡ nat_lt (place - 1) (binds_up_to rule) =
+    up_to-cell (binds_up_to rule) 0 (place - 1) (place - 1) (row_of rule) says.up_to (omega arith) (omega arith) in
     ((λ e. grind (arith, nat_tests)), (λ binds. grind (arith, nat_tests)))
 
 -- a true cell says that the rule binds, and a false one that it does not
-pub cell-binds : (rule : Rule) (number level place : ℕ) → number ≡ number_of_rule rule → place ≡ level → IsLevel place → IsTrue (cell_at number place) ↔ Binds rule level
-cell-binds rule number level place named placed within =
-    subst (λ (n : ℕ). IsTrue (cell_at n place) ↔ Binds rule level) (sym named) (subst (λ (l : ℕ). IsTrue (cell_at (number_of_rule rule) place) ↔ Binds rule l) placed (cell_test rule place within))
+pub cell-binds : (rule : Rule) (number place : ℕ) (level : LevelNumbers) → number ≡ number_of_rule rule → place ≡ number_of level → IsFirst place → IsTrue (cell_at number place) ↔ Binds rule level
+cell-binds rule number place level named placed within = subst (λ (n : ℕ). IsTrue (cell_at n place) ↔ Binds rule level) (sym named) (cell_test rule place level placed within)
 
 -- in a monotone row, a cell before a true one is true
 row_below : (row : List Bool) (low high : ℕ) → IsMonotoneRow row → low ≤ high → high < length row → get_or row high false ≡ true → get_or row low false ≡ true
@@ -182,14 +181,30 @@ row_below row low high monotone under within on = by_order (split low high under
     by_order (inr same) = ap (λ (i : ℕ). get_or row i false) same ∙ on
 
 -- since the table is monotone, a true cell says it of each lower level too
-pub cell-below : (rule : Rule) (number level place : ℕ) → number ≡ number_of_rule rule → place ≡ level → IsLevel place → IsTrue (cell_at number place) →
-    (lower : ℕ) → IsLevel lower → number_of lower ≤ number_of level → Binds rule lower
+pub cell-below : (rule : Rule) (number place : ℕ) (level : LevelNumbers) → number ≡ number_of_rule rule → place ≡ number_of level → IsFirst place → IsTrue (cell_at number place) →
+    (lower : LevelNumbers) → IsLevel lower → number_of lower ≤ number_of level → Binds rule lower
 unfolding row_of
-cell-below rule number level place named placed within on lower low less =
+cell-below rule number place level named placed within on lower low less =
     let says = row_says rule in
     let many = says.many in
     let row_within = says.within in
     let monotone : IsMonotoneRow (row_of rule) =
     λ low high under at. binds_is_monotone (number_of_rule rule - 1) low high (row_of rule) under (slice_get-get_or BINDS.cells (number_of_rule rule - 1) [] row_within) at in
     let here : get_or (row_of rule) (place - 1) false ≡ true = subst (λ (n : ℕ). IsTrue (cell_at n place)) named on in
-    (cell-binds rule (number_of_rule rule) lower lower refl refl low).0 (row_below (row_of rule) (lower - 1) (place - 1) monotone (omega arith) (omega arith) here)
+    let first = low.first in
+    (cell-binds rule (number_of_rule rule) (number_of lower) lower refl refl first).0 (row_below (row_of rule) (number_of lower - 1) (place - 1) monotone (omega arith) (omega arith) here)
+
+-- the table has a cell for each rule and each level, which says whether the rule binds there
+pub table_says : SaysWhatBinds BINDS.cells
+unfolding row_of
+table_says rule level is =
+    let says = row_says rule in
+    let many = says.many in
+    let first = is.first in
+    record {
+      row = row_of rule;
+      cell = cell_at (number_of_rule rule) (number_of level);
+      in_table = slice_get-get_or BINDS.cells (number_of_rule rule - 1) [] says.within;
+      in_row = slice_get-get_or (row_of rule) (number_of level - 1) false (omega arith);
+      binds = cell_test rule (number_of level) level refl first;
+    }

@@ -1,6 +1,6 @@
 -- What one level allows, every greater one allows (this project's own).
-use Rattle.std.specs.Prelude.{◌≡◌, ℕ, ◌≤◌, List, length, slice_get, Some}
-use Rattle.tydi_base.specs.Level.{number_of}
+use Rattle.std.specs.Prelude.{◌≡◌, ℕ, ◌≤◌, ◌↔◌, List, length, slice_get, Some}
+use Rattle.tydi_base.specs.Level.{IsAtMost, LevelNumbers, number_of}
 use Rattle.physical_stream.specs.Params.{Parameters}
 use Rattle.physical_stream.specs.Items.{items_of_all}
 use Rattle.physical_stream.specs.Cycles.{Cycle, StreamTrace, done_in}
@@ -11,17 +11,26 @@ use Rattle.physical_stream.specs.Levels.{at_level}
 use Rattle.physical_stream.specs.Rules.{Binds}
 use Rattle.physical_stream.specs.declared.rule.Rule.{Rule}
 
--- a rule that binds at a level binds at every lower one
+-- a rule that binds at a level binds at every level that is at most it
 abbrev pub RulesBindBelow : Type 0
-RulesBindBelow = (rule : Rule) (lower level : ℕ) → number_of lower ≤ number_of level → Binds rule level → Binds rule lower
+RulesBindBelow = (rule : Rule) (lower level : LevelNumbers) → IsAtMost lower level → Binds rule level → Binds rule lower
 
--- the same cycles of the same stream, at a level that is not lower
+-- two levels with one first number bind the same rules
+abbrev pub FirstNumbersBind : Type 0
+FirstNumbersBind = (rule : Rule) (level other : LevelNumbers) → number_of level ≡ number_of other → Binds rule level ↔ Binds rule other
+
+-- the same cycles of the same stream, at a level whose first number is not lower
 pub record IsRaised (from to : StreamTrace) : Type 0 where
   pub cycles : to.cycles ≡ from.cycles
   pub params : to.params ≡ at_level to.params.level from.params
   pub level : number_of from.params.level ≤ number_of to.params.level
 
--- each stream of the first list stands in the second one, at its own place, at a level that is not lower
+-- so it is at every level that the first one is at most
+abbrev pub AtMostIsRaised : Type 0
+AtMostIsRaised =
+    (from to : StreamTrace) → to.cycles ≡ from.cycles → to.params ≡ at_level to.params.level from.params → IsAtMost from.params.level to.params.level → IsRaised from to
+
+-- each stream of the first list stands in the second one, at its own place, at a level whose first number is not lower
 pub record AreRaised (from to : List StreamTrace) : Type 0 where
   pub many : length to ≡ length from
   pub each : (stream : ℕ) (low high : StreamTrace) → slice_get from stream ≡ Some low → slice_get to stream ≡ Some high → IsRaised low high
@@ -29,7 +38,7 @@ pub record AreRaised (from to : List StreamTrace) : Type 0 where
 -- what a cycle breaks at a level, it breaks at every lower one
 abbrev pub BreaksBelow : Breaking → Type 0
 BreaksBelow Broken =
-    (rule : Rule) (level : ℕ) (p : Parameters) (before : List Cycle) (now : Cycle) → number_of p.level ≤ number_of level →
+    (rule : Rule) (level : LevelNumbers) (p : Parameters) (before : List Cycle) (now : Cycle) → number_of p.level ≤ number_of level →
     Broken rule (at_level level p) before now → Broken rule p before now
 
 -- rules 1 to 10 are such

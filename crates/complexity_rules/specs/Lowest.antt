@@ -1,6 +1,6 @@
 -- The lowest rule of those that are broken (this project's own).
 use Rattle.std.specs.Prelude.{Bool, ◌&&◌, nat_le, ℕ, ◌≤◌, List, Option, Some, None}
-use Rattle.tydi_base.specs.Level.{number_of}
+use Rattle.tydi_base.specs.Level.{LevelNumbers, number_of}
 use Rattle.physical_stream.specs.Params.{Parameters}
 use Rattle.physical_stream.specs.Cycles.{Cycle}
 use Rattle.physical_stream.specs.Breaks.{BreaksAfter}
@@ -8,7 +8,7 @@ use Rattle.physical_stream.specs.Rules.{binds_up_to, number_of_rule}
 use Rattle.physical_stream.specs.declared.rule.Rule.{Rule}
 
 -- a rule binds at this level, and what it forbids is there
-abbrev pub is_broken : ℕ → Rule → Bool → Bool
+abbrev pub is_broken : LevelNumbers → Rule → Bool → Bool
 is_broken level rule forbidden = nat_le (number_of level) (binds_up_to rule) && forbidden
 
 -- of the rules from this number on, the cycle breaks none, or this is the lowest one

@@ -1,6 +1,7 @@
-//! The complexity rules of a physical stream, cycle by cycle. A `Checker` stands for the cycles that it has seen; `step` says
-//! of one cycle more which of rules 1 to 10 it breaks first, by the definitions of `physical_stream` over the whole list of
-//! cycles, and keeps of them the kind of the last item and the transfer that waits.
+//! The checker of a physical stream. A `Checker` takes one cycle after another, and `step` names the lowest of rules 1 to 10 that the
+//! cycle breaks. It keeps no list of the cycles: only the kind of the last item, counts, and the transfer that waits. The rules
+//! themselves are definitions of `physical_stream`; `specs/Table.antt` has the levels at which each binds. The crate stands on
+//! `physical_stream`.
 #![tactic(auto)]
 
 mod breaking;
@@ -20,6 +21,6 @@ mod walk;
 pub use checker::Checker;
 pub use levels::levels_are_kept;
 pub use nesting::items_are_nested;
-pub use pauses::may_pause;
-pub use table::{BINDS, RuleTable, binds, table_is_monotone};
+pub use pauses::{may_pause, pauses_are_as_tested};
+pub use table::{BINDS, RuleTable, binds, table_is_monotone, table_says_what_binds};
 pub use tails::tail_after;

@@ -3,7 +3,7 @@ ghost use Rattle.physical_stream.specs.Shape.{tail_of};
 ghost use Rattle.physical_stream.specs.declared.item.Item.{Item};
 ghost use Rattle.physical_stream.specs.declared.rule.Rule.TheVariants.{InnerPause, OuterPause};
 ghost use Rattle.complexity_rules.specs.Lowest.{is_broken};
-ghost use Rattle.complexity_rules.specs.Pauses.{MayPause, is_inside_packet, is_inside_sequence};
+ghost use Rattle.complexity_rules.specs.Pauses.{MayPause, PausesAsTested, is_inside_packet, is_inside_sequence, pauses_after};
 
 use crate::table::binds;
 use physical_stream::{Params, Rule, Tail};
@@ -11,7 +11,8 @@ use physical_stream::{Params, Rule, Tail};
 /// Whether the stream may hold valid low after the items of which this is the kind of the last one: false exactly where one of
 /// the rules on pauses forbids it.
 pub fn may_pause(p: &Params, tail: Option<Tail>) -> bool
-    ensures { (done : List Item) → tail ≡ tail_of done → IsTrue result ↔ MayPause p.now done }
+    ensures test { result ≡ pauses_after p.now tail }
+    ensures pauses { (done : List Item) → tail ≡ tail_of done → IsTrue result ↔ MayPause p.now done }
 {
     !breaks_inner_pause(p, tail) && !breaks_outer_pause(p, tail)
 }
@@ -51,3 +52,8 @@ fn is_inside_packet(p: &Params, tail: Option<Tail>) -> bool
         Some(Tail::Close(dim)) => p.dims > 0 && dim != p.dims - 1,
     }
 }
+
+/// The test `pauses_after` says where a stream may pause.
+pub fn pauses_are_as_tested()
+    ensures { PausesAsTested }
+{}

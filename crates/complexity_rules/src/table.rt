@@ -1,7 +1,7 @@
 ghost use Rattle.std.specs.Prelude.{ℕ, ◌↔◌, ◌≤◌, IsTrue};
-ghost use Rattle.tydi_base.specs.Level.{IsLevel, number_of};
+ghost use Rattle.tydi_base.specs.Level.{IsLevel, LevelNumbers, number_of};
 ghost use Rattle.physical_stream.specs.Rules.{Binds};
-ghost use Rattle.complexity_rules.specs.Table.{IsMonotone, IsMonotoneRow};
+ghost use Rattle.complexity_rules.specs.Table.{IsMonotone, IsMonotoneRow, SaysWhatBinds};
 
 use physical_stream::Rule;
 use tydi_base::Level;
@@ -65,11 +65,16 @@ pub fn table_is_monotone()
     prove!(monotone);
 }
 
+/// The table of the rules says of each rule and each level whether the rule binds there.
+pub fn table_says_what_binds()
+    ensures { SaysWhatBinds BINDS.cells }
+{}
+
 /// Whether the rule binds at the level, read from the table.
 #[inline]
 pub fn binds(rule: Rule, level: Level) -> bool
     ensures binds { IsTrue result ↔ Binds rule level }
-    ensures below { IsTrue result → (lower : ℕ) → IsLevel lower → number_of lower ≤ number_of level → Binds rule lower }
+    ensures below { IsTrue result → (lower : LevelNumbers) → IsLevel lower → number_of lower ≤ number_of level → Binds rule lower }
 {
     BINDS.cells[rule.number() as usize - 1][level.number() as usize - 1]
 }

@@ -8,12 +8,14 @@ use Rattle.std.proofs.lemmas.Bool.Decides.{nat_tests}
 use Rattle.std.proofs.lemmas.Fmt.{length-decimal-le}
 use Rattle.std.proofs.lemmas.Slice.Eq.{bytes_eq-Decides}
 use Rattle.tydi_base.specs.Decimal.{below, decimal_of}
-use Rattle.tydi_base.specs.Level.{IsLevel}
+use Rattle.tydi_base.specs.Level.{IsLevel, level_of, level_text}
 use Rattle.tydi_base.specs.Path.{path_of}
 use Rattle.tydi_base.specs.Pieces.{words_of}
 use Rattle.std.specs.Option.{ok_or}
 use Rattle.tydi_base.specs.Reading.{Gives, or_fault}
 use Rattle.tydi_base.proofs.DecimalLaws.{decimal_of-decimal, decimal_of-some}
+use Rattle.tydi_base.proofs.LevelLaws.{level_of-level_text, level_of-some}
+use Rattle.tydi_base.proofs.LevelText.{level_text-plain}
 use Rattle.tydi_base.proofs.PathLaws.{path_of-path_text, path_of-some}
 use Rattle.tydi_base.proofs.PieceLaws.{join-pieces_of}
 use Rattle.tydi_base.proofs.ReadingLaws.{bind_ok, or_fault_ok, ok_is}
@@ -71,12 +73,12 @@ pub record AreParameters (p : Parameters) : Type 0 where
   pub level : IsLevel p.level
   pub range : AreInRange p.lanes p.dims p.element p.user
 
-are_parameters-from : (p : Parameters) → AreParameters p → are_parameters p.lanes p.dims p.level p.element p.user ≡ true
-are_parameters-from p h = let r = h.range in let l = h.level in grind (arith, nat_tests)
+are_parameters-from : (p : Parameters) → AreParameters p → are_parameters p.lanes p.dims p.element p.user ≡ true
+are_parameters-from p h = let r = h.range in grind (arith, nat_tests)
 
-are_parameters-to : (p : Parameters) → are_parameters p.lanes p.dims p.level p.element p.user ≡ true → AreParameters p
-are_parameters-to p e = record {
-  level = (grind (arith, nat_tests), grind (arith, nat_tests));
+are_parameters-to : (p : Parameters) → are_parameters p.lanes p.dims p.element p.user ≡ true → IsLevel p.level → AreParameters p
+are_parameters-to p e level = record {
+  level = level;
   range = record {
     some_lane = grind (arith, nat_tests);
     lanes_most = grind (arith, nat_tests);
@@ -86,15 +88,14 @@ are_parameters-to p e = record {
   };
 }
 
-params_of-spelled : (p : Parameters) → AreParameters p → params_of (decimal p.lanes) (decimal p.dims) (decimal p.level) (decimal p.element) (decimal p.user) ≡ Ok p
+params_of-spelled : (p : Parameters) → AreParameters p → params_of (decimal p.lanes) (decimal p.dims) (level_text p.level) (decimal p.element) (decimal p.user) ≡ Ok p
 unfolding params_of
 params_of-spelled p h =
     let r = h.range in
-    let l = h.level in
     rw (
       header_number-spelled p.lanes (omega arith),
       header_number-spelled p.dims (omega arith),
-      header_number-spelled p.level (omega arith),
+      level_of-level_text p.level h.level,
       header_number-spelled p.element (omega arith),
       header_number-spelled p.user (omega arith),
       are_parameters-from p h,
@@ -104,7 +105,7 @@ params_of-spelled p h =
 record ParametersRead (lanes dims level element user : List ℕ) (p : Parameters) : Type 0 where
   lanes_is : lanes ≡ decimal p.lanes
   dims_is : dims ≡ decimal p.dims
-  level_is : level ≡ decimal p.level
+  level_is : level ≡ level_text p.level
   element_is : element ≡ decimal p.element
   user_is : user ≡ decimal p.user
   may : AreParameters p
@@ -114,19 +115,20 @@ unfolding params_of
 params_of-some lanes dims level element user p e =
     let n = bind_ok (header_number lanes) _ p e in
     let d = bind_ok (header_number dims) _ p n.2 in
-    let c = bind_ok (header_number level) _ p d.2 in
+    let c = bind_ok (or_fault tt (level_of level)) _ p d.2 in
+    let read = level_of-some level c.0 (or_fault_ok tt (level_of level) c.0 c.1) in
     let w = bind_ok (header_number element) _ p c.2 in
     let u = bind_ok (header_number user) _ p w.2 in
     let found : Parameters = record { lanes = n.0; dims = d.0; level = c.0; element = w.0; user = u.0 } in
-    let made = kept (are_parameters n.0 d.0 c.0 w.0 u.0) (Ok found) tt p u.2 in
+    let made = kept (are_parameters n.0 d.0 w.0 u.0) (Ok found) tt p u.2 in
     let same = ok_is found p made.1 in
     rw (← same) (record {
       lanes_is = header_number-some lanes n.0 n.1;
       dims_is = header_number-some dims d.0 d.1;
-      level_is = header_number-some level c.0 c.1;
+      level_is = read.0;
       element_is = header_number-some element w.0 w.1;
       user_is = header_number-some user u.0 u.1;
-      may = are_parameters-to found made.0;
+      may = are_parameters-to found made.0 read.1;
     })
 
 -- ---- the direction
@@ -211,12 +213,11 @@ head_of_words-some words head keys e =
 pub head_words-plain : (head : Head) → IsHead head → are_plain (head_words head) ≡ true
 head_words-plain head h =
     let r = h.range in
-    let l = h.level in
     rw (
       path_text-plain head.path h.names,
       decimal-plain head.params.lanes (omega arith),
       decimal-plain head.params.dims (omega arith),
-      decimal-plain head.params.level (omega arith),
+      level_text-plain head.params.level h.level,
       decimal-plain head.params.element (omega arith),
       decimal-plain head.params.user (omega arith),
       direction_text-plain head.reversed,

@@ -1,13 +1,13 @@
 -- What a stream shows at one level it shows at every greater one.
-use Rattle.std.proofs.Common.{◌≡◌, ◌≤◌, ℕ, false, Option, None, Some, IfSome, get_or, arith}
+use Rattle.std.proofs.Common.{◌≡◌, ◌≤◌, false, Option, None, Some, IfSome, get_or, arith}
 use Rattle.std.proofs.lemmas.Bool.Decides.{nat_tests}
-use Rattle.tydi_base.specs.Level.{number_of}
+use Rattle.tydi_base.specs.Level.{LevelNumbers, number_of}
 use Rattle.physical_stream.specs.Params.{Parameters}
 use Rattle.physical_stream.specs.Signals.{has_stai, has_endi, has_strb, Shows}
 use Rattle.physical_stream.specs.Levels.{at_level, CyclesRise, TransfersRise}
 use Rattle.physical_stream.specs.declared.transfer.Transfer.{Transfer}
 
-module _ (p : Parameters) (level : ℕ) (rises : number_of p.level ≤ number_of level) where
+module _ (p : Parameters) (level : LevelNumbers) (rises : number_of p.level ≤ number_of level) where
   -- what a stream lacks at the greater level it lacks at the lower one
   no_stai : has_stai (at_level level p) ≡ false → has_stai p ≡ false
   no_stai none = grind (arith, nat_tests)

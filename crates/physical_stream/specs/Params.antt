@@ -1,11 +1,12 @@
 -- The parameters of a physical stream (Tydi specification, physical streams). Their ranges are this project's own.
 use Rattle.std.specs.Prelude.{ℕ, ◌≤◌}
+use Rattle.tydi_base.specs.Level.{LevelNumbers}
 
--- N lanes, D dimensions, complexity C, elements of E bits, user words of U bits
+-- N lanes, D dimensions, the numbers of its level, elements of E bits, user words of U bits
 pub record Parameters : Type 0 where
   pub lanes : ℕ
   pub dims : ℕ
-  pub level : ℕ
+  pub level : LevelNumbers
   pub element : ℕ
   pub user : ℕ
 

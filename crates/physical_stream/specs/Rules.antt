@@ -1,6 +1,6 @@
 -- The eleven rules (after the Tydi specification's complexity levels; numbers, names and levels are this project's own).
 use Rattle.std.specs.Prelude.{ℕ, ◌≤◌, List, codes}
-use Rattle.tydi_base.specs.Level.{number_of}
+use Rattle.tydi_base.specs.Level.{LevelNumbers, number_of}
 use Rattle.physical_stream.specs.declared.rule.Rule.{Rule}
 use Rattle.physical_stream.specs.declared.rule.Rule.TheVariants.{Hold, Index, LaneLast, Strobe, Start, End, Empty, InnerPause, OuterPause, Nest, Tag}
 
@@ -44,6 +44,6 @@ binds_up_to OuterPause = 1
 binds_up_to Nest = 8
 binds_up_to Tag = 8
 
--- the rule binds at this level
-abbrev pub Binds : Rule → ℕ → Type 0
+-- the rule binds at this level: its first number alone decides
+abbrev pub Binds : Rule → LevelNumbers → Type 0
 Binds rule level = number_of level ≤ binds_up_to rule

@@ -1,10 +1,10 @@
--- The line of a stream, `stream PATH lanes N dims D level C element E user U forward` or `.. reverse`. This project's own.
+-- The line of a stream, `stream PATH lanes N dims D level C.C.C.C element E user U forward` or `.. reverse`. This project's own.
 use Rattle.std.specs.Prelude.{ℕ, Bool, true, false, ◌==◌, ◌&&◌, nat_le, if◌then◌else◌, List, [], ◌∷◌, ◌++◌, length, Option, Some, None, Result, Ok, Err, codes, decimal, IsTrue, All}
 use Rattle.std.specs.List.{slice_index_or, join_with_byte}
 use Rattle.std.specs.Str.{bytes_eq}
 use Rattle.tydi_base.specs.Reading.{◌>>=◌, or_fault}
 use Rattle.tydi_base.specs.Decimal.{decimal_of}
-use Rattle.tydi_base.specs.Level.{IsLevel, number_of}
+use Rattle.tydi_base.specs.Level.{IsLevel, level_of, level_text}
 use Rattle.tydi_base.specs.Name.{is_name}
 use Rattle.tydi_base.specs.Path.{path_of, path_text}
 use Rattle.tydi_base.specs.Pieces.{words_of}
@@ -30,19 +30,19 @@ unfoldable pub header_number : List ℕ → Result ℕ (Unit {0})
 header_number digits = if nat_le (length digits) 10 then or_fault tt (decimal_of digits) else Err tt
 
 -- the numbers are parameters that a stream may have
-abbrev pub are_parameters : ℕ → ℕ → ℕ → ℕ → ℕ → Bool
-are_parameters lanes dims level element user =
-    nat_le 1 lanes && nat_le lanes 128 && nat_le dims 32 && nat_le 1 level && nat_le level 8 && nat_le element 4096 && nat_le user 4096
+abbrev pub are_parameters : ℕ → ℕ → ℕ → ℕ → Bool
+are_parameters lanes dims element user =
+    nat_le 1 lanes && nat_le lanes 128 && nat_le dims 32 && nat_le element 4096 && nat_le user 4096
 
 -- the parameters that five words spell
 unfoldable pub params_of : (lanes dims level element user : List ℕ) → Result Parameters (Unit {0})
 params_of lanes dims level element user = do
   n ← header_number lanes
   d ← header_number dims
-  c ← header_number level
+  c ← or_fault tt (level_of level)
   e ← header_number element
   u ← header_number user
-  if are_parameters n d c e u then Ok (record { lanes = n; dims = d; level = c; element = e; user = u }) else Err tt
+  if are_parameters n d e u then Ok (record { lanes = n; dims = d; level = c; element = e; user = u }) else Err tt
 
 -- whether a stream is reversed
 unfoldable pub direction_of : List ℕ → Result Bool (Unit {0})
@@ -85,7 +85,7 @@ direction_text reversed = if reversed then codes "reverse" else codes "forward"
 -- the words of a stream line
 abbrev pub head_words : Head → List (List ℕ)
 head_words head =
-    codes "stream" ∷ path_text head.path ∷ codes "lanes" ∷ decimal head.params.lanes ∷ codes "dims" ∷ decimal head.params.dims ∷ codes "level" ∷ decimal (number_of head.params.level)
+    codes "stream" ∷ path_text head.path ∷ codes "lanes" ∷ decimal head.params.lanes ∷ codes "dims" ∷ decimal head.params.dims ∷ codes "level" ∷ level_text head.params.level
     ∷ codes "element" ∷ decimal head.params.element ∷ codes "user" ∷ decimal head.params.user ∷ direction_text head.reversed ∷ []
 
 abbrev pub head_text : Head → List ℕ

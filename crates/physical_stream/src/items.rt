@@ -44,8 +44,8 @@ fn push_lane(
     push_closes(items, p, transfer, lane)
 }
 
-// The bits of this lane in the data signal.
-fn lane_word(alloc: Global, p: &Params, transfer: &Transfer, lane: u16) -> Result<Bits, Memory>
+/// The bits of this lane in the data signal, as many as an element has.
+pub fn lane_word(alloc: Global, p: &Params, transfer: &Transfer, lane: u16) -> Result<Bits, Memory>
     requires fits { Fits p.now transfer.now }
     requires within { lane < p.now.lanes }
     ensures { IfOk result (λ word. word ≡ lane_word p.now transfer.now lane) }

@@ -1,6 +1,6 @@
-//! A physical stream: its parameters, its transfers and the items that they carry, its cycles, and what the complexity
-//! rules say of them. The definitions in `specs/` are for all lanes, dimensions and levels; they are the standard that
-//! every layer above is proved against.
+//! A physical stream: its parameters, its transfers and the items that they carry, its cycles, and the rules on them. The definitions
+//! in `specs/` hold for all lanes, dimensions and levels. Every crate above that speaks of streams is proved against them. The crate
+//! stands on `tydi_base`.
 #![tactic(auto)]
 
 mod end;
@@ -20,7 +20,7 @@ mod width;
 pub use end::End;
 pub use head::{Head, Header};
 pub use item::{Item, Tail};
-pub use items::items_of;
+pub use items::{items_of, lane_word};
 pub use lane::{all_lanes, is_active, is_last};
 pub use levels::shown_at_greater_levels;
 pub use misspelling::{Misspelling, NotForm};

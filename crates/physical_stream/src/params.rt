@@ -11,6 +11,7 @@ pub struct Params {
     pub lanes: u16,
     /// Nested sequences that it marks the ends of, at most 32.
     pub dims: u8,
+    /// Its level, of which all that rules and signals look at is the first number.
     pub level: Level,
     /// Bits of an element, at most 4,096.
     pub element: u32,

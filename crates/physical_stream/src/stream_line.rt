@@ -37,21 +37,20 @@ fn params_of(
 {
     let lanes = header_number(lanes)?;
     let dims = header_number(dims)?;
-    let level = header_number(level)?;
+    let level = Level::read(level).ok_or(NotForm)?;
     let element = header_number(element)?;
     let user = header_number(user)?;
     made_of(lanes, dims, level, element, user).ok_or(NotForm)
 }
 
 /// The parameters of these numbers. None exactly where one of them is out of its range.
-fn made_of(lanes: u64, dims: u64, level: u64, element: u64, user: u64) -> Option<Params>
-    ensures { result ≡ (if spec.are_parameters lanes dims level element user then
+fn made_of(lanes: u64, dims: u64, level: Level, element: u64, user: u64) -> Option<Params>
+    ensures { result ≡ (if spec.are_parameters lanes dims element user then
         Some (record { lanes = lanes; dims = dims; level = level; element = element; user = user }) else None) }
 {
-    if lanes > 128 || dims > 32 || level > 8 || element > 4096 || user > 4096 {
+    if lanes > 128 || dims > 32 || element > 4096 || user > 4096 {
         return None;
     }
-    let level = Level::new(level as u8)?;
     Params::new(lanes as u16, dims as u8, level, element as u32, user as u32)
 }
 
@@ -151,7 +150,7 @@ impl Written for StreamLine<'_> {
         } = *self;
         emit!(
             out;
-            "stream ", path, " lanes ", params.lanes, " dims ", params.dims, " level ", params.level.number(),
+            "stream ", path, " lanes ", params.lanes, " dims ", params.dims, " level ", params.level,
             " element ", params.element, " user ", params.user, " ", direction(reversed), "\n",
         )
     }

@@ -1,7 +1,6 @@
-//! The signals of a physical stream, which of them a stream has, how wide they are, and what an absent one stands at; and the fields
-//! of its elements. `Signals::of` gives each signal the width that the table in `specs/Layout.antt` gives it, and none exactly
-//! where that table has it absent; `fields_of` gives the fields of `specs/Fields.antt`. It stands on `physical_stream`, whose
-//! definitions say which signals are present, and on `logical_types`.
+//! The signals of a physical stream with their widths, and the fields of an element with their places. `Signals::of` follows the table
+//! in `specs/Layout.antt`, which also has the value of an absent signal; `fields_of` follows `specs/Fields.antt`. The crate stands on
+//! `physical_stream`, whose definitions say which signals are present, and on `logical_types`.
 #![tactic(auto)]
 
 mod fields;
