@@ -22,6 +22,7 @@ use Rattle.cycle_trace.specs.declared.fault.TraceFault.{TraceFault}
 use Rattle.cycle_trace.specs.declared.fault.TraceFault.TheVariants.{BadHeader, BadRow, TooManyCycles, RowsLeft, WrongSignals}
 use Rattle.cycle_trace.specs.Beginnings.{Fails, GoesOn, GoesOnLine, IsFault, Opens, OpensWith, begun, heads_on, rows_on}
 use Rattle.cycle_trace.specs.Faults.{fault_in}
+use Rattle.cycle_trace.specs.declared.version.Version.{Version}
 use Rattle.cycle_trace.specs.HeaderText.{HeaderStart, head_after, heads_from, in_header, is_head_line, header_start_of}
 use Rattle.cycle_trace.specs.RowSink.{with_row}
 use Rattle.cycle_trace.specs.ReaderView.{EndsInHeader, HoldsHeader}
@@ -85,8 +86,8 @@ row_fault-told number line = by_form (has_form (words_of line))
 pub Opens-more : (bytes line more : List ℕ) (gives : List (List ℕ) → Result HeaderStart TraceFault) → Opens bytes line gives → Opens (bytes ++ more) (line ++ more) gives
 Opens-more bytes line more gives opens rest = rw (append_assoc bytes more rest, append_assoc line more rest) (opens (more ++ rest))
 
-pub OpensWith-more : {Y : Type 0} (bytes line more : List ℕ) (cycles : ℕ) (heads : List Head) (set : BTreeSet (Vec ℕ Y)) → OpensWith bytes line cycles heads set → OpensWith (bytes ++ more) (line ++ more) cycles heads set
-OpensWith-more bytes line more cycles heads set h = record { paths = h.paths; many = h.many; few = h.few; told = h.told; opens = Opens-more bytes line more (heads_on cycles heads h.paths) h.opens }
+pub OpensWith-more : {Y : Type 0} (bytes line more : List ℕ) (version : Version) (cycles : ℕ) (heads : List Head) (set : BTreeSet (Vec ℕ Y)) → OpensWith bytes line version cycles heads set → OpensWith (bytes ++ more) (line ++ more) version cycles heads set
+OpensWith-more bytes line more version cycles heads set h = record { paths = h.paths; many = h.many; few = h.few; told = h.told; opens = Opens-more bytes line more (heads_on version cycles heads h.paths) h.opens }
 
 pub GoesOn-more : (bytes line more : List ℕ) (t : TraceText) → GoesOn bytes line t → GoesOn (bytes ++ more) (line ++ more) t
 GoesOn-more bytes line more t goes rest =
@@ -142,24 +143,24 @@ front-more : (cycles : ℕ) (heads : List Head) (head : Head) (read : Result (Li
 front-more cycles heads head (Ok found) = rw (append_assoc heads (head ∷ []) found.0) refl
 front-more cycles heads head (Err d) = refl
 
-module _ (cycles : ℕ) (heads : List Head) (paths : List (List ℕ)) (line : List ℕ) where
+module _ (version : Version) (cycles : ℕ) (heads : List Head) (paths : List (List ℕ)) (line : List ℕ) where
   module _ (lines : List (List ℕ)) (some : 0 < length lines) where
-    heads_on-head : (head : Head) → is_head_line line ≡ true → in_header (3 + length heads) (head_after paths line) ≡ Ok head
-        → heads_on cycles heads paths (line ∷ lines) ≡ heads_on cycles (heads ++ head ∷ []) (path_text head.path ∷ paths) lines
+    heads_on-head : (head : Head) → is_head_line line ≡ true → in_header (3 + length heads) (head_after version paths line) ≡ Ok head
+        → heads_on version cycles heads paths (line ∷ lines) ≡ heads_on version cycles (heads ++ head ∷ []) (path_text head.path ∷ paths) lines
     heads_on-head head is read =
         let number : 3 + length (heads ++ head ∷ []) ≡ suc (3 + length heads) = omega (arith, length-append heads (head ∷ [])) in
-        rw (number, heads_from-head (3 + length heads) paths line lines some is, read) (front-more cycles heads head (heads_from (suc (3 + length heads)) (path_text head.path ∷ paths) lines))
+        rw (number, heads_from-head version (3 + length heads) paths line lines some is, read) (front-more cycles heads head (heads_from version (suc (3 + length heads)) (path_text head.path ∷ paths) lines))
 
-    heads_on-fails : (f : TraceFault) → is_head_line line ≡ true → in_header (3 + length heads) (head_after paths line) ≡ Err f → heads_on cycles heads paths (line ∷ lines) ≡ Err f
-    heads_on-fails f is wrong = rw (heads_from-head (3 + length heads) paths line lines some is, wrong) refl
+    heads_on-fails : (f : TraceFault) → is_head_line line ≡ true → in_header (3 + length heads) (head_after version paths line) ≡ Err f → heads_on version cycles heads paths (line ∷ lines) ≡ Err f
+    heads_on-fails f is wrong = rw (heads_from-head version (3 + length heads) paths line lines some is, wrong) refl
 
-    heads_on-other : is_head_line line ≡ false → heads_on cycles heads paths (line ∷ lines) ≡ Ok (record { cycles = cycles; heads = heads; lines = line ∷ lines })
-    heads_on-other is = rw (heads_from-other (3 + length heads) paths line lines some is, append-nil heads) refl
+    heads_on-other : is_head_line line ≡ false → heads_on version cycles heads paths (line ∷ lines) ≡ Ok (record { cycles = cycles; heads = heads; lines = line ∷ lines })
+    heads_on-other is = rw (heads_from-other version (3 + length heads) paths line lines some is, append-nil heads) refl
 
-  heads_on-cut : is_head_line line ≡ true → heads_on cycles heads paths (line ∷ []) ≡ Err (BadHeader (3 + length heads))
+  heads_on-cut : is_head_line line ≡ true → heads_on version cycles heads paths (line ∷ []) ≡ Err (BadHeader (3 + length heads))
   heads_on-cut is = rw is refl
 
-  heads_on-last : is_head_line line ≡ false → heads_on cycles heads paths (line ∷ []) ≡ Ok (record { cycles = cycles; heads = heads; lines = line ∷ [] })
+  heads_on-last : is_head_line line ≡ false → heads_on version cycles heads paths (line ∷ []) ≡ Ok (record { cycles = cycles; heads = heads; lines = line ∷ [] })
   heads_on-last is = rw (is, append-nil heads) refl
 
 -- the rows after a header
@@ -174,31 +175,31 @@ trace_from-many : (cycles : ℕ) (heads : List Head) (lines : List (List ℕ)) �
 unfolding trace_from
 trace_from-many cycles heads lines many = let test : nat_le cycles most_cycles ≡ false = grind (arith, nat_tests) in rw test refl
 
-module _ {Y : Type 0} (bytes line : List ℕ) (plain : Lacks 10 line) (cycles : ℕ) (heads : List Head) (set : BTreeSet (Vec ℕ Y)) (h : OpensWith bytes line cycles heads set) where
+module _ {Y : Type 0} (bytes line : List ℕ) (plain : Lacks 10 line) (version : Version) (cycles : ℕ) (heads : List Head) (set : BTreeSet (Vec ℕ Y)) (h : OpensWith bytes line version cycles heads set) where
   -- a stream line
-  pub head-ok : (head : Head) (new : BTreeSet (Vec ℕ Y)) → is_head_line line ≡ true → length heads < 65536 → in_header (3 + length heads) (head_after h.paths line) ≡ Ok head → AddsText set new (path_text head.path)
-      → OpensWith (bytes ++ 10 ∷ []) [] cycles (heads ++ head ∷ []) new
+  pub head-ok : (head : Head) (new : BTreeSet (Vec ℕ Y)) → is_head_line line ≡ true → length heads < 65536 → in_header (3 + length heads) (head_after version h.paths line) ≡ Ok head → AddsText set new (path_text head.path)
+      → OpensWith (bytes ++ 10 ∷ []) [] version cycles (heads ++ head ∷ []) new
   head-ok head new is fits read adds = record {
     paths = path_text head.path ∷ h.paths;
     many = omega (arith, h.many, length-append heads (head ∷ []));
     few = omega (arith, length-append heads (head ∷ []));
     told = HasTexts-more set new (path_text head.path) h.paths h.told adds;
-    opens = λ more. opens_line bytes line plain (heads_on cycles heads h.paths) h.opens more ∙ heads_on-head cycles heads h.paths line (lines_of more) (some_line more) head is read;
+    opens = λ more. opens_line bytes line plain (heads_on version cycles heads h.paths) h.opens more ∙ heads_on-head version cycles heads h.paths line (lines_of more) (some_line more) head is read;
   }
 
-  pub head-fails : (e : TraceFault) → is_head_line line ≡ true → IsFault (in_header (3 + length heads) (head_after h.paths line)) e → Fails (bytes ++ 10 ∷ []) e
-  head-fails e is wrong = fails_line bytes line plain (heads_on cycles heads h.paths) h.opens e (λ more.
-      fault_by (in_header (3 + length heads) (head_after h.paths line)) (heads_on cycles heads h.paths (line ∷ lines_of more)) e (λ f read. heads_on-fails cycles heads h.paths line (lines_of more) (some_line more) f is read) wrong)
+  pub head-fails : (e : TraceFault) → is_head_line line ≡ true → IsFault (in_header (3 + length heads) (head_after version h.paths line)) e → Fails (bytes ++ 10 ∷ []) e
+  head-fails e is wrong = fails_line bytes line plain (heads_on version cycles heads h.paths) h.opens e (λ more.
+      fault_by (in_header (3 + length heads) (head_after version h.paths line)) (heads_on version cycles heads h.paths (line ∷ lines_of more)) e (λ f read. heads_on-fails version cycles heads h.paths line (lines_of more) (some_line more) f is read) wrong)
 
   pub header-cut : is_head_line line ≡ true → trace_of bytes ≡ Err (BadHeader (3 + length heads))
-  header-cut is = ends_cut bytes line plain (heads_on cycles heads h.paths) h.opens (BadHeader (3 + length heads)) (heads_on-cut cycles heads h.paths line is)
+  header-cut is = ends_cut bytes line plain (heads_on version cycles heads h.paths) h.opens (BadHeader (3 + length heads)) (heads_on-cut version cycles heads h.paths line is)
 
   module _ (other : is_head_line line ≡ false) where
     opened : (more : List ℕ) → header_start_of (lines_of ((bytes ++ 10 ∷ []) ++ more)) ≡ Ok (record { cycles = cycles; heads = heads; lines = line ∷ lines_of more })
-    opened more = opens_line bytes line plain (heads_on cycles heads h.paths) h.opens more ∙ heads_on-other cycles heads h.paths line (lines_of more) (some_line more) other
+    opened more = opens_line bytes line plain (heads_on version cycles heads h.paths) h.opens more ∙ heads_on-other version cycles heads h.paths line (lines_of more) (some_line more) other
 
     opened_last : header_start_of (lines_of bytes) ≡ Ok (record { cycles = cycles; heads = heads; lines = line ∷ [] })
-    opened_last = opens_last bytes line plain (heads_on cycles heads h.paths) h.opens ∙ heads_on-last cycles heads h.paths line other
+    opened_last = opens_last bytes line plain (heads_on version cycles heads h.paths) h.opens ∙ heads_on-last version cycles heads h.paths line other
 
     -- the heads of the header may stand together
     pub heads-stand : are_heads heads ≡ true
@@ -213,9 +214,9 @@ module _ {Y : Type 0} (bytes line : List ℕ) (plain : Lacks 10 line) (cycles : 
     unfolding trace_of
     header-many many more = rw (opened more) (trace_from-many cycles heads (line ∷ lines_of more) many)
 
-    pub ends-in_header : line ≡ [] → cycles * length heads ≡ 0 → EndsInHeader bytes
-    ends-in_header none no_rows =
-        record { start = record { cycles = cycles; heads = heads; lines = line ∷ [] }; read = opened_last; ends = ap (λ (l : List ℕ). l ∷ []) none; no_rows = no_rows }
+    pub ends-in_header : cycles ≤ 1000000 → line ≡ [] → cycles * length heads ≡ 0 → EndsInHeader bytes
+    ends-in_header few none no_rows =
+        record { start = record { cycles = cycles; heads = heads; lines = line ∷ [] }; read = opened_last; few = few; ends = ap (λ (l : List ℕ). l ∷ []) none; no_rows = no_rows }
 
     pub header-end : cycles ≤ most_cycles → trace_of bytes ≡ rows_on (begun cycles heads) (line ∷ [])
     unfolding trace_of
@@ -229,7 +230,7 @@ module _ {Y : Type 0} (bytes line : List ℕ) (plain : Lacks 10 line) (cycles : 
   past-Heads held = by_line (is_head_line line) refl
     where
       by_line : (test : Bool) → is_head_line line ≡ test → ⊥
-      by_line true is = none_held bytes line plain (heads_on cycles heads h.paths) h.opens (BadHeader (3 + length heads)) (heads_on-cut cycles heads h.paths line is) held
+      by_line true is = none_held bytes line plain (heads_on version cycles heads h.paths) h.opens (BadHeader (3 + length heads)) (heads_on-cut version cycles heads h.paths line is) held
       by_line false other =
           let start : HeaderStart = record { cycles = cycles; heads = heads; lines = line ∷ [] } in
           let same : held.start ≡ start = ok_is held.start start (sym (held.read) ∙ opened_last other) in

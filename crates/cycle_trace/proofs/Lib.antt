@@ -23,3 +23,4 @@ pub mod BeginningLemmas
 pub mod KeepLemmas
 pub mod RowsReadLemmas
 pub mod ReaderLemmas
+pub mod FirstOfTwo

@@ -29,8 +29,8 @@ module _ {K : Type 0} (stands : K → Option TraceText → Type 0) (sink : K) (t
   -- the line that is begun goes on
   pub StandsAt-more : (stage : Stage) (line bytes more : List ℕ) → Lacks 10 more → StandsAt stands sink text stage line bytes → StandsAt stands sink text stage (line ++ more) (bytes ++ more)
   StandsAt-more stages.Title line bytes more plain h = (h.0, All-append (λ byte. byte ≢ 10) line more h.1 plain, h.2, Opens-more bytes line more header_start_of h.3)
-  StandsAt-more stages.Cycles line bytes more plain h = (h.0, All-append (λ byte. byte ≢ 10) line more h.1 plain, h.2, Opens-more bytes line more header_start_after h.3)
-  StandsAt-more stages.Heads line bytes more plain h = (h.0, All-append (λ byte. byte ≢ 10) line more h.1 plain, OpensWith-more bytes line more text.cycles text.heads text.paths h.2)
+  StandsAt-more stages.Cycles line bytes more plain h = (h.0, All-append (λ byte. byte ≢ 10) line more h.1 plain, h.2, Opens-more bytes line more (header_start_after text.version) h.3)
+  StandsAt-more stages.Heads line bytes more plain h = (h.0, All-append (λ byte. byte ≢ 10) line more h.1 plain, OpensWith-more bytes line more text.version text.cycles text.heads text.paths h.2)
   StandsAt-more stages.Rows line bytes more plain h = (h.0, (h.1.0, All-append (λ byte. byte ≢ 10) line more h.1.1 plain, h.1.2, GoesOn-more bytes line more h.0 h.1.3))
   StandsAt-more (stages.Failed fault) line bytes more plain h = Fails-more bytes more fault h
 
@@ -114,8 +114,8 @@ spent_or_past Memory = inl refl
 pub past_header : {K : Type 0} (stands : K → Option TraceText → Type 0) (sink : K) (text : TextRead) (stage : Stage) (line bytes : List ℕ) → StandsAt stands sink text stage line bytes → HoldsHeader bytes
     → (stage ≡ stages.Failed Memory) ⊎ (is_past_header stage ≡ true)
 past_header stands sink text stages.Title line bytes h held = absurd (none_held bytes line h.1 header_start_of h.3 (BadHeader 1) (header_start_of-one line) held)
-past_header stands sink text stages.Cycles line bytes h held = absurd (none_held bytes line h.1 header_start_after h.3 (BadHeader 2) (header_start_after-one line) held)
-past_header stands sink text stages.Heads line bytes h held = absurd (past-Heads bytes line h.1 text.cycles text.heads text.paths h.2 held)
+past_header stands sink text stages.Cycles line bytes h held = absurd (none_held bytes line h.1 (header_start_after text.version) h.3 (BadHeader 2) (header_start_after-one text.version line) held)
+past_header stands sink text stages.Heads line bytes h held = absurd (past-Heads bytes line h.1 text.version text.cycles text.heads text.paths h.2 held)
 past_header stands sink text stages.Rows line bytes h held = inr refl
 past_header stands sink text (stages.Failed fault) line bytes h held = spent_or_past fault
 

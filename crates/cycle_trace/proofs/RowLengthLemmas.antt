@@ -1,5 +1,6 @@
 -- How long the text of a row is.
-use Rattle.std.proofs.Common.{◌≡◌, ℕ, suc, ◌+◌, ◌*◌, ◌/◌, ◌^◌, ◌<◌, ◌≤◌, Bool, true, false, if◌then◌else◌, List, [], ◌∷◌, ◌++◌, length, Option, Some, None, Result, Ok, Err, is_some, append-nil, length-append, refl, sym, ap, ◌∙◌, arith}
+use Rattle.std.proofs.Common.{◌≡◌, ℕ, suc, ◌+◌, ◌*◌, ◌/◌, ◌^◌, ◌<◌, ◌≤◌, Bool, true, false, if◌then◌else◌, List, [], ◌∷◌, ◌++◌, length, Option, Some, None, Result, Ok, Err, is_some, append_assoc, append-nil, length-append, refl, sym, ap, ◌∙◌, arith}
+use Rattle.std.specs.Prelude.{codes}
 use Rattle.std.specs.Fmt.{decimal}
 use Rattle.std.specs.List.{join_with_byte}
 use Rattle.std.proofs.Math.Pow.{pow_mono}
@@ -15,7 +16,7 @@ use Rattle.physical_stream.specs.declared.transfer.Transfer.{Transfer}
 use Rattle.tydi_base.proofs.HexLemmas.{length-hex_of}
 use Rattle.cycle_trace.specs.RowLayout.{row_room}
 use Rattle.cycle_trace.specs.RowText.{row_at, row_fault, row_of}
-use Rattle.cycle_trace.specs.Spelling.{bit_text, or_dash, payload_words, row_line, signal_words, transfer_words}
+use Rattle.cycle_trace.specs.Spelling.{bit_text, or_dash, payload_words, row_line, row_text, signal_words, transfer_words, words_of_signals}
 use Rattle.cycle_trace.specs.Writing.{spaced}
 use Rattle.cycle_trace.proofs.RowSpelling.{row_at-some}
 use Rattle.cycle_trace.proofs.SignalSpelling.{index_width-most}
@@ -27,6 +28,14 @@ use Rattle.cycle_trace.proofs.WritingLemmas.{signals_together}
 pub joined_spaced : (word : List ℕ) (words : List (List ℕ)) → join_with_byte 32 (word ∷ words) ≡ word ++ spaced words
 joined_spaced word [] = sym (append-nil word)
 joined_spaced word (next ∷ words) = ap (λ (rest : List ℕ). word ++ 32 ∷ rest) (joined_spaced next words)
+
+-- the line of a row that shows a transfer, part after part
+pub row_written : (p : Parameters) (ready : Bool) (t : Transfer)
+    → row_text p (record { ready = ready; shown = Some t }) ≡ codes "1 " ++ (bit_text ready ++ (spaced (or_dash (words_of_signals p t (bits_of p.lanes t.strb))) ++ codes "\n"))
+row_written p ready t =
+    let words = or_dash (words_of_signals p t (bits_of p.lanes t.strb)) in
+    ap (λ (text : List ℕ). text ++ 10 ∷ []) (joined_spaced (codes "1") (bit_text ready ∷ words))
+    ∙ ap (λ (text : List ℕ). codes "1 " ++ text) (append_assoc (bit_text ready) (spaced words) (10 ∷ []))
 
 pub length-signal : (present : Bool) (key : ℕ) (value : List ℕ) → length (spaced (signal_words present key value)) ≡ (if present then 3 + length value else 0)
 length-signal true key value =

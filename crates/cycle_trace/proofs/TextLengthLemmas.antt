@@ -12,6 +12,10 @@ use Rattle.physical_stream.specs.declared.transfer.Transfer.{Transfer}
 use Rattle.signal_layout.specs.declared.layout.Signals.{Signals}
 use Rattle.physical_stream.specs.StreamLine.{direction_text, head_text}
 use Rattle.cycle_trace.specs.Spelling.{header_text, or_dash, payload_words, row_line, row_text, signal_words, transfer_words}
+use Rattle.tydi_base.specs.Level.{level_text}
+use Rattle.cycle_trace.specs.declared.version.Version.{Version}
+use Rattle.cycle_trace.specs.declared.version.Version.TheVariants.{One, Two}
+use Rattle.cycle_trace.specs.Version.{title_text}
 use Rattle.cycle_trace.specs.Writing.{AreSignalsOf, spaced}
 use Rattle.cycle_trace.proofs.RowLengthLemmas.{length-row_line, length-signal}
 use Rattle.cycle_trace.proofs.WritingLemmas.{signals_written}
@@ -23,11 +27,15 @@ length-direction true = refl
 length-direction false = refl
 
 pub length-head_text : (head : Head)
-    → length (head_text head) ≡ length (path_text head.path) + (51 + length (decimal head.params.lanes) + length (decimal head.params.dims) + length (decimal head.params.level) + length (decimal head.params.element) + length (decimal head.params.user))
+    → length (head_text head) ≡ length (path_text head.path) + (51 + length (decimal head.params.lanes) + length (decimal head.params.dims) + length (level_text head.params.level) + length (decimal head.params.element) + length (decimal head.params.user))
 length-head_text head = simp length-append (omega (arith, length-direction head.reversed))
 
-pub length-header_text : (cycles : ℕ) (heads : List Head) → length (header_text cycles heads) ≡ 21 + length (decimal cycles) + length (flat_map head_text heads)
-length-header_text cycles heads = simp length-append (omega arith)
+length-title : (version : Version) → length (title_text version) ≡ 12
+length-title One = refl
+length-title Two = refl
+
+pub length-header_text : (version : Version) (cycles : ℕ) (heads : List Head) → length (header_text version cycles heads) ≡ 21 + length (decimal cycles) + length (flat_map head_text heads)
+length-header_text version cycles heads = simp length-append (omega (arith, length-title version))
 
 -- ---- rows
 

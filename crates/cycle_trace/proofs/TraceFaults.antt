@@ -6,6 +6,7 @@ use Rattle.tydi_base.specs.Pieces.{words_of}
 use Rattle.physical_stream.specs.Params.{Parameters}
 use Rattle.physical_stream.specs.Cycles.{Cycle}
 use Rattle.cycle_trace.specs.Faults.{fault_in}
+use Rattle.cycle_trace.specs.declared.version.Version.{Version}
 use Rattle.cycle_trace.specs.HeaderText.{in_header, heads_from, header_start_after, header_start_of}
 use Rattle.cycle_trace.specs.RowText.{has_form, row_of, row_at}
 use Rattle.cycle_trace.specs.TraceText.{rows_from, trace_from, trace_of}
@@ -21,18 +22,18 @@ in_header-calm : {A : Type 0} (line : ℕ) (read : Result A (Unit {0})) → Faul
 in_header-calm line (Ok x) = search faults_are
 in_header-calm line (Err u) = search faults_are
 
-heads_from-calm : (number : ℕ) (paths lines : List (List ℕ)) → FaultsAre Calm (heads_from number paths lines)
-heads_from-calm number paths [] = search faults_are
-heads_from-calm number paths (last ∷ []) = search faults_are
-heads_from-calm number paths (line ∷ next ∷ lines) =
-    let later : (before : List (List ℕ)) → FaultsAre Calm (heads_from (suc number) before (next ∷ lines)) = λ before. heads_from-calm (suc number) before (next ∷ lines) in
+heads_from-calm : (version : Version) (number : ℕ) (paths lines : List (List ℕ)) → FaultsAre Calm (heads_from version number paths lines)
+heads_from-calm version number paths [] = search faults_are
+heads_from-calm version number paths (last ∷ []) = search faults_are
+heads_from-calm version number paths (line ∷ next ∷ lines) =
+    let later : (before : List (List ℕ)) → FaultsAre Calm (heads_from version (suc number) before (next ∷ lines)) = λ before. heads_from-calm version (suc number) before (next ∷ lines) in
     search (faults_are, in_header-calm, later)
 
-header_start_after-calm : (lines : List (List ℕ)) → FaultsAre Calm (header_start_after lines)
+header_start_after-calm : (version : Version) (lines : List (List ℕ)) → FaultsAre Calm (header_start_after version lines)
 unfolding header_start_after
-header_start_after-calm [] = search faults_are
-header_start_after-calm (last ∷ []) = search faults_are
-header_start_after-calm (second ∷ next ∷ lines) = search (faults_are, in_header-calm, heads_from-calm)
+header_start_after-calm version [] = search faults_are
+header_start_after-calm version (last ∷ []) = search faults_are
+header_start_after-calm version (second ∷ next ∷ lines) = search (faults_are, in_header-calm, heads_from-calm)
 
 header_start_of-calm : (lines : List (List ℕ)) → FaultsAre Calm (header_start_of lines)
 unfolding header_start_of

@@ -11,9 +11,8 @@ use Rattle.cycle_trace.specs.HeaderText.{HeaderStart, heads_from, header_start_o
 use Rattle.cycle_trace.specs.Trace.{TraceText, owed, params_of_heads}
 use Rattle.cycle_trace.specs.TraceText.{rows_from, trace_of}
 use Rattle.tydi_base.specs.TextSet.{HasTexts}
-use Rattle.tydi_base.specs.declared.pieces.TheConstants.{LINE_FEED}
+use Rattle.cycle_trace.specs.declared.version.Version.{Version}
 use Rattle.cycle_trace.specs.declared.fault.TraceFault.{TraceFault}
-use Rattle.cycle_trace.specs.declared.header_text.TheConstants.{MOST_STREAMS}
 
 -- the fault is the one that reading gives, unless memory ran out
 abbrev pub IsFault : {A : Type 0} → Result A TraceFault → TraceFault → Type 0
@@ -27,17 +26,17 @@ Fails bytes e = (more : List ℕ) → IsFault (trace_of (bytes ++ more)) e
 abbrev pub Opens : (bytes begun : List ℕ) → (List (List ℕ) → Result HeaderStart TraceFault) → Type 0
 Opens bytes begun gives = (more : List ℕ) → header_start_of (lines_of (bytes ++ more)) ≡ gives (lines_of (begun ++ more))
 
--- the heads so far, and those that the lines give, in a header of so many cycles
-abbrev pub heads_on : ℕ → List Head → List (List ℕ) → List (List ℕ) → Result HeaderStart TraceFault
-heads_on cycles heads paths lines = heads_from (3 + length heads) paths lines >>= λ found. Ok (record { cycles = cycles; heads = heads ++ found.0; lines = found.1 })
+-- the heads so far, and those that the lines give, in a header of this version and of so many cycles
+abbrev pub heads_on : Version → ℕ → List Head → List (List ℕ) → List (List ℕ) → Result HeaderStart TraceFault
+heads_on version cycles heads paths lines = heads_from version (3 + length heads) paths lines >>= λ found. Ok (record { cycles = cycles; heads = heads ++ found.0; lines = found.1 })
 
--- the header of every text that begins so has so many cycles, and these heads first, the texts of whose paths are these
-pub record OpensWith {Y : Type 0} (bytes begun : List ℕ) (cycles : ℕ) (heads : List Head) (set : BTreeSet (Vec ℕ Y)) : Type 0 where
+-- the header of every text that begins so has this version, so many cycles, and these heads first, the texts of whose paths are these
+pub record OpensWith {Y : Type 0} (bytes begun : List ℕ) (version : Version) (cycles : ℕ) (heads : List Head) (set : BTreeSet (Vec ℕ Y)) : Type 0 where
   pub paths : List (List ℕ)
   pub many : length paths ≡ length heads
-  pub few : length heads ≤ MOST_STREAMS
+  pub few : length heads ≤ 65536
   pub told : HasTexts set paths
-  pub opens : Opens bytes begun (heads_on cycles heads paths)
+  pub opens : Opens bytes begun (heads_on version cycles heads paths)
 
 -- a header of so many cycles and of these heads, and no rows
 abbrev pub begun : ℕ → List Head → TraceText
@@ -55,7 +54,7 @@ GoesOn bytes begun t = (more : List ℕ) → trace_of (bytes ++ more) ≡ rows_o
 
 -- the same, where a whole line comes first
 abbrev pub GoesOnLine : (bytes line : List ℕ) → TraceText → Type 0
-GoesOnLine bytes line t = (more : List ℕ) → trace_of ((bytes ++ LINE_FEED ∷ []) ++ more) ≡ rows_on t (line ∷ lines_of more)
+GoesOnLine bytes line t = (more : List ℕ) → trace_of ((bytes ++ 10 ∷ []) ++ more) ≡ rows_on t (line ∷ lines_of more)
 
 -- the trace of a text that ends in this line, without an LF
 abbrev pub EndsIn : (bytes line : List ℕ) → TraceText → Type 0

@@ -1,5 +1,5 @@
--- The header of a trace text, version 1 (this project's own): the line `tydi-trace 1`, the line `cycles N`, and the line of
--- each stream. Lines are numbered from 1.
+-- The header of a trace text (this project's own): the line `tydi-trace 1` or `tydi-trace 2`, the line `cycles N`, and the line
+-- of each stream, whose level has one number in the first version, and one to four in the second. Lines are numbered from 1.
 use Rattle.std.specs.Prelude.{ℕ, suc, Bool, not, ◌&&◌, nat_lt, nat_eq, if◌then◌else◌, List, [], ◌∷◌, length, drop, Result, Ok, Err, codes}
 use Rattle.std.specs.List.{starts_with, list_any}
 use Rattle.std.specs.Str.{bytes_eq}
@@ -7,14 +7,17 @@ use Rattle.tydi_base.specs.Reading.{◌>>=◌}
 use Rattle.tydi_base.specs.Path.{path_text}
 use Rattle.physical_stream.specs.StreamLine.{head_of, header_number}
 use Rattle.physical_stream.specs.declared.head.Head.{Head}
+use Rattle.cycle_trace.specs.declared.version.Version.{Version}
+use Rattle.cycle_trace.specs.declared.version.Version.TheVariants.{One, Two}
+use Rattle.cycle_trace.specs.Version.{may_have_level}
 use Rattle.cycle_trace.specs.declared.fault.TraceFault.{TraceFault}
 use Rattle.cycle_trace.specs.declared.fault.TraceFault.TheVariants.{BadHeader}
-use Rattle.cycle_trace.specs.declared.header_text.TheConstants.{MOST_STREAMS}
 
--- the head that a stream line spells after stream lines of these paths: not one of these, and not one too many
-unfoldable pub head_after : List (List ℕ) → List ℕ → Result Head (Unit {0})
-head_after paths line = head_of line >>= λ head.
-    if nat_lt (length paths) MOST_STREAMS && not (list_any (bytes_eq (path_text head.path)) paths) then Ok head else Err tt
+-- the head that a stream line of a text of this version spells after stream lines of these paths: not one of these, and not one
+-- too many
+unfoldable pub head_after : Version → List (List ℕ) → List ℕ → Result Head (Unit {0})
+head_after version paths line = head_of line >>= λ head.
+    if may_have_level version head.params.level && nat_lt (length paths) 65536 && not (list_any (bytes_eq (path_text head.path)) paths) then Ok head else Err tt
 
 -- a line that begins with `stream` and a space
 abbrev pub is_head_line : List ℕ → Bool
@@ -28,12 +31,12 @@ in_header line (Err e) = Err (BadHeader line)
 -- the heads of the stream lines that the lines begin with, and the lines after them. The first of the lines has this number, and
 -- the streams before it have these paths. The last of the lines has no LF: it is no header line, and one that is begun as a
 -- stream line is cut off.
-abbrev pub heads_from : ℕ → List (List ℕ) → List (List ℕ) → Result (List Head × List (List ℕ)) TraceFault
-heads_from number paths [] = Ok ([], [])
-heads_from number paths (last ∷ []) = if is_head_line last then Err (BadHeader number) else Ok ([], last ∷ [])
-heads_from number paths (line ∷ next ∷ lines) =
+abbrev pub heads_from : Version → ℕ → List (List ℕ) → List (List ℕ) → Result (List Head × List (List ℕ)) TraceFault
+heads_from version number paths [] = Ok ([], [])
+heads_from version number paths (last ∷ []) = if is_head_line last then Err (BadHeader number) else Ok ([], last ∷ [])
+heads_from version number paths (line ∷ next ∷ lines) =
     if is_head_line line then
-    (in_header number (head_after paths line) >>= λ head. heads_from (suc number) (path_text head.path ∷ paths) (next ∷ lines) >>= λ rest. Ok (head ∷ rest.0, rest.1))
+    (in_header number (head_after version paths line) >>= λ head. heads_from version (suc number) (path_text head.path ∷ paths) (next ∷ lines) >>= λ rest. Ok (head ∷ rest.0, rest.1))
     else Ok ([], line ∷ next ∷ lines)
 
 -- the number of cycles that the second line spells
@@ -46,19 +49,19 @@ pub record HeaderStart : Type 0 where
   pub heads : List Head
   pub lines : List (List ℕ)
 
--- that the first line is right
-unfoldable pub title_of : List ℕ → Result (Unit {0}) (Unit {0})
-title_of line = if bytes_eq line (codes "tydi-trace 1") then Ok tt else Err tt
+-- the version that the first line spells
+unfoldable pub title_of : List ℕ → Result Version (Unit {0})
+title_of line = if bytes_eq line (codes "tydi-trace 1") then Ok One else (if bytes_eq line (codes "tydi-trace 2") then Ok Two else Err tt)
 
--- the header that goes on after its first line. The last of the lines has no LF.
-unfoldable pub header_start_after : List (List ℕ) → Result HeaderStart TraceFault
-header_start_after [] = Err (BadHeader 2)
-header_start_after (last ∷ []) = Err (BadHeader 2)
-header_start_after (second ∷ next ∷ lines) =
-    in_header 2 (count_of_cycles second) >>= λ cycles. heads_from 3 [] (next ∷ lines) >>= λ found. Ok (record { cycles = cycles; heads = found.0; lines = found.1 })
+-- the header of a text of this version, that goes on after its first line. The last of the lines has no LF.
+unfoldable pub header_start_after : Version → List (List ℕ) → Result HeaderStart TraceFault
+header_start_after version [] = Err (BadHeader 2)
+header_start_after version (last ∷ []) = Err (BadHeader 2)
+header_start_after version (second ∷ next ∷ lines) =
+    in_header 2 (count_of_cycles second) >>= λ cycles. heads_from version 3 [] (next ∷ lines) >>= λ found. Ok (record { cycles = cycles; heads = found.0; lines = found.1 })
 
 -- the header that the lines of a text begin with, or the first line that is not as it should be
 unfoldable pub header_start_of : List (List ℕ) → Result HeaderStart TraceFault
 header_start_of [] = Err (BadHeader 1)
 header_start_of (last ∷ []) = Err (BadHeader 1)
-header_start_of (first ∷ next ∷ lines) = in_header 1 (title_of first) >>= λ fine. header_start_after (next ∷ lines)
+header_start_of (first ∷ next ∷ lines) = in_header 1 (title_of first) >>= λ version. header_start_after version (next ∷ lines)

@@ -1,4 +1,5 @@
 pub mod Faults
+pub mod Version
 pub mod HeaderText
 pub mod LineBegun
 pub mod RowForm

@@ -11,10 +11,8 @@ use Rattle.cycle_trace.specs.LineBegun.{Begins}
 use Rattle.cycle_trace.specs.RowLayout.{rows_room}
 use Rattle.cycle_trace.specs.Surveying.{IsNextRow}
 use Rattle.tydi_base.specs.TextSet.{HasTexts}
-use Rattle.tydi_base.specs.declared.pieces.TheConstants.{LINE_FEED}
 use Rattle.cycle_trace.specs.Trace.{TraceText, most_cycles, params_of_heads}
 use Rattle.cycle_trace.specs.declared.fault.TraceFault.{TraceFault}
-use Rattle.cycle_trace.specs.declared.header_text.TheConstants.{MOST_STREAMS}
 use Rattle.cycle_trace.specs.declared.line_begun.LineBegun.{LineBegun}
 use Rattle.cycle_trace.specs.declared.fault.TraceFault.TheVariants.{Memory}
 use Rattle.cycle_trace.specs.declared.row_fields.RowBits.{RowBits}
@@ -29,7 +27,7 @@ use Rattle.cycle_trace.specs.declared.trace_reader.TraceReader.{TraceReader}
 pub record ReadsRows (rows : RowsRead) (t : TraceText) : Type 0 where
   pub params : map (λ stream. stream.layout.params) rows.streams.items ≡ params_of_heads t.heads
   pub few_cycles : t.cycles ≤ most_cycles
-  pub few_streams : length t.heads ≤ MOST_STREAMS
+  pub few_streams : length t.heads ≤ 65536
   pub want : rows.want ≡ t.cycles * length t.heads
   pub got : rows.got ≡ length t.rows
   pub within : length t.rows ≤ t.cycles * length t.heads
@@ -52,7 +50,7 @@ pub record HasNoHeads (text : TextRead) : Type 0 where
 
 -- the header of every text that begins so has the heads that are read first, and goes on with the line that is begun
 abbrev pub OpensText : TextRead → (line bytes : List ℕ) → Type 0
-OpensText text line bytes = OpensWith bytes line text.cycles text.heads text.paths
+OpensText text line bytes = OpensWith bytes line text.version text.cycles text.heads text.paths
 
 -- a trace with the header that is read, and no rows
 abbrev pub header_read : TextRead → TraceText
@@ -60,10 +58,10 @@ header_read text = begun text.cycles text.heads
 
 -- what is known where the line that is begun is this
 abbrev pub StandsAt : {K : Type 0} → (K → Option TraceText → Type 0) → K → TextRead → Stage → (line bytes : List ℕ) → Type 0
-StandsAt stands sink text stages.Title line bytes = stands sink None × Lacks LINE_FEED line × HasNoHeads text × Opens bytes line header_start_of
-StandsAt stands sink text stages.Cycles line bytes = stands sink None × Lacks LINE_FEED line × HasNoHeads text × Opens bytes line header_start_after
-StandsAt stands sink text stages.Heads line bytes = stands sink None × Lacks LINE_FEED line × OpensText text line bytes
-StandsAt stands sink text stages.Rows line bytes = (t : TraceText) × (stands sink (Some t) × Lacks LINE_FEED line × ReadsRows text.rows t × GoesOn bytes line t)
+StandsAt stands sink text stages.Title line bytes = stands sink None × Lacks 10 line × HasNoHeads text × Opens bytes line header_start_of
+StandsAt stands sink text stages.Cycles line bytes = stands sink None × Lacks 10 line × HasNoHeads text × Opens bytes line (header_start_after text.version)
+StandsAt stands sink text stages.Heads line bytes = stands sink None × Lacks 10 line × OpensText text line bytes
+StandsAt stands sink text stages.Rows line bytes = (t : TraceText) × (stands sink (Some t) × Lacks 10 line × ReadsRows text.rows t × GoesOn bytes line t)
 StandsAt stands sink text (stages.Failed fault) line bytes = Fails bytes fault
 
 abbrev pub Stands : {K : Type 0} → (K → Option TraceText → Type 0) → K → TextRead → (line bytes : List ℕ) → Type 0
@@ -115,26 +113,27 @@ pub record HoldsHeader (bytes : List ℕ) : Type 0 where
   pub read : header_start_of (lines_of bytes) ≡ Ok start
   pub line : 1 < length start.lines
 
--- a text ends with a header that asks for no rows
+-- a text ends with a header of at most 1,000,000 cycles that asks for no rows
 pub record EndsInHeader (bytes : List ℕ) : Type 0 where
   pub start : HeaderStart
   pub read : header_start_of (lines_of bytes) ≡ Ok start
+  pub few : start.cycles ≤ 1000000
   pub ends : start.lines ≡ [] ∷ []
   pub no_rows : start.cycles * length start.heads ≡ 0
 
--- memory may be wanting: it ran out before, or the text ends with a header that asks for no rows
+-- memory may be wanting: it ran out before, or the text ends with such a header
 abbrev pub MayLackMemory : TextRead → List ℕ → Type 0
 MayLackMemory text bytes = (text.stage ≡ stages.Failed Memory) ⊎ EndsInHeader bytes
 
 -- after a line: what is known where the next one begins, or the fault of every text that begins so
 abbrev pub AfterLine : {K : Type 0} → (K → Option TraceText → Type 0) → K → TextRead → List ℕ → Result (Unit {0}) TraceFault → Type 0
-AfterLine stands sink text bytes (Ok fine) = Stands stands sink text [] (bytes ++ LINE_FEED ∷ [])
-AfterLine stands sink text bytes (Err e) = Fails (bytes ++ LINE_FEED ∷ []) e
+AfterLine stands sink text bytes (Ok fine) = Stands stands sink text [] (bytes ++ 10 ∷ [])
+AfterLine stands sink text bytes (Err e) = Fails (bytes ++ 10 ∷ []) e
 
 -- after the line of a row
 abbrev pub AfterRow : {K : Type 0} → (K → Option TraceText → Type 0) → K → RowsRead → List ℕ → Result (Unit {0}) TraceFault → Type 0
-AfterRow stands sink rows bytes (Ok fine) = (t : TraceText) × (stands sink (Some t) × ReadsRows rows t × GoesOn (bytes ++ LINE_FEED ∷ []) [] t)
-AfterRow stands sink rows bytes (Err e) = Fails (bytes ++ LINE_FEED ∷ []) e
+AfterRow stands sink rows bytes (Ok fine) = (t : TraceText) × (stands sink (Some t) × ReadsRows rows t × GoesOn (bytes ++ 10 ∷ []) [] t)
+AfterRow stands sink rows bytes (Err e) = Fails (bytes ++ 10 ∷ []) e
 
 -- at the end of a text that is read so: the sink stands for the trace, or this is the fault
 abbrev pub Finishes : {K : Type 0} → (K → Option TraceText → Type 0) → Result TraceText TraceFault → Result K TraceFault → Type 0

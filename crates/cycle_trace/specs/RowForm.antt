@@ -6,8 +6,6 @@ use Rattle.std.specs.List.{list_all}
 use Rattle.tydi_base.specs.Decimal.{is_decimal}
 use Rattle.tydi_base.specs.Hex.{digit_of}
 use Rattle.tydi_base.specs.Pieces.{words_of}
-use Rattle.tydi_base.specs.declared.pieces.TheConstants.{SPACE}
-use Rattle.tydi_base.specs.declared.words_left.TheConstants.{EQUALS}
 use Rattle.cycle_trace.specs.RowText.{are_signals, has_form, is_bit, is_hex, is_payload}
 use Rattle.cycle_trace.specs.declared.row_form.RowForm.{RowForm}
 use Rattle.cycle_trace.specs.declared.row_form.RowForm.TheVariants as forms
@@ -45,7 +43,7 @@ fits forms.Payload words = is_payload words
 fits forms.Dash (end ∷ []) = is_end end
 fits forms.Dash words = false
 fits (forms.Signal next) words = are_signals (drop next row_keys) words
-fits (forms.Sign next kind) ((sign ∷ value) ∷ words) = goes_on next ((sign == EQUALS) && is_spelled kind value) words
+fits (forms.Sign next kind) ((sign ∷ value) ∷ words) = goes_on next ((sign == 61) && is_spelled kind value) words
 fits (forms.Sign next kind) words = false
 fits (forms.Value next kind) (value ∷ words) = goes_on next (is_spelled kind value) words
 fits (forms.Value next kind) [] = false
@@ -63,9 +61,9 @@ IsForm form front = (more : List ℕ) → fits form (words_of more) ≡ has_form
 
 -- the new form is the old one with this byte more: a space ends the word that is begun, and any other byte is one of it
 pub record Goes (old : RowForm) (byte : ℕ) (new : RowForm) : Type 0 where
-  pub space : byte ≡ SPACE → (word : List ℕ) (words : List (List ℕ)) → fits new (word ∷ words) ≡ fits old ([] ∷ word ∷ words)
-  pub other : (byte ≡ SPACE → ⊥) → (word : List ℕ) (words : List (List ℕ)) → fits new (word ∷ words) ≡ fits old ((byte ∷ word) ∷ words)
+  pub space : byte ≡ 32 → (word : List ℕ) (words : List (List ℕ)) → fits new (word ∷ words) ≡ fits old ([] ∷ word ∷ words)
+  pub other : (byte ≡ 32 → ⊥) → (word : List ℕ) (words : List (List ℕ)) → fits new (word ∷ words) ≡ fits old ((byte ∷ word) ∷ words)
 
 -- the one form after a space, and the other after a byte of which the test holds
 abbrev pub step : ℕ → RowForm → Bool → RowForm → RowForm
-step byte at_space test otherwise = if byte == SPACE then at_space else (if test then otherwise else forms.No)
+step byte at_space test otherwise = if byte == 32 then at_space else (if test then otherwise else forms.No)

@@ -11,20 +11,18 @@ use Rattle.tydi_base.specs.Pieces.{words_of}
 use Rattle.tydi_base.specs.Bits.{zero_bits, number_of_bits}
 use Rattle.tydi_base.specs.Hex.{word_at, digit_of}
 use Rattle.tydi_base.specs.Width.{index_width}
-use Rattle.tydi_base.specs.declared.words_left.TheConstants.{EQUALS}
 use Rattle.physical_stream.specs.Params.{Parameters}
 use Rattle.physical_stream.specs.Signals.{has_content, has_last, has_stai, has_endi, has_strb, has_user}
 use Rattle.physical_stream.specs.Cycles.{Cycle}
 use Rattle.physical_stream.specs.declared.transfer.Transfer.{Transfer}
 use Rattle.cycle_trace.specs.declared.fault.TraceFault.{TraceFault}
 use Rattle.cycle_trace.specs.declared.fault.TraceFault.TheVariants.{BadRow, WrongSignals}
-use Rattle.cycle_trace.specs.declared.row_bytes.TheConstants.{DATA_KEY, ENDI_KEY, LAST_KEY, STAI_KEY, STRB_KEY, USER_KEY}
 
 -- ---- a row of a stream
 
 -- the value of the first word, which is this key, `=` and the value; and the words after it
 unfoldable pub value_of : ℕ → List (List ℕ) → Result (List ℕ × List (List ℕ)) (Unit {0})
-value_of key ((k ∷ sign ∷ value) ∷ words) = if (k == key) && (sign == EQUALS) then Ok (value, words) else Err tt
+value_of key ((k ∷ sign ∷ value) ∷ words) = if (k == key) && (sign == 61) then Ok (value, words) else Err tt
 value_of key words = Err tt
 
 -- a word of bits: zeros where the signal is absent, else exactly its hexadecimal digits
@@ -51,7 +49,7 @@ index_field true key width default words = do
 -- the strobe bits: all ones where the signal is absent
 unfoldable pub strobe_field : Bool → ℕ → List (List ℕ) → Result (ℕ × List (List ℕ)) (Unit {0})
 strobe_field false lanes words = Ok (2 ^ lanes - 1, words)
-strobe_field true lanes words = word_field true STRB_KEY lanes words >>= λ field. Ok (number_of_bits field.0, field.1)
+strobe_field true lanes words = word_field true 98 lanes words >>= λ field. Ok (number_of_bits field.0, field.1)
 
 -- no word is left
 unfoldable pub no_more : List (List ℕ) → Result (Unit {0}) (Unit {0})
@@ -61,12 +59,12 @@ no_more (word ∷ words) = Err tt
 -- the transfer that the words of a payload spell
 unfoldable pub transfer_of : Parameters → List (List ℕ) → Result Transfer (Unit {0})
 transfer_of p words = do
-  content ← word_field (has_content p) DATA_KEY (p.lanes * p.element) words
-  last ← word_field (has_last p) LAST_KEY (p.lanes * p.dims) content.1
-  stai ← index_field (has_stai p) STAI_KEY (index_width p.lanes) 0 last.1
-  endi ← index_field (has_endi p) ENDI_KEY (index_width p.lanes) (p.lanes - 1) stai.1
+  content ← word_field (has_content p) 100 (p.lanes * p.element) words
+  last ← word_field (has_last p) 108 (p.lanes * p.dims) content.1
+  stai ← index_field (has_stai p) 115 (index_width p.lanes) 0 last.1
+  endi ← index_field (has_endi p) 101 (index_width p.lanes) (p.lanes - 1) stai.1
   strb ← strobe_field (has_strb p) p.lanes endi.1
-  user ← word_field (has_user p) USER_KEY p.user strb.1
+  user ← word_field (has_user p) 117 p.user strb.1
   nothing ← no_more user.1
   Ok (record { content = content.0; last = last.0; stai = stai.0; endi = endi.0; strb = strb.0; user = user.0 })
 
@@ -116,11 +114,11 @@ is_hex digits = nat_lt 0 (length digits) && list_all (λ digit. is_some (digit_o
 
 -- the digits of a value of this key: those of a decimal, at most five, for `s` and `e`; else hexadecimal ones
 abbrev pub is_value : ℕ → List ℕ → Bool
-is_value key digits = if (key == STAI_KEY) || (key == ENDI_KEY) then is_decimal digits && nat_le (length digits) 5 else is_hex digits
+is_value key digits = if (key == 115) || (key == 101) then is_decimal digits && nat_le (length digits) 5 else is_hex digits
 
 -- the word is this key, `=` and a value of the key
 abbrev pub is_signal : ℕ → List ℕ → Bool
-is_signal key (k ∷ sign ∷ value) = (k == key) && (sign == EQUALS) && is_value key value
+is_signal key (k ∷ sign ∷ value) = (k == key) && (sign == 61) && is_value key value
 is_signal key word = false
 
 -- the words are signals of these keys, in this order, each key at most once

@@ -1,7 +1,8 @@
 -- What a survey says of the streams of a trace (this project's own).
-use Rattle.std.specs.Prelude.{◌≡◌, ℕ, suc, List, [], ◌∷◌, map, Option, Some, None, Result, Ok, Err}
+use Rattle.std.specs.Prelude.{◌≡◌, ◌⊎◌, ℕ, suc, Bool, nat_le, nat_lt, ◌==◌, if◌then◌else◌, List, [], ◌∷◌, map, Option, Some, None, Result, Ok, Err}
 use Rattle.physical_stream.specs.Cycles.{StreamTrace}
 use Rattle.physical_stream.specs.First.{Offence, IsFirst}
+use Rattle.physical_stream.specs.Rules.{number_of_rule}
 use Rattle.physical_stream.specs.Ending.{ending_of}
 use Rattle.physical_stream.specs.Counts.{transfers_of, packets_of}
 use Rattle.physical_stream.specs.declared.end.End.{End}
@@ -46,3 +47,30 @@ pub record Surveys (Offends : Offence → Type 0) (streams : List StreamTrace) (
 abbrev pub Answers : (Offence → Type 0) → List StreamTrace → Result Counts SurveyFault → Type 0
 Answers Offends streams (Err faults.Memory) = Unit {0}
 Answers Offends streams found = Surveys Offends streams found
+
+-- ---- a second kind of rule beside those of the survey, as the rule on tags
+
+-- what offends by one kind of rule or by another
+abbrev pub OffendsByEither : (Offence → Type 0) → (Offence → Type 0) → Offence → Type 0
+OffendsByEither One Other o = One o ⊎ Other o
+
+-- whether an offence stands no later than another: by cycle, then by stream, then by rule
+abbrev pub is_not_after : Offence → Offence → Bool
+is_not_after a b =
+    if a.cycle == b.cycle then (if a.stream == b.stream then nat_le (number_of_rule a.rule) (number_of_rule b.rule) else nat_lt a.stream b.stream) else nat_lt a.cycle b.cycle
+
+-- the earlier of two offences
+abbrev pub earlier_of : Offence → Offence → Offence
+earlier_of a b = if is_not_after a b then a else b
+
+-- the answer that names an offence
+abbrev pub offence_fault : Offence → Result Counts SurveyFault
+offence_fault o = Err (faults.Offence o.cycle o.stream o.rule)
+
+-- what a survey finds where also the first offence of the second kind is looked at
+abbrev pub found_with : Result Counts SurveyFault → Option Offence → Result Counts SurveyFault
+found_with found None = found
+found_with (Err faults.Memory) (Some other) = Err faults.Memory
+found_with (Err (faults.Offence cycle stream rule)) (Some other) = offence_fault (earlier_of (record { cycle = cycle; stream = stream; rule = rule }) other)
+found_with (Err (faults.Unfinished stream end)) (Some other) = offence_fault other
+found_with (Ok counts) (Some other) = offence_fault other

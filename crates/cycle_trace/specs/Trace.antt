@@ -11,7 +11,6 @@ use Rattle.physical_stream.specs.Cycles.{Cycle, StreamTrace}
 use Rattle.physical_stream.specs.declared.transfer.Transfer.{Transfer}
 use Rattle.physical_stream.specs.declared.head.Head.{Head}
 use Rattle.physical_stream.specs.declared.head.Header.{Header}
-use Rattle.cycle_trace.specs.declared.header_text.TheConstants.{MOST_STREAMS}
 use Rattle.cycle_trace.specs.declared.own_row.OwnRow.{OwnRow}
 
 -- what a trace says: its header, and its rows, by cycle and in each cycle by stream
@@ -38,7 +37,7 @@ all_distinct (text ∷ texts) = not (list_any (bytes_eq text) texts) && all_dist
 
 -- at most so many streams as a trace may have, no two of one path
 abbrev pub are_heads : List Head → Bool
-are_heads heads = nat_le (length heads) MOST_STREAMS && all_distinct (map (λ head. path_text head.path) heads)
+are_heads heads = nat_le (length heads) 65536 && all_distinct (map (λ head. path_text head.path) heads)
 
 -- the most cycles of a trace
 abbrev pub most_cycles : ℕ

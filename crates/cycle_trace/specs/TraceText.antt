@@ -1,4 +1,4 @@
--- The whole text of a trace, version 1 (this project's own): its header, and then a row for each cycle and stream.
+-- The whole text of a trace (this project's own): its header, and then a row for each cycle and stream.
 use Rattle.std.specs.Prelude.{ℕ, suc, ◌+◌, ◌*◌, nat_le, if◌then◌else◌, List, [], ◌∷◌, length, Result, Ok, Err}
 use Rattle.tydi_base.specs.Reading.{◌>>=◌}
 use Rattle.tydi_base.specs.Pieces.{lines_of}

@@ -9,6 +9,7 @@ ghost use Rattle.cycle_trace.specs.Faults.{fault_in, header_fault};
 ghost use Rattle.cycle_trace.specs.HeaderText as spec;
 
 use crate::fault::TraceFault;
+use crate::version::Version;
 use physical_stream::{Head, Misspelling, NotForm, head_of, header_number};
 use std::alloc::Global;
 use std::collections::BTreeSet;
@@ -17,13 +18,15 @@ use tydi_base::{List, Memory, Path, add_text};
 /// The most streams of a trace.
 const MOST_STREAMS: usize = 65536;
 
-/// That the first line is right.
+/// The version that the first line spells.
 #[tactic(auto, unfolding(crate::specs::HeaderText::title_of))]
-pub(crate) fn read_title(line: &[u8]) -> Result<(), NotForm>
-    ensures { Gives not_form_in (λ fine. fine) result (spec.title_of line.now) }
+pub(crate) fn read_title(line: &[u8]) -> Result<Version, NotForm>
+    ensures { Gives not_form_in (λ version. version) result (spec.title_of line.now) }
 {
     if line == b"tydi-trace 1".as_slice() {
-        Ok(())
+        Ok(Version::One)
+    } else if line == b"tydi-trace 2".as_slice() {
+        Ok(Version::Two)
     } else {
         Err(NotForm)
     }
@@ -39,37 +42,42 @@ fn header_fault(line: u64, misspelling: Misspelling) -> TraceFault
     }
 }
 
-/// The head that a stream line spells after so many stream lines, the texts of whose paths are these; and its path is one of
-/// these from then on.
+/// The head that a stream line of a text of this version spells after so many stream lines, the texts of whose paths are these;
+/// and its path is one of these from then on.
 pub(crate) fn next_head(
     alloc: Global,
+    version: Version,
     paths: &mut BTreeSet<Vec<u8>>,
     count: usize,
     line: &[u8],
 ) -> Result<Head, TraceFault>
-    requires { count ≤ MOST_STREAMS }
+    requires { count ≤ 65536 }
     ensures gives { (texts : List (List ℕ)) → HasTexts paths.old texts → length texts ≡ count
-        → Gives fault_in (λ head. head) result (spec.in_header (3 + count) (spec.head_after texts line.now)) }
+        → Gives fault_in (λ head. head) result (spec.in_header (3 + count) (spec.head_after version texts line.now)) }
     ensures added { IfOk result (λ head. AddsText paths.old paths.new (path_text head.path)) }
 {
-    match head_after(alloc, paths, count, line) {
+    match head_after(alloc, version, paths, count, line) {
         Ok(head) => Ok(head),
         Err(e) => Err(header_fault(3 + count as u64, e)),
     }
 }
 
-/// The head that a stream line spells after so many stream lines, the texts of whose paths are these.
+/// The same, with what keeps the line from being read.
 fn head_after(
     alloc: Global,
+    version: Version,
     paths: &mut BTreeSet<Vec<u8>>,
     count: usize,
     line: &[u8],
 ) -> Result<Head, Misspelling>
     ensures gives { (texts : List (List ℕ)) → HasTexts paths.old texts → length texts ≡ count
-        → Gives misspelling_in (λ head. head) result (spec.head_after texts line.now) }
+        → Gives misspelling_in (λ head. head) result (spec.head_after version texts line.now) }
     ensures added { IfOk result (λ head. AddsText paths.old paths.new (path_text head.path)) }
 {
     let head = head_of(alloc, line)?;
+    if !version.may_have(&head) {
+        return Err(Misspelling::NotForm);
+    }
     if count >= MOST_STREAMS {
         return Err(Misspelling::NotForm);
     }

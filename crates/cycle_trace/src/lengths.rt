@@ -7,6 +7,7 @@ ghost use Rattle.tydi_base.specs.Lengths.{most_bytes};
 ghost use Rattle.physical_stream.specs.StreamLine.{head_text};
 ghost use Rattle.cycle_trace.specs.Spelling.{header_text, payload_words, row_text, transfer_words};
 ghost use Rattle.cycle_trace.specs.Trace.{are_heads, most_cycles};
+ghost use Rattle.cycle_trace.specs.Version.{version_of};
 ghost use Rattle.cycle_trace.specs.Writing.{spaced};
 
 use physical_stream::{Head, Header, Params, Row, Transfer};
@@ -17,7 +18,7 @@ use tydi_base::{decimal_length, hex_length};
 pub fn header_length(header: &Header) -> u64
     requires few_cycles { header.now.cycles ≤ most_cycles }
     requires streams { IsTrue (are_heads header.now.heads) }
-    ensures { result ≡ min (length (header_text header.now.cycles header.now.heads)) most_bytes }
+    ensures { result ≡ min (length (header_text (version_of header.now.heads) header.now.cycles header.now.heads)) most_bytes }
 {
     let mut length = 21 + decimal_length(u64::from(header.cycles));
     'heads: for head in header.heads.as_slice() {
@@ -33,7 +34,7 @@ fn head_length(head: &Head) -> u64
     let p = &head.params;
     let lanes = decimal_length(u64::from(p.lanes));
     let dims = decimal_length(u64::from(p.dims));
-    let level = decimal_length(u64::from(p.level.number()));
+    let level = p.level.text_length();
     let element = decimal_length(u64::from(p.element));
     let user = decimal_length(u64::from(p.user));
     head.path

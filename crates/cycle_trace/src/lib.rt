@@ -1,8 +1,8 @@
-//! Traces of physical streams, cycle by cycle, and their text. `read` gives the trace that a text spells, or the text's first
-//! fault with its line; `write_header` and `write_row` write the one text of a trace; `survey` says of a trace which rule it
-//! breaks first, which stream does not end whole, or what each stream has done. It stands on `physical_stream`, whose
-//! definitions say what a stream can show, on `signal_layout`, which says how wide each signal is, and on the checker of
-//! `complexity_rules`.
+//! Traces of physical streams, cycle by cycle, and their text. A `TraceReader` reads a text in pieces and hands the rows to a
+//! `RowSink`; `read` reads a whole text; `write_header` and `write_row` write one, in version 1 where each level has one number, else
+//! in version 2; `survey` names the first violation, or the first stream that does not end whole, or counts transfers and packets.
+//! `specs/TraceText.antt` says which text is which trace. The crate stands on `physical_stream`, on `signal_layout` for widths, and on
+//! the checker of `complexity_rules`.
 #![tactic(auto)]
 
 mod counts;
@@ -32,6 +32,7 @@ mod trace;
 mod trace_reader;
 mod trace_rows;
 mod turn;
+mod version;
 mod writing;
 
 pub use counts::{Counts, SurveyFault};
@@ -43,8 +44,10 @@ pub use own_row::OwnRow;
 pub use reading::read;
 pub use replaying::survey;
 pub use row_sink::RowSink;
+pub use survey_outcome::{FoundOffence, with_offence};
 pub use surveyed::Surveyed;
 pub use surveyor::Surveyor;
 pub use trace::Trace;
 pub use trace_reader::TraceReader;
+pub use version::Version;
 pub use writing::{write_header, write_row};

@@ -2,7 +2,6 @@
 
 ghost use Rattle.std.specs.Prelude.{◌≡◌, ◌↔◌, ◌++◌, ◌∷◌, [], ◌<◌, ◌≤◌, length, ℕ, List, true, false, IfErr, IsSome, IsTrue, OnOk, Some, None, Err};
 ghost use Rattle.tydi_base.specs.Pieces.{Lacks};
-ghost use Rattle.tydi_base.specs.declared.pieces.TheConstants.{LINE_FEED};
 ghost use Rattle.tydi_base.specs.Reading.{Gives};
 ghost use Rattle.cycle_trace.specs.Beginnings.{EndsIn, Fails, GoesOnLine};
 ghost use Rattle.cycle_trace.specs.Faults.{fault_in};
@@ -15,7 +14,6 @@ ghost use Rattle.cycle_trace.specs.Trace.{TraceText, are_heads, most_cycles};
 ghost use Rattle.cycle_trace.specs.TraceText.{trace_of};
 ghost use Rattle.cycle_trace.specs.declared.fault.TraceFault.{TraceFault};
 ghost use Rattle.cycle_trace.specs.declared.fault.TraceFault.TheVariants as faults;
-ghost use Rattle.cycle_trace.specs.declared.header_text.TheConstants.{MOST_STREAMS};
 ghost use Rattle.cycle_trace.specs.declared.text_read.Stage.TheVariants as stages;
 
 use crate::fault::TraceFault;
@@ -37,7 +35,7 @@ const MOST_CYCLES: u64 = 1_000_000;
 #[inline(always)]
 pub(crate) fn take_line<K: RowSink>(alloc: Global, sink: &mut K, text: &mut TextRead, line: &[u8])
     requires { (bytes : List ℕ) × Stands K.stands_for sink.old text.old line.now bytes }
-    ensures stands { (bytes : List ℕ) → Stands K.stands_for sink.old text.old line.now bytes → Stands K.stands_for sink.new text.new [] (bytes ++ LINE_FEED ∷ []) }
+    ensures stands { (bytes : List ℕ) → Stands K.stands_for sink.old text.old line.now bytes → Stands K.stands_for sink.new text.new [] (bytes ++ 10 ∷ []) }
     ensures failed { StaysFailed text.old.stage text.new.stage }
     ensures room { text.old.stage ≡ stages.Rows → text.new.rows.room ≡ text.old.rows.room }
     ensures fixed { K.fixed sink.new ≡ K.fixed sink.old }
@@ -65,7 +63,8 @@ fn after_line<K: RowSink>(
 {
     match text.stage {
         Stage::Title => match read_title(line) {
-            Ok(()) => {
+            Ok(version) => {
+                text.version = version;
                 text.stage = Stage::Cycles;
                 Ok(())
             }
@@ -102,7 +101,7 @@ fn after_head<K: RowSink>(
     ensures fixed { K.fixed sink.new ≡ K.fixed sink.old }
 {
     if is_head_line(line) {
-        let head = next_head(alloc, &mut text.paths, text.heads.len(), line)?;
+        let head = next_head(alloc, text.version, &mut text.paths, text.heads.len(), line)?;
         text.heads.push(head)?;
         return Ok(());
     }
@@ -139,7 +138,7 @@ fn take_row<K: RowSink>(alloc: Global, sink: &mut K, text: &mut TextRead, line: 
     requires rows { text.old.stage ≡ stages.Rows }
     requires stands { (t : TraceText) × (K.stands_for sink.old (Some t) × ReadsRows text.old.rows t) }
     ensures stands { (t : TraceText) (bytes : List ℕ) → K.stands_for sink.old (Some t) → ReadsRows text.old.rows t → GoesOnLine bytes line.now t
-        → Stands K.stands_for sink.new text.new [] (bytes ++ LINE_FEED ∷ []) }
+        → Stands K.stands_for sink.new text.new [] (bytes ++ 10 ∷ []) }
     ensures room { text.new.rows.room ≡ text.old.rows.room }
     ensures fixed { K.fixed sink.new ≡ K.fixed sink.old }
     ensures calm { K.fixed sink.old ≡ true → is_past_header text.new.stage ≡ true }
@@ -184,7 +183,7 @@ pub(crate) fn take_begun<K: RowSink>(
     requires rows { text.old.stage ≡ stages.Rows }
     requires stands { (bytes : List ℕ) × ((line : List ℕ) × (Holds text.old begun.now line × Stands K.stands_for sink.old text.old line bytes)) }
     ensures stands { (bytes line : List ℕ) → Holds text.old begun.now line → Stands K.stands_for sink.old text.old line bytes
-        → Stands K.stands_for sink.new text.new [] (bytes ++ LINE_FEED ∷ []) }
+        → Stands K.stands_for sink.new text.new [] (bytes ++ 10 ∷ []) }
     ensures room { text.new.rows.room ≡ text.old.rows.room }
     ensures fixed { K.fixed sink.new ≡ K.fixed sink.old }
     ensures calm { StaysCalm (K.fixed sink.old) text.old.stage text.new.stage }
@@ -198,7 +197,7 @@ pub(crate) fn take_begun<K: RowSink>(
 /// The fault of a line that is longer than any row and has this form.
 fn long_fault(rows: &RowsRead, form: RowForm) -> TraceFault
     requires { (t : TraceText) × ReadsRows rows.now t }
-    ensures fails { (t : TraceText) (bytes line : List ℕ) → ReadsRows rows.now t → GoesOnLine bytes line t → IsLong form rows.now.room line → Fails (bytes ++ LINE_FEED ∷ []) result }
+    ensures fails { (t : TraceText) (bytes line : List ℕ) → ReadsRows rows.now t → GoesOnLine bytes line t → IsLong form rows.now.room line → Fails (bytes ++ 10 ∷ []) result }
     ensures calm { (line : List ℕ) → IsForm form line → IsSome (fault_in result) }
 {
     let number = rows.line_number();
@@ -239,7 +238,7 @@ fn finish_header<K: RowSink>(
 ) -> Result<K, TraceFault>
     requires fresh { K.stands_for sink None }
     requires opens { (bytes : List ℕ) × OpensText text line.now bytes }
-    requires plain { Lacks LINE_FEED line.now }
+    requires plain { Lacks 10 line.now }
     ensures finishes { (bytes : List ℕ) → OpensText text line.now bytes → Finishes K.stands_for (trace_of bytes) result }
     ensures memory { (bytes : List ℕ) → OpensText text line.now bytes → result ≡ Err faults.Memory → EndsInHeader bytes }
 {
@@ -251,8 +250,8 @@ fn finish_header<K: RowSink>(
 /// The fault of a text that ends in this line, which has no LF, after its header. Where the header asks for no row and the line
 /// is empty, it has none.
 fn end_of_header(text: &TextRead, line: &[u8]) -> Result<(), TraceFault>
-    requires few { length text.now.heads ≤ MOST_STREAMS }
-    requires plain { Lacks LINE_FEED line.now }
+    requires few { length text.now.heads ≤ 65536 }
+    requires plain { Lacks 10 line.now }
     ensures gives { (bytes : List ℕ) → OpensText text.now line.now bytes → Gives fault_in (λ _. header_read text.now) result (trace_of bytes) }
     ensures few { OnOk result (text.now.cycles ≤ most_cycles) }
     ensures other { OnOk result (is_head_line line.now ≡ false) }

@@ -1,11 +1,11 @@
 //! What a survey keeps of a trace: a checker for each stream, and the first offence.
 
-ghost use Rattle.std.specs.Prelude.{◌≡◌, List, map, option_map, IfOk, None};
+ghost use Rattle.std.specs.Prelude.{◌≡◌, List, map, option_map, IfOk, None, Some};
 ghost use Rattle.physical_stream.specs.Cycles.{StreamTrace};
 ghost use Rattle.physical_stream.specs.First.{IsFirst};
-ghost use Rattle.cycle_trace.specs.Survey.{Answers, counts_of, first_unfinished};
+ghost use Rattle.cycle_trace.specs.Survey.{Answers, counts_of, earlier_of, first_unfinished, found_with, is_not_after};
 ghost use Rattle.cycle_trace.specs.declared.counts.SurveyFault.TheVariants as faults;
-ghost use Rattle.cycle_trace.specs.Surveying.{AreChecked, RowsSay, offends_in, unfinished_of, unseen};
+ghost use Rattle.cycle_trace.specs.Surveying.{AreChecked, RowsSay, offence_of, offends_in, unfinished_of, unseen};
 ghost use Rattle.cycle_trace.specs.Trace.{TraceText, streams_of};
 
 use crate::counts::{Counts, SurveyFault};
@@ -14,11 +14,14 @@ use physical_stream::{End, Head, Rule};
 use std::alloc::Global;
 use tydi_base::{List, Memory};
 
-/// An offence: its cycle and its stream, from 0, and the rule.
+/// An offence: a stream breaks a rule in a cycle.
 #[derive(Clone, Copy)]
-pub(crate) struct FoundOffence {
+pub struct FoundOffence {
+    /// The number of the cycle, from 0.
     pub cycle: u32,
+    /// The number of the stream in the header, from 0.
     pub stream: usize,
+    /// The rule that is broken.
     pub rule: Rule,
 }
 
@@ -33,6 +36,70 @@ impl FoundOffence {
             rule: self.rule,
         }
     }
+
+    /// Whether it stands no later than the other: by cycle, then by stream, then by the number of the rule.
+    fn is_not_after(self, other: FoundOffence) -> bool
+        ensures { result ≡ is_not_after (offence_of self) (offence_of other) }
+    {
+        if self.cycle != other.cycle {
+            return self.cycle < other.cycle;
+        }
+        if self.stream != other.stream {
+            return self.stream < other.stream;
+        }
+        self.rule.number() <= other.rule.number()
+    }
+}
+
+/// What a survey finds where a second kind of rule is looked at beside it, as the rule on tags is. `found` is what the survey
+/// finds by its own rules, and `other` the first violation of the second kind. The answer is that of a survey by both kinds: the
+/// earlier of the two violations, or `found` where there is no second one. Want of memory in `found` stays.
+pub fn with_offence(
+    found: Result<Counts, SurveyFault>,
+    other: Option<FoundOffence>,
+) -> Result<Counts, SurveyFault>
+    ensures { result ≡ found_with found (option_map offence_of other) }
+{
+    match other {
+        None => found,
+        Some(other) => or_offence(found, other),
+    }
+}
+
+/// The same, where there is a violation of the second kind.
+fn or_offence(
+    found: Result<Counts, SurveyFault>,
+    other: FoundOffence,
+) -> Result<Counts, SurveyFault>
+    ensures { result ≡ found_with found (Some (offence_of other)) }
+{
+    match found {
+        Err(SurveyFault::Memory) => Err(SurveyFault::Memory),
+        Err(
+            SurveyFault::Offence {
+                cycle,
+                stream,
+                rule,
+            },
+        ) => Err(earlier(
+            FoundOffence {
+                cycle,
+                stream,
+                rule,
+            },
+            other,
+        )
+        .fault()),
+        Err(SurveyFault::Unfinished { stream: _, end: _ }) => Err(other.fault()),
+        Ok(_) => Err(other.fault()),
+    }
+}
+
+/// The earlier of two violations.
+fn earlier(one: FoundOffence, other: FoundOffence) -> FoundOffence
+    ensures { offence_of result ≡ earlier_of (offence_of one) (offence_of other) }
+{
+    if one.is_not_after(other) { one } else { other }
 }
 
 /// A stream that does not end whole, by its number from 0, and how it ends.

@@ -3,6 +3,7 @@ ghost use Rattle.cycle_trace.specs.declared.text_read.Stage.TheVariants as stage
 
 use crate::fault::TraceFault;
 use crate::rows_read::RowsRead;
+use crate::version::Version;
 use physical_stream::Head;
 use std::alloc::Global;
 use std::collections::BTreeSet;
@@ -27,6 +28,8 @@ pub(crate) enum Stage {
 #[derive(Drop)]
 pub(crate) struct TextRead {
     pub(crate) stage: Stage,
+    /// The version of the text, once its first line is read.
+    pub(crate) version: Version,
     pub(crate) cycles: u64,
     /// The heads that are read, until the first row.
     pub(crate) heads: List<Head>,
@@ -45,6 +48,7 @@ impl TextRead {
     {
         TextRead {
             stage: Stage::Title,
+            version: Version::One,
             cycles: 0,
             heads: List::new(alloc),
             paths: BTreeSet::new(alloc),

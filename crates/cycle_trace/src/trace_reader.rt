@@ -2,7 +2,6 @@
 
 ghost use Rattle.std.specs.Prelude.{◌≡◌, ◌⊎◌, ◌++◌, ◌∷◌, [], ℕ, List, true, IfOk, IsErr, ◌↔◌, Err, None};
 ghost use Rattle.tydi_base.specs.Pieces.{Lacks};
-ghost use Rattle.tydi_base.specs.declared.pieces.TheConstants.{LINE_FEED};
 ghost use Rattle.cycle_trace.specs.ReaderView.{EndsInHeader, Finishes, HoldsHeader, IsInHeader, IsSpent, StandsFor, StaysCalm, StaysFailed, is_past_header};
 ghost use Rattle.cycle_trace.specs.TraceText.{trace_of};
 ghost use Rattle.cycle_trace.specs.declared.fault.TraceFault.TheVariants as faults;
@@ -58,8 +57,8 @@ impl<K: RowSink> TraceReader<K> {
         self.outcome()
     }
 
-    /// The sink with the whole trace, or the fault of the text. It takes memory only where the text ends with a header that asks for
-    /// no rows, since the sink is started then.
+    /// The sink with the whole trace, or the fault of the text. It takes memory only where the text ends with a header of at most
+    /// 1,000,000 cycles that asks for no rows, since the sink is started then.
     pub fn finish(self, alloc: Global) -> Result<K, TraceFault>
         requires { (bytes : List ℕ) × StandsFor K.stands_for self bytes }
         ensures finishes { (bytes : List ℕ) → StandsFor K.stands_for self bytes → Finishes K.stands_for (trace_of bytes) result }
@@ -74,8 +73,8 @@ impl<K: RowSink> TraceReader<K> {
     #[inline(always)]
     fn end_line(&mut self, alloc: Global, front: &[u8])
         requires stands { (bytes : List ℕ) × StandsFor K.stands_for self.old bytes }
-        requires plain { Lacks LINE_FEED front.now }
-        ensures stands { (bytes : List ℕ) → StandsFor K.stands_for self.old bytes → StandsFor K.stands_for self.new (bytes ++ front.now ++ LINE_FEED ∷ []) }
+        requires plain { Lacks 10 front.now }
+        ensures stands { (bytes : List ℕ) → StandsFor K.stands_for self.old bytes → StandsFor K.stands_for self.new (bytes ++ front.now ++ 10 ∷ []) }
         ensures failed { StaysFailed self.old.text.stage self.new.text.stage }
         ensures fixed { K.fixed self.new.sink ≡ K.fixed self.old.sink }
         ensures calm { StaysCalm (K.fixed self.old.sink) self.old.text.stage self.new.text.stage }
@@ -91,9 +90,9 @@ impl<K: RowSink> TraceReader<K> {
     #[inline(never)]
     fn end_header_line(&mut self, alloc: Global, front: &[u8])
         requires stands { (bytes : List ℕ) × StandsFor K.stands_for self.old bytes }
-        requires plain { Lacks LINE_FEED front.now }
+        requires plain { Lacks 10 front.now }
         requires header { IsInHeader self.old.text.stage }
-        ensures stands { (bytes : List ℕ) → StandsFor K.stands_for self.old bytes → StandsFor K.stands_for self.new (bytes ++ front.now ++ LINE_FEED ∷ []) }
+        ensures stands { (bytes : List ℕ) → StandsFor K.stands_for self.old bytes → StandsFor K.stands_for self.new (bytes ++ front.now ++ 10 ∷ []) }
         ensures fixed { K.fixed self.new.sink ≡ K.fixed self.old.sink }
     {
         if self.line.extend(front).is_err() {
@@ -118,9 +117,9 @@ impl<K: RowSink> TraceReader<K> {
     #[inline(always)]
     fn end_row(&mut self, alloc: Global, front: &[u8])
         requires stands { (bytes : List ℕ) × StandsFor K.stands_for self.old bytes }
-        requires plain { Lacks LINE_FEED front.now }
+        requires plain { Lacks 10 front.now }
         requires rows { self.old.text.stage ≡ stages.Rows }
-        ensures stands { (bytes : List ℕ) → StandsFor K.stands_for self.old bytes → StandsFor K.stands_for self.new (bytes ++ front.now ++ LINE_FEED ∷ []) }
+        ensures stands { (bytes : List ℕ) → StandsFor K.stands_for self.old bytes → StandsFor K.stands_for self.new (bytes ++ front.now ++ 10 ∷ []) }
         ensures fixed { K.fixed self.new.sink ≡ K.fixed self.old.sink }
         ensures calm { StaysCalm (K.fixed self.old.sink) self.old.text.stage self.new.text.stage }
     {
@@ -136,7 +135,7 @@ impl<K: RowSink> TraceReader<K> {
     /// The line that is begun goes on with these bytes.
     fn begin_line(&mut self, rest: &[u8])
         requires stands { (bytes : List ℕ) × StandsFor K.stands_for self.old bytes }
-        requires plain { Lacks LINE_FEED rest.now }
+        requires plain { Lacks 10 rest.now }
         ensures stands { (bytes : List ℕ) → StandsFor K.stands_for self.old bytes → StandsFor K.stands_for self.new (bytes ++ rest.now) }
         ensures failed { StaysFailed self.old.text.stage self.new.text.stage }
         ensures fixed { K.fixed self.new.sink ≡ K.fixed self.old.sink }
@@ -151,7 +150,7 @@ impl<K: RowSink> TraceReader<K> {
 
     /// The line of the header that is begun goes on with these bytes.
     fn begin_header_line(&mut self, rest: &[u8])
-        requires plain { Lacks LINE_FEED rest.now }
+        requires plain { Lacks 10 rest.now }
         requires header { IsInHeader self.old.text.stage }
         requires stands { (bytes : List ℕ) × StandsFor K.stands_for self.old bytes }
         ensures stands { (bytes : List ℕ) → StandsFor K.stands_for self.old bytes → StandsFor K.stands_for self.new (bytes ++ rest.now) }
@@ -164,7 +163,7 @@ impl<K: RowSink> TraceReader<K> {
 
     /// The line of the row that is begun goes on with these bytes. It takes no memory.
     fn begin_row(&mut self, rest: &[u8])
-        requires plain { Lacks LINE_FEED rest.now }
+        requires plain { Lacks 10 rest.now }
         requires rows { self.old.text.stage ≡ stages.Rows }
         requires stands { (bytes : List ℕ) × StandsFor K.stands_for self.old bytes }
         ensures stands { (bytes : List ℕ) → StandsFor K.stands_for self.old bytes → StandsFor K.stands_for self.new (bytes ++ rest.now) }

@@ -10,22 +10,26 @@ ghost use Rattle.physical_stream.specs.Signals.{Shows};
 ghost use Rattle.physical_stream.specs.StreamLine.{head_text};
 ghost use Rattle.cycle_trace.specs.Spelling.{bit_text, header_text, or_dash, row_text, signal_words, words_of_signals};
 ghost use Rattle.cycle_trace.specs.Trace.{are_heads, most_cycles};
+ghost use Rattle.cycle_trace.specs.Version.{version_of};
 ghost use Rattle.cycle_trace.specs.Writing.{spaced};
 
 use crate::row_bytes::{DATA_KEY, ENDI_KEY, LAST_KEY, STAI_KEY, STRB_KEY, USER_KEY};
+use crate::version::Version;
 use physical_stream::{Head, Header, Params, Row, StreamLine, Transfer};
 use signal_layout::Signals;
 use std::alloc::Global;
 use tydi_base::{Bits, EQUALS, Hex, List, Memory, SPACE, Written, emit};
 
-/// Adds the text of a header at the end. After `Memory` the list is as before.
+/// Adds the text of a header at the end: version 1 where each of its levels has one number, else version 2. After `Memory` the
+/// list is as before.
 pub fn write_header(_alloc: Global, out: &mut List<u8>, header: &Header) -> Result<(), Memory>
     requires few_cycles { header.now.cycles ≤ most_cycles }
     requires streams { IsTrue (are_heads header.now.heads) }
-    ensures ok { OnOk result (out.new ≡ out.old ++ header_text header.now.cycles header.now.heads) }
+    ensures ok { OnOk result (out.new ≡ out.old ++ header_text (version_of header.now.heads) header.now.cycles header.now.heads) }
     ensures err { OnErr result (out.new ≡ out.old) }
 {
-    emit!(out; "tydi-trace 1\ncycles ", header.cycles, "\n", StreamLines(header.heads.as_slice()))
+    let title = Version::of(header.heads.as_slice()).title();
+    emit!(out; title, "\ncycles ", header.cycles, "\n", StreamLines(header.heads.as_slice()))
 }
 
 /// The lines of streams.

@@ -5,6 +5,7 @@ use Rattle.std.proofs.lemmas.List.{take_all}
 use Rattle.physical_stream.specs.declared.head.Head.{Head}
 use Rattle.tydi_base.specs.Lengths.{most_bytes}
 use Rattle.physical_stream.specs.StreamLine.{head_text}
+use Rattle.cycle_trace.specs.Version.{version_of}
 use Rattle.cycle_trace.proofs.TextLengthLemmas.{length-header_text}
 use Rattle.tydi_base.proofs.LengthLemmas.{length-parts_more}
 use Rattle.cycle_trace.proofs.lengths.header_length.Goals as goal
@@ -24,5 +25,5 @@ pub returns : goal.returns
 returns c =
     let header = c.args.header.now in
     let past = rw c.as_slice-head-items.ensures at c.heads-test.false in
-    subst (λ (n : ℕ). c.heads.length ≡ min n most_bytes) (sym (length-header_text header.cycles header.heads))
+    subst (λ (n : ℕ). c.heads.length ≡ min n most_bytes) (sym (length-header_text (version_of header.heads) header.cycles header.heads))
     (omega (arith, c.heads.invariant, ap (λ (heads : List Head). length (flat_map head_text heads)) (take_all c.heads.head-index header.heads past)))

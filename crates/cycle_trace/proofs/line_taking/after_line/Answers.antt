@@ -11,24 +11,24 @@ use Rattle.cycle_trace.proofs.line_taking.after_line.Goals as goal
 pub returns-in-Ok-clause-stands : goal.returns-in-Ok-clause-stands
 returns-in-Ok-clause-stands g c bytes stands =
     let h = subst (λ (s : Stage). StandsAt g.K.RowSink.stands_for c.args.sink.now c.args.text.now s c.args.line.now bytes) c.in-Title.is stands in
-    (h.0, plain-none, record { heads = h.2.heads; paths = h.2.paths }, line-ok bytes c.args.line.now h.1 header_start_of h.3 1 (title_of c.args.line.now) (λ _. header_start_after) (of_title c.args.line.now) tt c.in-Ok.ensures)
+    (h.0, plain-none, record { heads = h.2.heads; paths = h.2.paths }, line-ok bytes c.args.line.now h.1 header_start_of h.3 1 (title_of c.args.line.now) header_start_after (of_title c.args.line.now) c.in-Ok.version c.in-Ok.ensures)
 
 pub returns-in-Err-clause-stands : goal.returns-in-Err-clause-stands
 returns-in-Err-clause-stands g c bytes stands =
     let h = subst (λ (s : Stage). StandsAt g.K.RowSink.stands_for c.args.sink.now c.args.text.now s c.args.line.now bytes) c.in-Title.is stands in
-    line-fails bytes c.args.line.now h.1 header_start_of h.3 1 (title_of c.args.line.now) (λ _. header_start_after) (of_title c.args.line.now) c.in-Err.ensures
+    line-fails bytes c.args.line.now h.1 header_start_of h.3 1 (title_of c.args.line.now) header_start_after (of_title c.args.line.now) c.in-Err.ensures
 
 pub returns-in-Ok-read_cycles-clause-stands : goal.returns-in-Ok-read_cycles-clause-stands
 returns-in-Ok-read_cycles-clause-stands g c bytes stands =
     let h = subst (λ (s : Stage). StandsAt g.K.RowSink.stands_for c.args.sink.now c.args.text.now s c.args.line.now bytes) c.in-Cycles.is stands in
     let cycles = c.in-Ok-read_cycles.cycles in
-    let opens = line-ok bytes c.args.line.now h.1 header_start_after h.3 2 (count_of_cycles c.args.line.now) (λ cycles. heads_on cycles [] []) (after_cycles c.args.line.now) cycles c.in-Ok-read_cycles.ensures in
+    let opens = line-ok bytes c.args.line.now h.1 (header_start_after c.args.text.now.version) h.3 2 (count_of_cycles c.args.line.now) (λ cycles. heads_on c.args.text.now.version cycles [] []) (after_cycles c.args.text.now.version c.args.line.now) cycles c.in-Ok-read_cycles.ensures in
     (h.0, plain-none, rw h.2.heads (record { paths = []; many = refl; few = omega arith; told = h.2.paths; opens = opens }))
 
 pub returns-in-Err-read_cycles-clause-stands : goal.returns-in-Err-read_cycles-clause-stands
 returns-in-Err-read_cycles-clause-stands g c bytes stands =
     let h = subst (λ (s : Stage). StandsAt g.K.RowSink.stands_for c.args.sink.now c.args.text.now s c.args.line.now bytes) c.in-Cycles.is stands in
-    line-fails bytes c.args.line.now h.1 header_start_after h.3 2 (count_of_cycles c.args.line.now) (λ cycles. heads_on cycles [] []) (after_cycles c.args.line.now) c.in-Err-read_cycles.ensures
+    line-fails bytes c.args.line.now h.1 (header_start_after c.args.text.now.version) h.3 2 (count_of_cycles c.args.line.now) (λ cycles. heads_on c.args.text.now.version cycles [] []) (after_cycles c.args.text.now.version c.args.line.now) c.in-Err-read_cycles.ensures
 
 pub returns-in-Rows-clause-stands : goal.returns-in-Rows-clause-stands
 returns-in-Rows-clause-stands g c bytes stands =

@@ -16,7 +16,7 @@ returns-in-Title-clause-finishes g c bytes line holds stands =
 
 pub returns-in-Cycles-clause-finishes : goal.returns-in-Cycles-clause-finishes
 returns-in-Cycles-clause-finishes g c bytes line holds stands =
-    let h = subst (λ (s : Stage). StandsAt g.K.RowSink.stands_for c.args.sink c.args.text s line bytes) c.in-Cycles.is stands in ends_cut bytes line h.1 header_start_after h.3 (BadHeader 2) (header_start_after-one line)
+    let h = subst (λ (s : Stage). StandsAt g.K.RowSink.stands_for c.args.sink c.args.text s line bytes) c.in-Cycles.is stands in ends_cut bytes line h.1 (header_start_after c.args.text.version) h.3 (BadHeader 2) (header_start_after-one c.args.text.version line)
 
 pub returns-in-Rows-clause-finishes : goal.returns-in-Rows-clause-finishes
 returns-in-Rows-clause-finishes g c bytes line holds stands =
