@@ -1,10 +1,10 @@
--- Rules of a choice by the next thing, of both of two, and of what is too deep.
+-- Rules of a choice by the next thing, of both of two, and of what is unfit.
 use Rattle.std.proofs.Common.{◌≡◌, ◌⊎◌, inl, inr, ⊎_elim, Bool, true, false, cond, List, [], ◌∷◌, ◌++◌, All, refl, sym, ap, ◌∙◌, subst, arith}
 use Rattle.std.proofs.lemmas.List.{length-append}
 use Rattle.tydi_reading.specs.declared.fault.Fault.{Fault}
 use Rattle.tydi_reading.specs.declared.fault.Fault.TheVariants as faults
 use Rattle.tydi_reading.specs.Forms.{Form, ◌⋯◌, Nothing, One, GoesOn}
-use Rattle.tydi_reading.specs.Reading.{Outcome, took, stopped, Reader, ◌<$>◌, ◌<&>◌, choose, tells, too_deep}
+use Rattle.tydi_reading.specs.Reading.{Outcome, took, stopped, Reader, ◌<$>◌, ◌<&>◌, choose, tells, unfit}
 use Rattle.tydi_reading.specs.Rules.{Local, Found, Reached, Finishes, Stops, IsRule}
 use Rattle.tydi_reading.proofs.FormLemmas.{goes_as}
 use Rattle.tydi_reading.proofs.StepRules.{then-rule, map-rule}
@@ -12,8 +12,8 @@ use Rattle.tydi_reading.proofs.StepRules.{then-rule, map-rule}
 -- ---- a choice by the next thing
 
 -- how the whole is of the two
-pub record Chooses {T A : Type 0} (test : T → Bool) (last : Bool) (One : A → Form T) (OneNext : A → Form T) (OneDeep : Form T)
-    (Other : A → Form T) (OtherNext : A → Form T) (OtherDeep : Form T) (Whole : A → Form T) (Next : A → Form T) (Deep : Form T) : Type 0 where
+pub record Chooses {T A : Type 0} (test : T → Bool) (last : Bool) (One : A → Form T) (OneNext : A → Form T) (OneUnfit : Form T)
+    (Other : A → Form T) (OtherNext : A → Form T) (OtherUnfit : Form T) (Whole : A → Form T) (Next : A → Form T) (Unfit : Form T) : Type 0 where
   pub one : (x : A) (ts : List T) → One x ts → Whole x ts
   pub other : (x : A) (ts : List T) → Other x ts → Whole x ts
   pub which : (x : A) (ts : List T) → Whole x ts → One x ts ⊎ Other x ts
@@ -21,11 +21,11 @@ pub record Chooses {T A : Type 0} (test : T → Bool) (last : Bool) (One : A →
   pub other_next : (x : A) (front rest : List T) → Other x front → Next x rest → OtherNext x rest
   pub one_begins : (x : A) (front rest : List T) → One x front → Next x rest → tells test last (front ++ rest) ≡ true
   pub other_begins : (x : A) (front rest : List T) → Other x front → Next x rest → tells test last (front ++ rest) ≡ false
-  pub one_deep : (ts : List T) → OneDeep ts → Deep ts
-  pub other_deep : (ts : List T) → OtherDeep ts → Deep ts
-  pub which_deep : (ts : List T) → Deep ts → OneDeep ts ⊎ OtherDeep ts
-  pub one_deep_begins : (front rest : List T) → OneDeep front → tells test last (front ++ rest) ≡ true
-  pub other_deep_begins : (front rest : List T) → OtherDeep front → tells test last (front ++ rest) ≡ false
+  pub one_unfit : (ts : List T) → OneUnfit ts → Unfit ts
+  pub other_unfit : (ts : List T) → OtherUnfit ts → Unfit ts
+  pub which_unfit : (ts : List T) → Unfit ts → OneUnfit ts ⊎ OtherUnfit ts
+  pub one_unfit_begins : (front rest : List T) → OneUnfit front → tells test last (front ++ rest) ≡ true
+  pub other_unfit_begins : (front rest : List T) → OtherUnfit front → tells test last (front ++ rest) ≡ false
 
 -- a test tells the same of the next thing, whatever follows it
 tells-same : {T : Type 0} (test : T → Bool) (last : Bool) (front after more : List T) (next : T) (ts : List T) → ts ≡ front ++ next ∷ after
@@ -33,11 +33,11 @@ tells-same : {T : Type 0} (test : T → Bool) (last : Bool) (front after more : 
 tells-same test last [] after more next ts is = ap (tells test last) (sym is)
 tells-same test last (t ∷ front) after more next ts is = ap (tells test last) (sym is)
 
-module _ {T A : Type 0} (test : T → Bool) (last : Bool) (p q : Reader T A) where
+module _ {E T A : Type 0} (test : T → Bool) (last : Bool) (p q : Reader E T A) where
   pub chosen : (ts : List T) (b : Bool) → tells test last ts ≡ b → choose test last p q ts ≡ (cond b p q) ts
-  chosen ts b is = ap (λ c. (cond {A = Reader T A} c p q) ts) is
+  chosen ts b is = ap (λ c. (cond {A = Reader E T A} c p q) ts) is
 
-  local-choose : (ts : List T) (b : Bool) → tells test last ts ≡ b → Local (cond {A = Reader T A} b p q) ts ((cond b p q) ts)
+  pub local-choose : (ts : List T) (b : Bool) → tells test last ts ≡ b → Local (cond {A = Reader E T A} b p q) ts ((cond b p q) ts)
       → Local (choose test last p q) ts (choose test last p q ts)
   local-choose ts b is l = rw (chosen ts b is) (record {
     front = l.front;
@@ -47,18 +47,18 @@ module _ {T A : Type 0} (test : T → Bool) (last : Bool) (p q : Reader T A) whe
         chosen (l.front ++ next ∷ more) b (begins ∙ is) ∙ l.stays next after more same;
   })
 
-pub choose-rule : {T A : Type 0} (Good : T → Type 0) (test : T → Bool) (last : Bool) (p q : Reader T A) (One : A → Form T) (OneNext : A → Form T) (OneDeep : Form T)
-    (Other : A → Form T) (OtherNext : A → Form T) (OtherDeep : Form T) (Whole : A → Form T) (Next : A → Form T) (Within : A → Type 0) (Deep : Form T)
-    → Chooses test last One OneNext OneDeep Other OtherNext OtherDeep Whole Next Deep
-    → IsRule Good p One OneNext Within OneDeep → IsRule Good q Other OtherNext Within OtherDeep
-    → IsRule Good (choose test last p q) Whole Next Within Deep
-choose-rule {T} {A} Good test last p q One OneNext OneDeep Other OtherNext OtherDeep Whole Next Within Deep c a b = record {
+pub choose-rule : {E T A : Type 0} (Good : T → Type 0) (test : T → Bool) (last : Bool) (p q : Reader E T A) (One : A → Form T) (OneNext : A → Form T) (OneUnfit : Form T)
+    (Other : A → Form T) (OtherNext : A → Form T) (OtherUnfit : Form T) (Whole : A → Form T) (Next : A → Form T) (Within : A → Type 0) (Unfit : Form T)
+    → Chooses test last One OneNext OneUnfit Other OtherNext OtherUnfit Whole Next Unfit
+    → IsRule E Good p One OneNext Within OneUnfit → IsRule E Good q Other OtherNext Within OtherUnfit
+    → IsRule E Good (choose test last p q) Whole Next Within Unfit
+choose-rule {E} {T} {A} Good test last p q One OneNext OneUnfit Other OtherNext OtherUnfit Whole Next Within Unfit c a b = record {
   example = goes_as (λ x. x) c.one a.example;
   local = λ ts. local ts (tells test last ts) refl;
   sound = λ ts rest x is. sound ts rest x (tells test last ts) refl is;
   complete = λ front rest x good s next. complete front rest x good next (c.which x front s);
   finishes = λ ts rest e is. finishes ts rest e (tells test last ts) refl is;
-  stops = λ front rest good d. stops front rest good (c.which_deep front d);
+  stops = λ front rest good d. stops front rest good (c.which_unfit front d);
 }
   where
     local : (ts : List T) (v : Bool) → tells test last ts ≡ v → Local (choose test last p q) ts (choose test last p q ts)
@@ -79,57 +79,57 @@ choose-rule {T} {A} Good test last p q One OneNext OneDeep Other OtherNext Other
         (λ s. rw (chosen test last p q (front ++ rest) true (c.one_begins x front rest s next)) (a.complete front rest x good s (c.one_next x front rest s next)))
         (λ s. rw (chosen test last p q (front ++ rest) false (c.other_begins x front rest s next)) (b.complete front rest x good s (c.other_next x front rest s next)))
 
-    of-one : (ts rest : List T) (e : Fault) → Finishes Good One OneDeep ts rest e → Finishes Good Whole Deep ts rest e
+    of-one : (ts rest : List T) (e : Fault E) → Finishes Good One OneUnfit ts rest e → Finishes Good Whole Unfit ts rest e
     of-one ts rest faults.Refused f = record { front = f.front; split = f.split; goes = goes_as (λ x. x) c.one f.goes }
-    of-one ts rest faults.TooDeep f = record {
+    of-one ts rest (faults.Unfit why) f = record {
       front = f.front;
       next = f.next;
       after = f.after;
       split = f.split;
       begins = f.begins;
-      deep = c.one_deep f.front f.deep;
+      unfit = c.one_unfit f.front f.unfit;
       goes = goes_as (λ x. x) c.one f.goes;
     }
     of-one ts rest faults.Memory f = f
 
-    of-other : (ts rest : List T) (e : Fault) → Finishes Good Other OtherDeep ts rest e → Finishes Good Whole Deep ts rest e
+    of-other : (ts rest : List T) (e : Fault E) → Finishes Good Other OtherUnfit ts rest e → Finishes Good Whole Unfit ts rest e
     of-other ts rest faults.Refused f = record { front = f.front; split = f.split; goes = goes_as (λ x. x) c.other f.goes }
-    of-other ts rest faults.TooDeep f = record {
+    of-other ts rest (faults.Unfit why) f = record {
       front = f.front;
       next = f.next;
       after = f.after;
       split = f.split;
       begins = f.begins;
-      deep = c.other_deep f.front f.deep;
+      unfit = c.other_unfit f.front f.unfit;
       goes = goes_as (λ x. x) c.other f.goes;
     }
     of-other ts rest faults.Memory f = f
 
-    finishes : (ts rest : List T) (e : Fault) (v : Bool) → tells test last ts ≡ v → choose test last p q ts ≡ stopped e rest → Finishes Good Whole Deep ts rest e
+    finishes : (ts rest : List T) (e : Fault E) (v : Bool) → tells test last ts ≡ v → choose test last p q ts ≡ stopped e rest → Finishes Good Whole Unfit ts rest e
     finishes ts rest e true is read = of-one ts rest e (a.finishes ts rest e (sym (chosen test last p q ts true is) ∙ read))
     finishes ts rest e false is read = of-other ts rest e (b.finishes ts rest e (sym (chosen test last p q ts false is) ∙ read))
 
-    stops : (front rest : List T) → All Good front → OneDeep front ⊎ OtherDeep front → Stops rest (choose test last p q (front ++ rest))
+    stops : (front rest : List T) → All Good front → OneUnfit front ⊎ OtherUnfit front → Stops rest (choose test last p q (front ++ rest))
     stops front rest good =
         ⊎_elim
-        (λ d. rw (chosen test last p q (front ++ rest) true (c.one_deep_begins front rest d)) (a.stops front rest good d))
-        (λ d. rw (chosen test last p q (front ++ rest) false (c.other_deep_begins front rest d)) (b.stops front rest good d))
+        (λ d. rw (chosen test last p q (front ++ rest) true (c.one_unfit_begins front rest d)) (a.stops front rest good d))
+        (λ d. rw (chosen test last p q (front ++ rest) false (c.other_unfit_begins front rest d)) (b.stops front rest good d))
 
 -- a choice of a rule, or of what refuses all
-pub stop-rule : {T A : Type 0} (Good : T → Type 0) (test : T → Bool) (last : Bool) (p q : Reader T A) (One : A → Form T) (OneNext Next : A → Form T) (Within : A → Type 0) (Deep : Form T)
+pub stop-rule : {E T A : Type 0} (Good : T → Type 0) (test : T → Bool) (last : Bool) (p q : Reader E T A) (One : A → Form T) (OneNext Next : A → Form T) (Within : A → Type 0) (Unfit : Form T)
     → ((ts : List T) → q ts ≡ stopped faults.Refused ts)
     → ((x : A) (front rest : List T) → One x front → Next x rest → OneNext x rest)
     → ((x : A) (front rest : List T) → One x front → Next x rest → tells test last (front ++ rest) ≡ true)
-    → ((front rest : List T) → Deep front → tells test last (front ++ rest) ≡ true)
-    → IsRule Good p One OneNext Within Deep → IsRule Good (choose test last p q) One Next Within Deep
-stop-rule {T} {A} Good test last p q One OneNext Next Within Deep refuses next begins begins_deep a = record {
+    → ((front rest : List T) → Unfit front → tells test last (front ++ rest) ≡ true)
+    → IsRule E Good p One OneNext Within Unfit → IsRule E Good (choose test last p q) One Next Within Unfit
+stop-rule {E} {T} {A} Good test last p q One OneNext Next Within Unfit refuses next begins begins_unfit a = record {
   example = a.example;
   local = λ ts. local ts (tells test last ts) refl;
   sound = λ ts rest x is. sound ts rest x (tells test last ts) refl is;
   complete = λ front rest x good s after.
       rw (chosen test last p q (front ++ rest) true (begins x front rest s after)) (a.complete front rest x good s (next x front rest s after));
   finishes = λ ts rest e is. finishes ts rest e (tells test last ts) refl is;
-  stops = λ front rest good d. rw (chosen test last p q (front ++ rest) true (begins_deep front rest d)) (a.stops front rest good d);
+  stops = λ front rest good d. rw (chosen test last p q (front ++ rest) true (begins_unfit front rest d)) (a.stops front rest good d);
 }
   where
     refused : (ts : List T) → Local q ts (q ts)
@@ -140,34 +140,34 @@ stop-rule {T} {A} Good test last p q One OneNext Next Within Deep refuses next b
     local ts false is = local-choose test last p q ts false is (refused ts)
 
     never : (ts rest : List T) (x : A) → q ts ≡ took x rest → ⊥
-    never ts rest x is = let no : ◌≡◌ {A = Outcome T A} (stopped faults.Refused ts) (took x rest) = sym (refuses ts) ∙ is in cc
+    never ts rest x is = let no : ◌≡◌ {A = Outcome E T A} (stopped faults.Refused ts) (took x rest) = sym (refuses ts) ∙ is in cc
 
     sound : (ts rest : List T) (x : A) (v : Bool) → tells test last ts ≡ v → choose test last p q ts ≡ took x rest → Found One Within ts rest x
     sound ts rest x true is read = a.sound ts rest x (sym (chosen test last p q ts true is) ∙ read)
     sound ts rest x false is read = absurd (never ts rest x (sym (chosen test last p q ts false is) ∙ read))
 
-    cut : (ts rest : List T) (e : Fault) → ◌≡◌ {A = Outcome T A} (stopped faults.Refused ts) (stopped e rest) → Finishes Good One Deep ts rest e
+    cut : (ts rest : List T) (e : Fault E) → ◌≡◌ {A = Outcome E T A} (stopped faults.Refused ts) (stopped e rest) → Finishes Good One Unfit ts rest e
     cut ts rest e is =
         let same : faults.Refused ≡ e = cc in
         let place : ts ≡ rest = cc in
-        subst (Finishes Good One Deep ts rest) same (record { front = []; split = place; goes = a.example })
+        subst (Finishes Good One Unfit ts rest) same (record { front = []; split = place; goes = a.example })
 
-    finishes : (ts rest : List T) (e : Fault) (v : Bool) → tells test last ts ≡ v → choose test last p q ts ≡ stopped e rest → Finishes Good One Deep ts rest e
+    finishes : (ts rest : List T) (e : Fault E) (v : Bool) → tells test last ts ≡ v → choose test last p q ts ≡ stopped e rest → Finishes Good One Unfit ts rest e
     finishes ts rest e true is read = a.finishes ts rest e (sym (chosen test last p q ts true is) ∙ read)
     finishes ts rest e false is read = cut ts rest e (sym (refuses ts) ∙ sym (chosen test last p q ts false is) ∙ read)
 
 -- ---- both of two
 
-pub both-rule : {T A B : Type 0} (Good : T → Type 0) (p : Reader T A) (q : Reader T B) (One : A → Form T) (OneNext : A → Form T) (OneWithin : A → Type 0) (OneDeep : Form T)
-    (Other : B → Form T) (OtherNext : B → Form T) (OtherWithin : B → Type 0) (OtherDeep : Form T)
+pub both-rule : {E T A B : Type 0} (Good : T → Type 0) (p : Reader E T A) (q : Reader E T B) (One : A → Form T) (OneNext : A → Form T) (OneWithin : A → Type 0) (OneUnfit : Form T)
+    (Other : B → Form T) (OtherNext : B → Form T) (OtherWithin : B → Type 0) (OtherUnfit : Form T)
     → ((x : A) (y : B) (back rest : List T) → Other y back → OtherNext y rest → OneNext x (back ++ rest))
-    → ((x : A) (back rest : List T) → OtherDeep back → OneNext x (back ++ rest))
-    → IsRule Good p One OneNext OneWithin OneDeep → IsRule Good q Other OtherNext OtherWithin OtherDeep
-    → IsRule Good (p <&> q) (λ (z : A × B). One z.0 ⋯ Other z.1) (λ z. OtherNext z.1) (λ z. OneWithin z.0 × OtherWithin z.1)
-    (λ ts. OneDeep ts ⊎ ((x : A) × ((One x ⋯ OtherDeep) ts)))
-both-rule {T} {A} {B} Good p q One OneNext OneWithin OneDeep Other OtherNext OtherWithin OtherDeep follow follow_deep a b =
-    then-rule Good p (λ x. (λ y. (x, y)) <$> q) One OneNext OneWithin OneDeep Second (λ x z. OtherNext z.1) (λ x z. OtherWithin z.1) (λ x. OtherDeep)
-    (λ z. One z.0 ⋯ Other z.1) (λ z. OtherNext z.1) (λ z. OneWithin z.0 × OtherWithin z.1) (λ ts. OneDeep ts ⊎ ((x : A) × ((One x ⋯ OtherDeep) ts)))
+    → ((x : A) (back rest : List T) → OtherUnfit back → OneNext x (back ++ rest))
+    → IsRule E Good p One OneNext OneWithin OneUnfit → IsRule E Good q Other OtherNext OtherWithin OtherUnfit
+    → IsRule E Good (p <&> q) (λ (z : A × B). One z.0 ⋯ Other z.1) (λ z. OtherNext z.1) (λ z. OneWithin z.0 × OtherWithin z.1)
+    (λ ts. OneUnfit ts ⊎ ((x : A) × ((One x ⋯ OtherUnfit) ts)))
+both-rule {E} {T} {A} {B} Good p q One OneNext OneWithin OneUnfit Other OtherNext OtherWithin OtherUnfit follow follow_unfit a b =
+    then-rule Good p (λ x. (λ y. (x, y)) <$> q) One OneNext OneWithin OneUnfit Second (λ x z. OtherNext z.1) (λ x z. OtherWithin z.1) (λ x. OtherUnfit)
+    (λ z. One z.0 ⋯ Other z.1) (λ z. OtherNext z.1) (λ z. OneWithin z.0 × OtherWithin z.1) (λ ts. OneUnfit ts ⊎ ((x : A) × ((One x ⋯ OtherUnfit) ts)))
     (record {
       join = λ x z front back s o. record { front = front; back = back; all = refl; begins = subst (λ w. One w front) o.0 s; ends = o.1 };
       part = λ z ts s. (z.0, record { front = s.front; back = s.back; all = s.all; begins = s.begins; ends = (refl, s.ends) });
@@ -177,10 +177,10 @@ both-rule {T} {A} {B} Good p q One OneNext OneWithin OneDeep Other OtherNext Oth
       apart = λ x z front back _ s all. (subst OneWithin (sym s.0) all.0, all.1);
       first = λ ts d. inl d;
       last = λ x front back s d. inr (x, record { front = front; back = back; all = refl; begins = s; ends = d });
-      deep = λ ts d. d;
-      follow_deep = follow_deep;
+      unfit = λ ts d. d;
+      follow_unfit = follow_unfit;
     })
-    a (λ x. map-rule Good (λ y. (x, y)) q Other OtherNext OtherWithin OtherDeep (Second x) (λ z. OtherNext z.1) (λ z. OtherWithin z.1) OtherDeep
+    a (λ x. map-rule Good (λ y. (x, y)) q Other OtherNext OtherWithin OtherUnfit (Second x) (λ z. OtherNext z.1) (λ z. OtherWithin z.1) OtherUnfit
     (record {
       there = λ y ts s. (refl, s);
       back = λ z ts s. (z.1, ap (λ (w : A). (w, z.1)) (sym s.0), s.1);
@@ -188,7 +188,7 @@ both-rule {T} {A} {B} Good p q One OneNext OneWithin OneDeep Other OtherNext Oth
       within = λ y w. w;
       apart = λ y w. w;
       first = λ ts d. d;
-      deep = λ ts d. d;
+      unfit = λ ts d. d;
     }) b)
   where
     Second : A → A × B → Form T
@@ -196,11 +196,11 @@ both-rule {T} {A} {B} Good p q One OneNext OneWithin OneDeep Other OtherNext Oth
 
 -- ---- what may not stand here
 
-pub too_deep-rule : {T A : Type 0} (Good : T → Type 0) (begins : T → Bool) (Spelled : A → Form T) (Next : A → Form T) (Within : A → Type 0)
+pub unfit-rule : {E T A : Type 0} (Good : T → Type 0) (why : E) (begins : T → Bool) (Spelled : A → Form T) (Next : A → Form T) (Within : A → Type 0)
     → ((x : A) → Within x → ⊥) → GoesOn Good Spelled [] → ((t : T) → begins t ≡ true → GoesOn Good Spelled (t ∷ []))
     → ((x : A) (front : List T) → All Good front → Spelled x front → tells begins false front ≡ true)
-    → IsRule Good (too_deep begins) Spelled Next Within Nothing
-too_deep-rule {T} {A} Good begins Spelled Next Within none example begun starts = record {
+    → IsRule E Good (unfit why begins) Spelled Next Within Nothing
+unfit-rule {E} {T} {A} Good why begins Spelled Next Within none example begun starts = record {
   example = example;
   local = local;
   sound = λ ts rest x is. absurd (never ts rest x is);
@@ -209,52 +209,50 @@ too_deep-rule {T} {A} Good begins Spelled Next Within none example begun starts 
   stops = λ front rest _ d. stops front rest d;
 }
   where
-    why : T → Fault
-    why t = cond (begins t) faults.TooDeep faults.Refused
-
-    local : (ts : List T) → Local {A = A} (too_deep begins) ts (too_deep {A = A} begins ts)
+    local : (ts : List T) → Local {A = A} (unfit why begins) ts (unfit {A = A} why begins ts)
     local [] = record { front = []; split = refl; stays = λ next after more is. absurd (let no : ◌≡◌ {A = List T} [] (next ∷ after) = is in cc) }
     local (t ∷ ts) = record {
       front = [];
       split = refl;
-      stays = λ next after more same. let head : t ≡ next = cc in ap (λ u. stopped (cond (begins u) faults.TooDeep faults.Refused) (next ∷ more)) (sym head);
+      stays = λ next after more same. let head : t ≡ next = cc in ap (λ u. stopped (cond (begins u) (faults.Unfit why) faults.Refused) (next ∷ more)) (sym head);
     }
 
-    never : (ts rest : List T) (x : A) → too_deep {A = A} begins ts ≡ took x rest → ⊥
+    never : (ts rest : List T) (x : A) → unfit {A = A} why begins ts ≡ took x rest → ⊥
     never [] rest x is = cc
     never (t ∷ ts) rest x is = cc
 
-    complete : (x : A) (front rest : List T) → tells begins false front ≡ true → Reached Within rest x (too_deep begins (front ++ rest))
+    complete : (x : A) (front rest : List T) → tells begins false front ≡ true → Reached Within rest x (unfit why begins (front ++ rest))
     complete x [] rest s = absurd cc
     complete x (t ∷ more) rest s = inr (record {
+      why = why;
       at = (t ∷ more) ++ rest;
-      is = ap (λ b. stopped (cond b faults.TooDeep faults.Refused) ((t ∷ more) ++ rest)) s;
+      is = ap (λ b. stopped (cond b (faults.Unfit why) faults.Refused) ((t ∷ more) ++ rest)) s;
       before = let sum = length-append (t ∷ more) rest in omega arith;
       beyond = none x;
     })
 
-    told : (t : T) (ts rest : List T) (e : Fault) (b : Bool) → begins t ≡ b → ◌≡◌ {A = Outcome T A} (stopped (cond b faults.TooDeep faults.Refused) (t ∷ ts)) (stopped e rest)
+    told : (t : T) (ts rest : List T) (e : Fault E) (b : Bool) → begins t ≡ b → ◌≡◌ {A = Outcome E T A} (stopped (cond b (faults.Unfit why) faults.Refused) (t ∷ ts)) (stopped e rest)
         → Finishes Good Spelled Nothing (t ∷ ts) rest e
     told t ts rest e true test is =
-        let same : faults.TooDeep ≡ e = cc in
+        let same : (faults.Unfit why) ≡ e = cc in
         let place : t ∷ ts ≡ rest = cc in
         subst (Finishes Good Spelled Nothing (t ∷ ts) rest) same
-        (record { front = []; next = t; after = ts; split = place; begins = sym place; deep = refl; goes = begun t test })
+        (record { front = []; next = t; after = ts; split = place; begins = sym place; unfit = refl; goes = begun t test })
     told t ts rest e false test is =
         let same : faults.Refused ≡ e = cc in
         let place : t ∷ ts ≡ rest = cc in
         subst (Finishes Good Spelled Nothing (t ∷ ts) rest) same (record { front = []; split = place; goes = example })
 
-    finishes : (ts rest : List T) (e : Fault) → too_deep {A = A} begins ts ≡ stopped e rest → Finishes Good Spelled Nothing ts rest e
+    finishes : (ts rest : List T) (e : Fault E) → unfit {A = A} why begins ts ≡ stopped e rest → Finishes Good Spelled Nothing ts rest e
     finishes [] rest e is =
         let same : faults.Refused ≡ e = cc in
         let place : ◌≡◌ {A = List T} [] rest = cc in
         subst (Finishes Good Spelled Nothing [] rest) same (record { front = []; split = place; goes = example })
     finishes (t ∷ ts) rest e is = told t ts rest e (begins t) refl is
 
-    stopped-at : (rest : List T) → Stops {A = A} rest (too_deep begins rest)
+    stopped-at : (rest : List T) → Stops {A = A} rest (unfit why begins rest)
     stopped-at [] = record { fault = faults.Refused; at = []; is = refl; before = omega arith }
-    stopped-at (t ∷ rest) = record { fault = cond (begins t) faults.TooDeep faults.Refused; at = t ∷ rest; is = refl; before = omega arith }
+    stopped-at (t ∷ rest) = record { fault = cond (begins t) (faults.Unfit why) faults.Refused; at = t ∷ rest; is = refl; before = omega arith }
 
-    stops : (front rest : List T) → Nothing front → Stops {A = A} rest (too_deep begins (front ++ rest))
+    stops : (front rest : List T) → Nothing front → Stops {A = A} rest (unfit why begins (front ++ rest))
     stops front rest all = rw all (stopped-at rest)

@@ -35,7 +35,7 @@ is b t = t == b
 abbrev digit_of : ℕ → Option ℕ
 digit_of t = cond (is_ascii_digit t) (Some t) None
 
-abbrev digits : Reader ℕ (List ℕ)
+abbrev digits : {E : Type 0} → Reader E ℕ (List ℕ)
 digits = mark (is 40) >> (separated (is 41) false (is 44) (leaf digit_of) << mark (is 41))
 
 -- ---- it is a rule of the form
@@ -55,7 +55,7 @@ byte-mark b = record {
 abbrev byte : ℕ → Mark Good
 byte b = record { test = is b; Spelled = Byte b; is = byte-mark b }
 
-digit-rule : IsRule Good (leaf digit_of) Digit (λ _. Anything) (λ _. Unit {0}) Never
+digit-rule : {E : Type 0} → IsRule E Good (leaf digit_of) Digit (λ _. Anything) (λ _. Unit {0}) Never
 digit-rule = leaf-rule Good digit_of Digit 48 48 tt refl (record {
   there = λ x t means. let both = cond_some (is_ascii_digit t) t x means in (ap (λ y. y ∷ []) both.1, ap is_ascii_digit (sym both.1) ∙ both.0);
   back = λ x ts each s. (x, s.0, ap (λ b. cond b (Some x) None) s.1);
@@ -72,7 +72,7 @@ not_digit b x none some = other (x == b) refl
 between : Between Good (is 41) false (is 44) (Byte 44) Digit Anything Never
 between = record {
   mark = byte-mark 44;
-  repeats = begins-repeats (λ t some. not_digit 41 t refl some) (record { item = λ x front rest s. rw (s.0) s.1; deep = λ front rest d. absurd d });
+  repeats = begins-repeats (λ t some. not_digit 41 t refl some) (record { item = λ x front rest s. rw (s.0) s.1; unfit = λ front rest d. absurd d });
   before_end = λ rest stop. tt;
   before_separator = λ t rest comma. tt;
   apart = apart;
@@ -82,12 +82,12 @@ between = record {
     apart [] stop = absurd cc
     apart (t ∷ rest) stop = let same : t ≡ 41 = grind (arith, nat_tests) in rw same refl
 
-pub digits-rule : IsRule Good digits Digits (λ _. Anything) (EachIs (λ _. Unit {0})) (Byte 40 ⋯ SeparatedTo (Byte 44) Digit Never)
+pub digits-rule : {E : Type 0} → IsRule E Good digits Digits (λ _. Anything) (EachIs (λ _. Unit {0})) (Byte 40 ⋯ SeparatedTo (Byte 44) Digit Never)
 digits-rule =
     (skip (byte 40) (close (as_rule (separated-rule Good (is 41) false (is 44) (Byte 44) (leaf digit_of) Digit Anything (λ _. Unit {0}) Never between digit-rule)) (byte 41)
     (λ x. mark-tells (byte 41)))).is
 
 -- so a byte at which reading stops is the first with which no such text goes on
-pub digits-exact : (ts after : List ℕ) (t : ℕ) → All Good ts → digits ts ≡ stopped faults.Refused (t ∷ after) → (k : ℕ) → k + length (t ∷ after) ≡ length ts
+pub digits-exact : {E : Type 0} (ts after : List ℕ) (t : ℕ) → All Good ts → digits {E = E} ts ≡ stopped faults.Refused (t ∷ after) → (k : ℕ) → k + length (t ∷ after) ≡ length ts
     → IsRefusedAt Good Digits (Byte 40 ⋯ SeparatedTo (Byte 44) Digit Never) k ts
 digits-exact = refused-exact Good digits Digits (λ _. Anything) (EachIs (λ _. Unit {0})) (Byte 40 ⋯ SeparatedTo (Byte 44) Digit Never) digits-rule (λ x. tt)

@@ -5,9 +5,9 @@ use Rattle.tydi_reading.specs.Forms.{Form, ◌⋯◌}
 use Rattle.tydi_reading.specs.Reading.{Reader, Shrinks}
 use Rattle.tydi_reading.specs.Rules.{IsRule}
 
-pub shrinks-rule : {T A : Type 0} (Good : T → Type 0) (p : Reader T A) (Spelled : A → Form T) (Next : A → Form T) (Within : A → Type 0) (Deep : Form T)
-    → ((x : A) (front : List T) → Spelled x front → 0 < length front) → IsRule Good p Spelled Next Within Deep → Shrinks p
-shrinks-rule Good p Spelled Next Within Deep filled rule = record {
+pub shrinks-rule : {E T A : Type 0} (Good : T → Type 0) (p : Reader E T A) (Spelled : A → Form T) (Next : A → Form T) (Within : A → Type 0) (Unfit : Form T)
+    → ((x : A) (front : List T) → Spelled x front → 0 < length front) → IsRule E Good p Spelled Next Within Unfit → Shrinks p
+shrinks-rule Good p Spelled Next Within Unfit filled rule = record {
   less = λ ts rest x is.
       let f = rule.sound ts rest x is in
       let some = filled x f.front f.spelled in

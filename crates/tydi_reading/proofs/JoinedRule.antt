@@ -11,8 +11,8 @@ use Rattle.tydi_reading.proofs.MarkRules.{skip-rule}
 use Rattle.tydi_reading.proofs.RepeatedRule.{Adds, Repeats, each_unit, repeated_from-rule}
 use Rattle.tydi_reading.proofs.StepRules.{then-rule}
 
-module _ {T A : Type 0} (Good : T → Type 0) (joins : T → Bool) (Joint : Form T) (item : Reader T A) (Item : A → Form T) (m : IsMark Good joins Joint)
-    (rule : IsRule Good item Item (λ _. Anything) (λ _. Unit {0}) Never) where
+module _ {E T A : Type 0} (Good : T → Type 0) (joins : T → Bool) (Joint : Form T) (item : Reader E T A) (Item : A → Form T) (m : IsMark Good joins Joint)
+    (rule : IsRule E Good item Item (λ _. Anything) (λ _. Unit {0}) Never) where
   -- a joint, and an item
   abbrev More : A → Form T
   More x = Joint ⋯ Item x
@@ -31,10 +31,10 @@ module _ {T A : Type 0} (Good : T → Type 0) (joins : T → Bool) (Joint : Form
         let whole = ap length b.all ∙ length-append b.front b.back in
         omega arith;
     starts = λ x front rest b. begins_more (Joint) (Item x) front rest (λ ts s. s) b;
-    starts_deep = λ front rest b. absurd b.ends;
+    starts_unfit = λ front rest b. absurd b.ends;
   }
 
-  more-rule : IsRule Good (mark joins >> item) More (λ _. Anything) (λ _. Unit {0}) (Joint ⋯ Never)
+  more-rule : IsRule E Good (mark joins >> item) More (λ _. Anything) (λ _. Unit {0}) (Joint ⋯ Never)
   more-rule = skip-rule Good (mark joins) item (Joint) Item (λ _. Anything) (λ _. Unit {0}) Never (mark-rule Good joins Joint m) rule
 
   joined-of : (items : List A) (x : A) (front back ts : List T) → ts ≡ front ++ back → Item x front → Each More items back → Joined Joint Item (x ∷ items) ts
@@ -75,11 +75,11 @@ module _ {T A : Type 0} (Good : T → Type 0) (joins : T → Bool) (Joint : Form
       let b = more-of items x ts s in
       (x, record { front = b.front; back = b.back; all = b.all; begins = b.begins; ends = record { items = items; added = refl; spelled = b.ends } })
 
-  no_deep : (items : List A) (ts : List T) → (Each More items ⋯ Joint ⋯ Never) ts → ⊥
-  no_deep items ts b = b.ends.ends
+  no_unfit : (items : List A) (ts : List T) → (Each More items ⋯ Joint ⋯ Never) ts → ⊥
+  no_unfit items ts b = b.ends.ends
 
   -- items with a joint between each two, up to where no joint stands
-  pub joined-rule : IsRule Good (joined joins item) (Joined Joint Item) (λ _ rest. tells (λ t. not (joins t)) true rest ≡ true) (λ _. Unit {0}) Never
+  pub joined-rule : IsRule E Good (joined joins item) (Joined Joint Item) (λ _ rest. tells (λ t. not (joins t)) true rest ≡ true) (λ _. Unit {0}) Never
   unfolding joined
   joined-rule =
       then-rule Good item (λ x. loop (repeated_turn (λ t. not (joins t)) true (mark joins >> item)) (x ∷ [])) Item (λ _. Anything) (λ _. Unit {0}) Never
@@ -94,9 +94,9 @@ module _ {T A : Type 0} (Good : T → Type 0) (joins : T → Bool) (Joint : Form
         within = λ x all back a w v. tt;
         apart = λ x all front back _ a w. (tt, each_unit all);
         first = λ ts d. d;
-        last = λ x front back s d. no_deep d.0 back d.1;
-        deep = λ ts d. absurd d;
-        follow_deep = λ x back rest d. tt;
+        last = λ x front back s d. no_unfit d.0 back d.1;
+        unfit = λ ts d. absurd d;
+        follow_unfit = λ x back rest d. tt;
       })
       rule
       (λ x. repeated_from-rule Good (λ t. not (joins t)) true (mark joins >> item) More (λ _. Unit {0}) (Joint ⋯ Never) repeats more-rule (x ∷ []) (each_unit (x ∷ [])))

@@ -1,4 +1,4 @@
--- A next thing with a meaning leads on by it, or another rule follows, in which nothing can stand too deep.
+-- A next thing with a meaning leads on by it, or another rule follows, in which nothing can stand unfit.
 use Rattle.std.proofs.Common.{◌≡◌, ◌⊎◌, inl, inr, Bool, true, false, List, [], ◌∷◌, ◌++◌, Option, Some, None, refl, sym, ap, ◌∙◌, append_assoc}
 use Rattle.std.specs.Option.{is_some}
 use Rattle.tydi_reading.specs.Forms.{Form, ◌⋯◌, Never, Anything}
@@ -7,7 +7,7 @@ use Rattle.tydi_reading.specs.Rules.{IsRule}
 use Rattle.tydi_reading.proofs.ChoiceRules.{chosen, choose-rule}
 use Rattle.tydi_reading.proofs.StepRules.{Chained, ChainedTo, chain-rule, read-rule}
 
-module _ {T K A : Type 0} (Good : T → Type 0) (meaning : T → Option K) (p : K → Reader T A) (q : Reader T A) where
+module _ {E T K A : Type 0} (Good : T → Type 0) (meaning : T → Option K) (p : K → Reader E T A) (q : Reader E T A) where
   abbrev is_told : T → Bool
   is_told t = is_some (meaning t)
 
@@ -38,8 +38,8 @@ module _ {T K A : Type 0} (Good : T → Type 0) (meaning : T → Option K) (p : 
     leads_on : (k : K) (Second : Form T) (front rest : List T) → (Lead k ⋯ Second) front → tells is_told false (front ++ rest) ≡ true
     leads_on k Second front rest b = rw (b.all, append_assoc b.front b.back rest) (leads k b.front (b.back ++ rest) b.begins)
 
-    pub led-rule : IsRule Good (leaf meaning) Lead (λ _. Anything) (λ _. Unit {0}) Never → ((k : K) → IsRule Good (p k) (After k) Next Within (To k))
-        → IsRule Good q Other Next Within Never → IsRule Good (led meaning p q) (λ x ts. Led x ts ⊎ Other x ts) Next Within LedTo
+    pub led-rule : IsRule E Good (leaf meaning) Lead (λ _. Anything) (λ _. Unit {0}) Never → ((k : K) → IsRule E Good (p k) (After k) Next Within (To k))
+        → IsRule E Good q Other Next Within Never → IsRule E Good (led meaning p q) (λ x ts. Led x ts ⊎ Other x ts) Next Within LedTo
     led-rule first after other =
         read-rule Good (choose is_told false (leaf meaning >>= p) q) (led meaning p q) (λ x ts. Led x ts ⊎ Other x ts) Next Within LedTo led-same
         (choose-rule Good is_told false (leaf meaning >>= p) q Led Next LedTo Other Next Never (λ x ts. Led x ts ⊎ Other x ts) Next Within LedTo
@@ -51,11 +51,11 @@ module _ {T K A : Type 0} (Good : T → Type 0) (meaning : T → Option K) (p : 
           other_next = λ x front rest s next. next;
           one_begins = λ x front rest s next. leads_on s.0 (After s.0 x) front rest s.1;
           other_begins = λ x front rest s next. apart x front rest s;
-          one_deep = λ ts d. d;
-          other_deep = λ ts d. absurd d;
-          which_deep = λ ts d. inl d;
-          one_deep_begins = λ front rest d. leads_on d.0 (To d.0) front rest d.1;
-          other_deep_begins = λ front rest d. absurd d;
+          one_unfit = λ ts d. d;
+          other_unfit = λ ts d. absurd d;
+          which_unfit = λ ts d. inl d;
+          one_unfit_begins = λ front rest d. leads_on d.0 (To d.0) front rest d.1;
+          other_unfit_begins = λ front rest d. absurd d;
         })
         (chain-rule Lead After Good (leaf meaning) p (λ _. Anything) Next Within To (λ k x back rest s next. tt) (λ k back rest d. tt) first after)
         other)

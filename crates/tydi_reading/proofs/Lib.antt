@@ -11,6 +11,8 @@ pub mod MarkRules
 pub mod StepsRule
 pub mod SeparatedRule
 pub mod JoinedRule
+pub mod ListedRule
+pub mod BeginningRule
 pub mod CheckedRule
 pub mod FilledLemmas
 pub mod FormLemmas
@@ -21,3 +23,4 @@ pub mod TableLemmas
 pub mod NamedSteps
 pub mod NamedRule
 pub mod Example
+pub mod LineExample

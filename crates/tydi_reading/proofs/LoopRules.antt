@@ -11,24 +11,24 @@ use Rattle.tydi_reading.proofs.StepLemmas.{All-front, All-back, local-then, loca
 use Rattle.tydi_reading.proofs.StepRules.{Only}
 
 -- the turns of a loop are rules that may stand one after another
-pub record Turns {T S : Type 0} (Good : T → Type 0) (turn : S → Reader T (Turn S)) (Spelled : S → Turn S → Form T) (Follow : S → Turn S → Form T)
-    (Inside : S → Turn S → Type 0) (Deep : S → Form T) (Next : S → Form T) (Within : S → Type 0) : Type 0 where
-  pub rule : (s : S) → IsRule Good (turn s) (Spelled s) (Follow s) (Inside s) (Deep s)
+pub record Turns {E T S : Type 0} (Good : T → Type 0) (turn : S → Reader E T (Turn S)) (Spelled : S → Turn S → Form T) (Follow : S → Turn S → Form T)
+    (Inside : S → Turn S → Type 0) (Unfit : S → Form T) (Next : S → Form T) (Within : S → Type 0) : Type 0 where
+  pub rule : (s : S) → IsRule E Good (turn s) (Spelled s) (Follow s) (Inside s) (Unfit s)
   pub filled : (s next : S) (front : List T) → Spelled s (again next) front → 0 < length front
   pub closes : (s : S) → GoesOn Good (Loop Spelled s) []
   pub ends : (s end : S) (front rest : List T) → Spelled s (done end) front → Next end rest → Follow s (done end) rest
   pub goes : (s next end : S) (front back rest : List T) → Spelled s (again next) front → Loop Spelled next end back → Next end rest
       → Follow s (again next) (back ++ rest)
-  pub goes_deep : (s next : S) (front back rest : List T) → Spelled s (again next) front → LoopTo Spelled Deep next back
+  pub goes_unfit : (s next : S) (front back rest : List T) → Spelled s (again next) front → LoopTo Spelled Unfit next back
       → Follow s (again next) (back ++ rest)
   pub within_again : (s next : S) (front : List T) → Spelled s (again next) front → Inside s (again next) → Within s → Within next
   pub within_done : (s end : S) (front : List T) → Spelled s (done end) front → Inside s (done end) → Within s → Within end
   pub apart_again : (s next : S) (front : List T) → Spelled s (again next) front → Within next → Inside s (again next) × Within s
   pub apart_done : (s end : S) (front : List T) → Spelled s (done end) front → Within end → Inside s (done end) × Within s
 
-module _ {T S : Type 0} (Good : T → Type 0) (turn : S → Reader T (Turn S)) (Spelled : S → Turn S → Form T) (Follow : S → Turn S → Form T)
-    (Inside : S → Turn S → Type 0) (Deep : S → Form T) (Next : S → Form T) (Within : S → Type 0)
-    (turns : Turns Good turn Spelled Follow Inside Deep Next Within) where
+module _ {E T S : Type 0} (Good : T → Type 0) (turn : S → Reader E T (Turn S)) (Spelled : S → Turn S → Form T) (Follow : S → Turn S → Form T)
+    (Inside : S → Turn S → Type 0) (Unfit : S → Form T) (Next : S → Form T) (Within : S → Type 0)
+    (turns : Turns Good turn Spelled Follow Inside Unfit Next Within) where
   pub turns-advance : Advances turn
   turns-advance = record {
     less = λ s ts rest next is.
@@ -47,7 +47,7 @@ module _ {T S : Type 0} (Good : T → Type 0) (turn : S → Reader T (Turn S)) (
   More (done x) end = Only x end
 
   abbrev Last : Turn S → Form T
-  Last (again next) = LoopTo Spelled Deep next
+  Last (again next) = LoopTo Spelled Unfit next
   Last (done x) = Never
 
   join : (s : S) (t : Turn S) (end : S) (front back : List T) → Spelled s t front → More t end back → Loop Spelled s end (front ++ back)
@@ -56,9 +56,9 @@ module _ {T S : Type 0} (Good : T → Type 0) (turn : S → Reader T (Turn S)) (
       let at_end = subst (λ y. Spelled s (done y) front) (sym more.0) spelled in
       (1, inl (subst (Spelled s (done end)) (sym (ap (λ l. front ++ l) more.1 ∙ append-nil front)) at_end))
 
-  join_deep : (s : S) (t : Turn S) (front back : List T) → Spelled s t front → Last t back → LoopTo Spelled Deep s (front ++ back)
-  join_deep s (again next) front back spelled last = (suc last.0, inr (next, record { front = front; back = back; all = refl; begins = spelled; ends = last.1 }))
-  join_deep s (done x) front back spelled last = absurd last
+  join_unfit : (s : S) (t : Turn S) (front back : List T) → Spelled s t front → Last t back → LoopTo Spelled Unfit s (front ++ back)
+  join_unfit s (again next) front back spelled last = (suc last.0, inr (next, record { front = front; back = back; all = refl; begins = spelled; ends = last.1 }))
+  join_unfit s (done x) front back spelled last = absurd last
 
   shorter : (n : ℕ) (s next : S) (ts rest : List T) → length ts < suc n → turn s ts ≡ took (again next) rest → length rest < n
   shorter n s next ts rest few is = let less = turns-advance.less s ts rest next is in omega arith
@@ -74,7 +74,7 @@ module _ {T S : Type 0} (Good : T → Type 0) (turn : S → Reader T (Turn S)) (
       of_turn more (again next) rest is = more next rest (shorter n s next ts rest few is)
       of_turn more (done x) rest is = record { front = []; split = refl; stays = λ next after other _. refl }
 
-  took-both : (x y : S) (ts rest : List T) → ◌≡◌ {A = Outcome T S} (took x ts) (took y rest) → (x ≡ y) × (ts ≡ rest)
+  took-both : (x y : S) (ts rest : List T) → ◌≡◌ {A = Outcome E T S} (took x ts) (took y rest) → (x ≡ y) × (ts ≡ rest)
   took-both x y ts rest is = (cc, cc)
 
   sound-loop : (n : ℕ) (s : S) → Within s → (ts : List T) → length ts < n → (rest : List T) (end : S) → loop turn s ts ≡ took end rest
@@ -110,6 +110,7 @@ module _ {T S : Type 0} (Good : T → Type 0) (turn : S → Reader T (Turn S)) (
       ⊎_elim
       (λ is. inl (unfolds s (front ++ rest) ∙ ap (λ o. and_then o (turned (loop turn))) is))
       (λ far. inr (record {
+        why = far.why;
         at = far.at;
         is = unfolds s (front ++ rest) ∙ ap (λ o. and_then o (turned (loop turn))) far.is;
         before = far.before;
@@ -131,11 +132,11 @@ module _ {T S : Type 0} (Good : T → Type 0) (turn : S → Reader T (Turn S)) (
       (complete-loop k x end b.back rest (All-back Good front b.front b.back b.all good) b.ends next)))
       runs
 
-  finishes-loop : (n : ℕ) (s : S) (ts : List T) → length ts < n → (rest : List T) (e : Fault) → loop turn s ts ≡ stopped e rest
-      → Finishes Good (Loop Spelled s) (LoopTo Spelled Deep s) ts rest e
+  finishes-loop : (n : ℕ) (s : S) (ts : List T) → length ts < n → (rest : List T) (e : Fault E) → loop turn s ts ≡ stopped e rest
+      → Finishes Good (Loop Spelled s) (LoopTo Spelled Unfit s) ts rest e
   finishes-loop zero s ts few rest e is = absurd (omega arith)
   finishes-loop (suc n) s ts few rest e is =
-      finishes-then (Spelled s) More (Loop Spelled s) (join s) Good (Inside s) (Deep s) Last (LoopTo Spelled Deep s) (λ front d. (1, inl d)) (join_deep s)
+      finishes-then (Spelled s) More (Loop Spelled s) (join s) Good (Inside s) (Unfit s) Last (LoopTo Spelled Unfit s) (λ front d. (1, inl d)) (join_unfit s)
       examples (turned (loop turn)) ts (turn s ts)
       (λ rest t made. (turns.rule s).sound ts rest t made)
       (λ rest e made. (turns.rule s).finishes ts rest e made)
@@ -145,17 +146,17 @@ module _ {T S : Type 0} (Good : T → Type 0) (turn : S → Reader T (Turn S)) (
       examples (again next) = turns.closes next
       examples (done x) = record { value = x; more = []; good = All-nil Good; spelled = (refl, refl) }
 
-      differ : (x : S) (middle rest : List T) (e : Fault) → ◌≡◌ {A = Outcome T S} (took x middle) (stopped e rest) → ⊥
+      differ : (x : S) (middle rest : List T) (e : Fault E) → ◌≡◌ {A = Outcome E T S} (took x middle) (stopped e rest) → ⊥
       differ x middle rest e is = cc
 
-      of_turn : ((next : S) (us : List T) → length us < n → (rest : List T) (e : Fault) → loop turn next us ≡ stopped e rest
-          → Finishes Good (Loop Spelled next) (LoopTo Spelled Deep next) us rest e)
-          → (middle rest : List T) (t : Turn S) (e : Fault) → turn s ts ≡ took t middle → turned (loop turn) t middle ≡ stopped e rest
+      of_turn : ((next : S) (us : List T) → length us < n → (rest : List T) (e : Fault E) → loop turn next us ≡ stopped e rest
+          → Finishes Good (Loop Spelled next) (LoopTo Spelled Unfit next) us rest e)
+          → (middle rest : List T) (t : Turn S) (e : Fault E) → turn s ts ≡ took t middle → turned (loop turn) t middle ≡ stopped e rest
           → Finishes Good (More t) (Last t) middle rest e
       of_turn more middle rest (again next) e made other = more next middle (shorter n s next ts middle few made) rest e other
       of_turn more middle rest (done x) e made other = absurd (differ x middle rest e other)
 
-  stops-loop : (k : ℕ) (s : S) (front rest : List T) → All Good front → RunsTo Spelled Deep k s front → Stops rest (loop turn s (front ++ rest))
+  stops-loop : (k : ℕ) (s : S) (front rest : List T) → All Good front → RunsTo Spelled Unfit k s front → Stops rest (loop turn s (front ++ rest))
   stops-loop zero s front rest good runs = absurd runs
   stops-loop (suc k) s front rest good runs =
       ⊎_elim
@@ -165,11 +166,11 @@ module _ {T S : Type 0} (Good : T → Type 0) (turn : S → Reader T (Turn S)) (
       let b = more.1 in
       rw b.all rw (unfolds s ((b.front ++ b.back) ++ rest))
       (stops-second (turn s) (turned (loop turn)) (again x) b.front b.back rest (Inside s)
-      ((turns.rule s).complete b.front (b.back ++ rest) (again x) (All-front Good front b.front b.back b.all good) b.begins (turns.goes_deep s x b.front b.back rest b.begins (k, b.ends)))
+      ((turns.rule s).complete b.front (b.back ++ rest) (again x) (All-front Good front b.front b.back b.all good) b.begins (turns.goes_unfit s x b.front b.back rest b.begins (k, b.ends)))
       (stops-loop k x b.back rest (All-back Good front b.front b.back b.all good) b.ends)))
       runs
 
-  pub loop-rule : (s : S) → Within s → IsRule Good (loop turn s) (Loop Spelled s) Next Within (LoopTo Spelled Deep s)
+  pub loop-rule : (s : S) → Within s → IsRule E Good (loop turn s) (Loop Spelled s) Next Within (LoopTo Spelled Unfit s)
   loop-rule s within = record {
     example = turns.closes s;
     local = λ ts. local-loop (suc (length ts)) s ts (omega arith);

@@ -19,12 +19,12 @@ pub record IsMark {T : Type 0} (Good : T → Type 0) (is : T → Bool) (Mark : F
 abbrev pub mark_of : {T : Type 0} → (T → Bool) → T → Option (Unit {0})
 mark_of is thing = cond (is thing) (Some tt) None
 
-pub leaf-mark : {T : Type 0} (is : T → Bool) (ts : List T) → leaf (mark_of is) ts ≡ mark is ts
+pub leaf-mark : {E T : Type 0} (is : T → Bool) (ts : List T) → leaf {E = E} (mark_of is) ts ≡ mark is ts
 unfolding mark
 leaf-mark is [] = refl
-leaf-mark {T} is (t ∷ ts) = of_test (is t)
+leaf-mark {E} {T} is (t ∷ ts) = of_test (is t)
   where
-    of_test : (b : Bool) → meant (cond {A = Option (Unit {0})} b (Some tt) None) ts (t ∷ ts) ≡ cond {A = Outcome T (Unit {0})} b (took tt ts) (stopped faults.Refused (t ∷ ts))
+    of_test : (b : Bool) → meant (cond {A = Option (Unit {0})} b (Some tt) None) ts (t ∷ ts) ≡ cond {A = Outcome E T (Unit {0})} b (took tt ts) (stopped faults.Refused (t ∷ ts))
     of_test true = refl
     of_test false = refl
 
@@ -42,7 +42,7 @@ module _ {T : Type 0} (Good : T → Type 0) (is : T → Bool) (Mark : Form T) (m
   mark_of-is : (t : T) → is t ≡ true → mark_of is t ≡ Some tt
   mark_of-is t test = ap (λ b. cond {A = Option (Unit {0})} b (Some tt) None) test
 
-  pub mark-rule : IsRule Good (mark is) (λ _. Mark) (λ _. Anything) (λ _. Unit {0}) Never
+  pub mark-rule : {E : Type 0} → IsRule E Good (mark is) (λ _. Mark) (λ _. Anything) (λ _. Unit {0}) Never
   mark-rule = read-rule Good (leaf (mark_of is)) (mark is) (λ _. Mark) (λ _. Anything) (λ _. Unit {0}) Never (leaf-mark is)
       (leaf-rule Good (mark_of is) (λ _. Mark) m.thing tt m.good (mark_of-is m.thing m.holds)
       (record {

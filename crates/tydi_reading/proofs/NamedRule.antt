@@ -13,15 +13,15 @@ use Rattle.tydi_reading.proofs.CheckedRule.{Checks, checked-rule}
 use Rattle.tydi_reading.proofs.ContainsLemmas.{Contains-none, Contains-first, Contains-more, Contains-cases, Contains-neither}
 use Rattle.tydi_reading.proofs.NamedSteps.{Fields, Arguments, Between}
 use Rattle.tydi_reading.proofs.NamedSteps as steps
-use Rattle.tydi_reading.proofs.StepRules.{deep-rule}
+use Rattle.tydi_reading.proofs.StepRules.{leads-rule}
 
-module _ {T K G S : Type 0} (Good : T → Type 0) (f : Fields K G S) (a : Arguments Good f) (test : T → Bool) (last : Bool) (separates : T → Bool) (Separator : Form T)
+module _ {E T K G S : Type 0} (Good : T → Type 0) (f : Fields K G S) (a : Arguments E Good f) (test : T → Bool) (last : Bool) (separates : T → Bool) (Separator : Form T)
     (between : Between Good test last separates Separator a.name a.Next) where
   abbrev Step : G → G → Form T
   Step = steps.Step Good f a
 
-  abbrev StepDeep : G → Form T
-  StepDeep = steps.StepDeep Good f a
+  abbrev StepUnfit : G → Form T
+  StepUnfit = steps.StepUnfit Good f a
 
   abbrev Turning : G → Turn G → Form T
   Turning = steps.Turning Good f a test last separates Separator between
@@ -351,10 +351,10 @@ module _ {T K G S : Type 0} (Good : T → Type 0) (f : Fields K G S) (a : Argume
       let w = whole final in
       record { value = w.0; more = m.more; good = m.good; spelled = made-of (fill f.all final) w.0 (ts ++ m.more) w.1 m.walk }
 
-  -- ---- what leads to something too deep
+  -- ---- what leads to something unfit
 
   abbrev pub To : K → Form T
-  To k = a.Name k ⋯ a.Deep k
+  To k = a.Name k ⋯ a.Unfit k
 
   -- the loop up to an end, with the state in which it ends
   ended : (Last : G → Form T) (n : ℕ) (given : G) (ts : List T) → RunsTo Turning Last n given ts → (final : G) × RunsTo Turning (λ g us. (g ≡ final) × Last g us) n given ts
@@ -369,9 +369,9 @@ module _ {T K G S : Type 0} (Good : T → Type 0) (f : Fields K G S) (a : Argume
       walk
 
   module _ (s : S) (final : G) (agrees : Agrees s final) where
-    -- arguments with a separator after each, and then what leads to something too deep in one more
+    -- arguments with a separator after each, and then what leads to something unfit in one more
     abbrev Leads : List K → Form T
-    Leads order = Each (λ k. Argument s k ⋯ Separator) order ⋯ StepDeep final
+    Leads order = Each (λ k. Argument s k ⋯ Separator) order ⋯ StepUnfit final
 
     leads_more : (k : K) (order : List K) (front separator back ts : List T) → ts ≡ front ++ (separator ++ back) → Argument s k front → Separator separator
         → Leads order back → Leads (k ∷ order) ts
@@ -389,10 +389,10 @@ module _ {T K G S : Type 0} (Good : T → Type 0) (f : Fields K G S) (a : Argume
       ends = l.ends;
     }
 
-    leads_of : (n : ℕ) (ts : List T) → RunsTo Turning (λ g us. (g ≡ final) × StepDeep g us) n f.none ts → NamedTo Separator Argument To ts
+    leads_of : (n : ℕ) (ts : List T) → RunsTo Turning (λ g us. (g ≡ final) × StepUnfit g us) n f.none ts → NamedTo Separator Argument To ts
     leads_of n ts walk =
-        let all = adds s final agrees Leads (λ g us. (g ≡ final) × StepDeep g us) leads_more
-        (λ given us d. adds_none s final agrees Leads given us d.0 (record { front = []; back = us; all = refl; begins = refl; ends = subst (λ g. StepDeep g us) d.0 d.1 }))
+        let all = adds s final agrees Leads (λ g us. (g ≡ final) × StepUnfit g us) leads_more
+        (λ given us d. adds_none s final agrees Leads given us d.0 (record { front = []; back = us; all = refl; begins = refl; ends = subst (λ g. StepUnfit g us) d.0 d.1 }))
         n f.none ts walk in
         let w = all.written in
         record {
@@ -403,27 +403,27 @@ module _ {T K G S : Type 0} (Good : T → Type 0) (f : Fields K G S) (a : Argume
           leads = record { front = w.front; back = w.back; all = w.all; begins = w.begins; ends = w.ends.leads };
         }
 
-  leads_to : (ts : List T) → LoopTo Turning StepDeep f.none ts → NamedTo Separator Argument To ts
+  leads_to : (ts : List T) → LoopTo Turning StepUnfit f.none ts → NamedTo Separator Argument To ts
   leads_to ts walk =
-      let e = ended StepDeep walk.0 f.none ts walk.1 in
+      let e = ended StepUnfit walk.0 f.none ts walk.1 in
       let w = whole e.0 in
       leads_of w.0 e.0 (λ k x is. agrees-made w.0 (fill f.all e.0) w.1 k x (field-fill f.all e.0 k x is)) walk.0 ts e.1
 
   to_leads : (s : S) (next : K) (order : List K) (given : G) (front back ts : List T) → ts ≡ front ++ back → AreApart order → AreFree order given
       → (Contains order next → ⊥) → f.field next given ≡ None
-      → Each (λ k. Argument s k ⋯ Separator) order front → To next back → LoopTo Turning StepDeep given ts
+      → Each (λ k. Argument s k ⋯ Separator) order front → To next back → LoopTo Turning StepUnfit given ts
   to_leads s next [] given front back ts is apart free fresh none w d =
       (1, inl (record { name = next; absent = none; leads = subst (To next) (sym (is ∙ ap (λ l. l ++ back) w)) d }))
   to_leads s next (k ∷ order) given front back ts is apart free fresh none w d =
       let i = w.begins in
-      one_more StepDeep s k given i.front i.back (w.back ++ back) ts
+      one_more StepUnfit s k given i.front i.back (w.back ++ back) ts
       (is ∙ ap (λ l. l ++ back) w.all ∙ append_assoc w.front w.back back ∙ ap (λ l. l ++ (w.back ++ back)) i.all ∙ append_assoc i.front i.back (w.back ++ back))
       (free k (Contains-first order k k refl)) i.begins i.ends
       (to_leads s next order (f.put k (f.value s k) given) w.back back (w.back ++ back) refl apart.1 (still s k order given apart.0 free)
       (λ c. fresh (Contains-more order k next c)) (f.field-put_other next k (f.value s k) given (λ e. fresh (Contains-first order k next e)) ∙ none) w.ends d)
 
-  to_deep : (ts : List T) → NamedTo Separator Argument To ts → LoopTo Turning StepDeep f.none ts
-  to_deep ts d = to_leads d.values d.next d.order f.none d.leads.front d.leads.back ts d.leads.all d.apart.1 (λ k c. f.field-none k) d.apart.0 (f.field-none d.next)
+  to_unfit : (ts : List T) → NamedTo Separator Argument To ts → LoopTo Turning StepUnfit f.none ts
+  to_unfit ts d = to_leads d.values d.next d.order f.none d.leads.front d.leads.back ts d.leads.all d.apart.1 (λ k c. f.field-none k) d.apart.0 (f.field-none d.next)
       d.leads.begins d.leads.ends
 
   -- ---- the bounds
@@ -465,11 +465,11 @@ module _ {T K G S : Type 0} (Good : T → Type 0) (f : Fields K G S) (a : Argume
   }
 
   -- a whole of named arguments in any order, up to where the test holds
-  pub named-rule : Defaults → IsRule Good (checked f.made (named test last separates a.name f.is_given a.added f.none)) Whole
+  pub named-rule : Defaults → IsRule E Good (checked f.made (named test last separates a.name f.is_given a.added f.none)) Whole
       (λ _ rest. tells test last rest ≡ true) Within (NamedTo Separator Argument To)
   named-rule defaults =
-      deep-rule Good (checked f.made (named test last separates a.name f.is_given a.added f.none)) Whole (λ _ rest. tells test last rest ≡ true) Within
-      (LoopTo Turning StepDeep f.none) (NamedTo Separator Argument To) leads_to to_deep
+      leads-rule Good (checked f.made (named test last separates a.name f.is_given a.added f.none)) Whole (λ _ rest. tells test last rest ≡ true) Within
+      (LoopTo Turning StepUnfit f.none) (NamedTo Separator Argument To) leads_to to_unfit
       (checked-rule Good f.made (named test last separates a.name f.is_given a.added f.none) (Loop Turning f.none) (λ _ rest. tells test last rest ≡ true)
-      (steps.AreIn Good f a) (LoopTo Turning StepDeep f.none) Whole (λ _ rest. tells test last rest ≡ true) Within (checks defaults)
+      (steps.AreIn Good f a) (LoopTo Turning StepUnfit f.none) Whole (λ _ rest. tells test last rest ≡ true) Within (checks defaults)
       (steps.arguments-rule Good f a test last separates Separator between))

@@ -39,7 +39,7 @@ pub record Fields (K G S : Type 0) : Type 1 where
   pub full : (given : G) → ((k : K) → field k given ≡ None → ⊥) → made given ≡ None → ⊥
 
 -- which things name them, and the rules of their values
-pub record Arguments {T K G S : Type 0} (Good : T → Type 0) (f : Fields K G S) : Type 1 where
+pub record Arguments (E : Type 0) {T K G S : Type 0} (Good : T → Type 0) (f : Fields K G S) : Type 1 where
   pub name : T → Option K
   pub Name : K → Form T
   pub there : (k : K) (t : T) → name t ≡ Some k → Name k (t ∷ [])
@@ -47,17 +47,17 @@ pub record Arguments {T K G S : Type 0} (Good : T → Type 0) (f : Fields K G S)
   pub thing : K → T
   pub good : (k : K) → Good (thing k)
   pub named : (k : K) → name (thing k) ≡ Some k
-  pub read : (k : K) → Reader T (f.Value k)
+  pub read : (k : K) → Reader E T (f.Value k)
   pub Spelled : (k : K) → f.Value k → Form T
   pub Next : Form T
   pub Within : (k : K) → f.Value k → Type 0
-  pub Deep : K → Form T
+  pub Unfit : K → Form T
   pub Argument : S → K → Form T
   pub to_argument : (s : S) (k : K) (ts : List T) → (Name k ⋯ Spelled k (f.value s k)) ts → Argument s k ts
   pub of_argument : (s : S) (k : K) (ts : List T) → Argument s k ts → (Name k ⋯ Spelled k (f.value s k)) ts
-  pub added : K → G → Reader T G
+  pub added : K → G → Reader E T G
   pub added-is : (k : K) (given : G) (ts : List T) → ((λ x. f.put k x given) <$> read k) ts ≡ added k given ts
-  pub rule : (k : K) → IsRule Good (read k) (Spelled k) (λ _. Next) (Within k) (Deep k)
+  pub rule : (k : K) → IsRule E Good (read k) (Spelled k) (λ _. Next) (Within k) (Unfit k)
 
 -- what stands between arguments, and after them
 pub record Between {T K : Type 0} (Good : T → Type 0) (test : T → Bool) (last : Bool) (separates : T → Bool) (Separator : Form T) (name : T → Option K) (Next : Form T) : Type 0 where
@@ -79,8 +79,8 @@ none_or : {A : Type 0} (o : Option A) → (o ≡ None) ⊎ (o ≡ None → ⊥)
 none_or None = inl refl
 none_or (Some x) = inr (λ e. none-some x (sym e))
 
-module _ {T K G S : Type 0} (Good : T → Type 0) (f : Fields K G S) (a : Arguments Good f) where
-  abbrev pub step : G → Reader T G
+module _ {E T K G S : Type 0} (Good : T → Type 0) (f : Fields K G S) (a : Arguments E Good f) where
+  abbrev pub step : G → Reader E T G
   step = argument a.name f.is_given a.added
 
   -- an argument with its value
@@ -104,11 +104,11 @@ module _ {T K G S : Type 0} (Good : T → Type 0) (f : Fields K G S) (a : Argume
   abbrev pub StepWithin : G → G → Type 0
   StepWithin given next = (k : K) → f.field k given ≡ None → In k (f.field k next)
 
-  -- what leads to something too deep in one argument more
-  pub record StepDeep (given : G) (ts : List T) : Type 0 where
+  -- what leads to something unfit in one argument more
+  pub record StepUnfit (given : G) (ts : List T) : Type 0 where
     pub name : K
     pub absent : f.field name given ≡ None
-    pub leads : (a.Name name ⋯ a.Deep name) ts
+    pub leads : (a.Name name ⋯ a.Unfit name) ts
 
   -- ---- the name of an argument that is not given yet
 
@@ -137,7 +137,7 @@ module _ {T K G S : Type 0} (Good : T → Type 0) (f : Fields K G S) (a : Argume
   }
 
   name-rule : (given : G) (k : K) → f.field k given ≡ None
-      → IsRule Good (leaf (awaited a.name f.is_given given)) (Awaited given) (λ _. Anything) (λ _. Unit {0}) Never
+      → IsRule E Good (leaf (awaited a.name f.is_given given)) (Awaited given) (λ _. Anything) (λ _. Unit {0}) Never
   name-rule given k none = leaf-rule Good (awaited a.name f.is_given given) (Awaited given) (a.thing k) k (a.good k) (awaited-is given k (a.thing k) (a.named k) none) (awaited-leaf given)
 
   -- ---- one argument more
@@ -148,19 +148,19 @@ module _ {T K G S : Type 0} (Good : T → Type 0) (f : Fields K G S) (a : Argume
     | inr apart ↦ subst (In k) (sym (ap (f.field k) is ∙ f.field-put_other k j x given apart ∙ none)) tt
   ]
 
-  added-rule : (given : G) (k : K) → IsRule Good (a.added k given) (Made (λ x. f.put k x given) (a.Spelled k)) (λ _. a.Next) (λ next. In k (f.field k next)) (a.Deep k)
+  added-rule : (given : G) (k : K) → IsRule E Good (a.added k given) (Made (λ x. f.put k x given) (a.Spelled k)) (λ _. a.Next) (λ next. In k (f.field k next)) (a.Unfit k)
   added-rule given k =
-      read-rule Good ((λ x. f.put k x given) <$> a.read k) (a.added k given) (Made (λ x. f.put k x given) (a.Spelled k)) (λ _. a.Next) (λ next. In k (f.field k next)) (a.Deep k)
+      read-rule Good ((λ x. f.put k x given) <$> a.read k) (a.added k given) (Made (λ x. f.put k x given) (a.Spelled k)) (λ _. a.Next) (λ next. In k (f.field k next)) (a.Unfit k)
       (a.added-is k given)
       (made-rule (λ x. f.put k x given) (as_rule (a.rule k)) (λ _. a.Next) (λ next. In k (f.field k next)) (λ x rest next. next)
       (λ x w. subst (In k) (sym (f.field-put k x given)) w) (λ x w. subst (In k) (f.field-put k x given) w))
 
-  argument-rule : (given : G) (k : K) → f.field k given ≡ None → IsRule Good (step given) (Step given) (λ _. a.Next) (StepWithin given) (StepDeep given)
+  argument-rule : (given : G) (k : K) → f.field k given ≡ None → IsRule E Good (step given) (Step given) (λ _. a.Next) (StepWithin given) (StepUnfit given)
   unfolding argument
   argument-rule given free none =
       then-rule Good (leaf (awaited a.name f.is_given given)) (λ k. a.added k given) (Awaited given) (λ _. Anything) (λ _. Unit {0}) Never
-      (λ k. Made (λ x. f.put k x given) (a.Spelled k)) (λ _ _. a.Next) (λ k next. In k (f.field k next)) a.Deep
-      (Step given) (λ _. a.Next) (StepWithin given) (StepDeep given)
+      (λ k. Made (λ x. f.put k x given) (a.Spelled k)) (λ _ _. a.Next) (λ k next. In k (f.field k next)) a.Unfit
+      (Step given) (λ _. a.Next) (StepWithin given) (StepUnfit given)
       (record {
         join = λ k next front back s r. record {
           name = k;
@@ -179,11 +179,11 @@ module _ {T K G S : Type 0} (Good : T → Type 0) (f : Fields K G S) (a : Argume
         apart = λ k next front back s r w. (tt, w k s.0);
         first = λ ts d. absurd d;
         last = λ k front back s d. record { name = k; absent = s.0; leads = record { front = front; back = back; all = refl; begins = s.1; ends = d } };
-        deep = λ ts d. inr (
+        unfit = λ ts d. inr (
           d.name,
           record { front = d.leads.front; back = d.leads.back; all = d.leads.all; begins = (d.absent, d.leads.begins); ends = d.leads.ends },
         );
-        follow_deep = λ k back rest d. tt;
+        follow_unfit = λ k back rest d. tt;
       })
       (name-rule given free none) (added-rule given)
 
@@ -210,13 +210,13 @@ module _ {T K G S : Type 0} (Good : T → Type 0) (f : Fields K G S) (a : Argume
   refuses given full [] = refl
   refuses given full (t ∷ ts) = refused given full t ts (awaited a.name f.is_given given t) refl
 
-  pub step-rule : (given : G) → IsRule Good (step given) (Step given) (λ _. a.Next) (StepWithin given) (StepDeep given) ⊎ IsStuck (step given) (Step given) (StepDeep given)
+  pub step-rule : (given : G) → IsRule E Good (step given) (Step given) (λ _. a.Next) (StepWithin given) (StepUnfit given) ⊎ IsStuck (step given) (Step given) (StepUnfit given)
   step-rule given = elim (free_or f.all given) [
     | inl free ↦ inl (argument-rule given free.0 free.1)
     | inr full ↦ inr (record {
       refuses = refuses given (λ k. full k (f.each k));
       none = λ next ts s. full s.name (f.each s.name) s.absent;
-      none_deep = λ ts d. full d.name (f.each d.name) d.absent;
+      none_unfit = λ ts d. full d.name (f.each d.name) d.absent;
     })
   ]
 
@@ -230,7 +230,7 @@ module _ {T K G S : Type 0} (Good : T → Type 0) (f : Fields K G S) (a : Argume
   pub added-grows : NeverGrows a.added
   added-grows = record { least = λ k given ts rest next is. of_made k given ts rest next (a.read k ts) refl (a.added-is k given ts ∙ is) }
     where
-      of_made : (k : K) (given : G) (ts rest : List T) (next : G) (made : Outcome T (f.Value k)) → a.read k ts ≡ made
+      of_made : (k : K) (given : G) (ts rest : List T) (next : G) (made : Outcome E T (f.Value k)) → a.read k ts ≡ made
           → and_then made (λ x. pure (f.put k x given)) ≡ took next rest → length rest ≤ length ts
       of_made k given ts rest next (stopped e middle) made is = absurd cc
       of_made k given ts rest next (took x middle) made is =
@@ -258,12 +258,12 @@ module _ {T K G S : Type 0} (Good : T → Type 0) (f : Fields K G S) (a : Argume
     Name-starts : (k : K) (front rest : List T) → a.Name k front → tells test last (front ++ rest) ≡ false
     Name-starts k front rest s = let o = a.back k front s in rw o.1 (between.starts k o.0 o.2)
 
-    pub separates-arguments : Separates Good test last separates Separator Step (λ _. a.Next) StepWithin StepDeep AreIn
+    pub separates-arguments : Separates Good test last separates Separator Step (λ _. a.Next) StepWithin StepUnfit AreIn
     separates-arguments = record {
       mark = between.mark;
       filled = λ given next front s. filled-first (a.Name s.name) (a.Spelled s.name s.is) front (Name-filled s.name) s.spelled;
       starts = λ given next front rest s. starts_front (a.Name s.name) (a.Spelled s.name s.is) front rest (Name-starts s.name) s.spelled;
-      starts_deep = λ given front rest d. starts_front (a.Name d.name) (a.Deep d.name) front rest (Name-starts d.name) d.leads;
+      starts_unfit = λ given front rest d. starts_front (a.Name d.name) (a.Unfit d.name) front rest (Name-starts d.name) d.leads;
       before_end = λ next rest is. between.before_end rest is;
       before_separator = λ next t rest is. between.before_separator t rest is;
       apart = between.apart;
@@ -277,19 +277,19 @@ module _ {T K G S : Type 0} (Good : T → Type 0) (f : Fields K G S) (a : Argume
         starts_front First Second front rest first s = rw (s.all, append_assoc s.front s.back rest) (first s.front (s.back ++ rest) s.begins)
 
     abbrev pub Turning : G → Turn G → Form T
-    Turning = TurnOf Good test last separates Separator step Step (λ _. a.Next) StepWithin StepDeep AreIn separates-arguments step-rule
+    Turning = TurnOf Good test last separates Separator step Step (λ _. a.Next) StepWithin StepUnfit AreIn separates-arguments step-rule
 
-    pub arguments-rule : IsRule Good (named test last separates a.name f.is_given a.added f.none) (Loop Turning f.none) (λ _ rest. tells test last rest ≡ true) AreIn
-        (LoopTo Turning StepDeep f.none)
+    pub arguments-rule : IsRule E Good (named test last separates a.name f.is_given a.added f.none) (Loop Turning f.none) (λ _ rest. tells test last rest ≡ true) AreIn
+        (LoopTo Turning StepUnfit f.none)
     unfolding named
     arguments-rule =
-        steps-rule Good test last separates Separator step Step (λ _. a.Next) StepWithin StepDeep AreIn separates-arguments step-rule f.none
+        steps-rule Good test last separates Separator step Step (λ _. a.Next) StepWithin StepUnfit AreIn separates-arguments step-rule f.none
         (λ k. subst (In k) (sym (f.field-none k)) tt)
 
 -- ---- what a name that stands next says of an argument
 
-module _ {T K G : Type 0} (name : T → Option K) (is_given : K → G → Bool) (value : K → G → Reader T G) (given : G) where
-  abbrev told : Option K → List T → List T → Outcome T G
+module _ {E T K G : Type 0} (name : T → Option K) (is_given : K → G → Bool) (value : K → G → Reader E T G) (given : G) where
+  abbrev told : Option K → List T → List T → Outcome E T G
   told o rest ts = and_then (meant (option_and_then (λ k. cond (is_given k given) None (Some k)) o) rest ts) (λ k. value k given)
 
   argument-told : (ts : List T) → argument name is_given value given ts ≡ told (told_by name ts) (rest_of ts) ts

@@ -41,16 +41,16 @@ pub record AddsOne {T A : Type 0} (Turned : List A → Turn (List A) → Form T)
   pub item : (found next : List A) (ts : List T) → Turned found (again next) ts → (x : A) × (next ≡ found ++ x ∷ []) × One x ts
   pub turn : (found : List A) (x : A) (ts : List T) → One x ts → Turned found (again (found ++ x ∷ [])) ts
 
-module _ {T A : Type 0} {Turned : List A → Turn (List A) → Form T} {One : A → Form T} {Deep : Form T} (one : AddsOne Turned One) where
-  pub adds_deep : (n : ℕ) (found : List A) (ts : List T) → RunsTo Turned (λ _. Deep) n found ts → EachTo One Deep ts
-  adds_deep zero found ts walk = absurd walk
-  adds_deep (suc n) found ts walk =
+module _ {T A : Type 0} {Turned : List A → Turn (List A) → Form T} {One : A → Form T} {Unfit : Form T} (one : AddsOne Turned One) where
+  pub adds_unfit : (n : ℕ) (found : List A) (ts : List T) → RunsTo Turned (λ _. Unfit) n found ts → EachTo One Unfit ts
+  adds_unfit zero found ts walk = absurd walk
+  adds_unfit (suc n) found ts walk =
       ⊎_elim
       (λ d. ([], record { front = []; back = ts; all = refl; begins = refl; ends = d }))
       (λ more.
       let b = more.1 in
       let x = one.item found more.0 b.front b.begins in
-      let others = adds_deep n more.0 b.back b.ends in
+      let others = adds_unfit n more.0 b.back b.ends in
       let o = others.1 in (
         x.0 ∷ others.0,
         record {
@@ -63,10 +63,10 @@ module _ {T A : Type 0} {Turned : List A → Turn (List A) → Form T} {One : A 
       ))
       walk
 
-  pub runs_deep : (items found : List A) (front back ts : List T) → ts ≡ front ++ back → Each One items front → Deep back → LoopTo Turned (λ _. Deep) found ts
-  runs_deep [] found front back ts is s d = (1, inl (subst Deep (sym (is ∙ ap (λ l. l ++ back) s)) d))
-  runs_deep (x ∷ items) found front back ts is s d =
-      let more = runs_deep items (found ++ x ∷ []) s.back back (s.back ++ back) refl s.ends d in (
+  pub runs_unfit : (items found : List A) (front back ts : List T) → ts ≡ front ++ back → Each One items front → Unfit back → LoopTo Turned (λ _. Unfit) found ts
+  runs_unfit [] found front back ts is s d = (1, inl (subst Unfit (sym (is ∙ ap (λ l. l ++ back) s)) d))
+  runs_unfit (x ∷ items) found front back ts is s d =
+      let more = runs_unfit items (found ++ x ∷ []) s.back back (s.back ++ back) refl s.ends d in (
         suc more.0,
         inr (
           found ++ x ∷ [],
@@ -83,15 +83,15 @@ module _ {T A : Type 0} {Turned : List A → Turn (List A) → Form T} {One : A 
 -- ---- the rule
 
 -- items of the rule may stand one after another up to where the test holds
-pub record Repeats {T A : Type 0} (test : T → Bool) (last : Bool) (Item : A → Form T) (Deep : Form T) : Type 0 where
+pub record Repeats {T A : Type 0} (test : T → Bool) (last : Bool) (Item : A → Form T) (Unfit : Form T) : Type 0 where
   pub filled : (x : A) (front : List T) → Item x front → 0 < length front
   pub starts : (x : A) (front rest : List T) → Item x front → tells test last (front ++ rest) ≡ false
-  pub starts_deep : (front rest : List T) → Deep front → tells test last (front ++ rest) ≡ false
+  pub starts_unfit : (front rest : List T) → Unfit front → tells test last (front ++ rest) ≡ false
 
--- what is spelled, and what leads to something too deep, begins with such a thing
-pub record Begins {T A : Type 0} (lead : T → Bool) (Item : A → Form T) (Deep : Form T) : Type 0 where
+-- what is spelled, and what leads to something unfit, begins with such a thing
+pub record Begins {T A : Type 0} (lead : T → Bool) (Item : A → Form T) (Unfit : Form T) : Type 0 where
   pub item : (x : A) (front rest : List T) → Item x front → tells lead false (front ++ rest) ≡ true
-  pub deep : (front rest : List T) → Deep front → tells lead false (front ++ rest) ≡ true
+  pub unfit : (front rest : List T) → Unfit front → tells lead false (front ++ rest) ≡ true
 
 -- a test that no such thing passes tells no of it
 pub begins-apart : {T : Type 0} (lead test : T → Bool) (last : Bool) → ((t : T) → lead t ≡ true → test t ≡ false) → (ts : List T) → tells lead false ts ≡ true → tells test last ts ≡ false
@@ -102,16 +102,16 @@ pub begins-filled : {T : Type 0} (lead : T → Bool) (front : List T) → tells 
 begins-filled lead [] is = absurd cc
 begins-filled lead (t ∷ front) is = omega arith
 
-pub begins-repeats : {T A : Type 0} {lead test : T → Bool} {last : Bool} {Item : A → Form T} {Deep : Form T} → ((t : T) → lead t ≡ true → test t ≡ false)
-    → Begins lead Item Deep → Repeats test last Item Deep
+pub begins-repeats : {T A : Type 0} {lead test : T → Bool} {last : Bool} {Item : A → Form T} {Unfit : Form T} → ((t : T) → lead t ≡ true → test t ≡ false)
+    → Begins lead Item Unfit → Repeats test last Item Unfit
 begins-repeats {lead = lead} {test = test} {last = last} apart begins = record {
   filled = λ x front s. begins-filled lead front (begins.item x front [] s);
   starts = λ x front rest s. begins-apart lead test last apart (front ++ rest) (begins.item x front rest s);
-  starts_deep = λ front rest d. begins-apart lead test last apart (front ++ rest) (begins.deep front rest d);
+  starts_unfit = λ front rest d. begins-apart lead test last apart (front ++ rest) (begins.unfit front rest d);
 }
 
-module _ {T A : Type 0} (Good : T → Type 0) (test : T → Bool) (last : Bool) (item : Reader T A) (Item : A → Form T) (Within : A → Type 0) (Deep : Form T)
-    (repeats : Repeats test last Item Deep) (rule : IsRule Good item Item (λ _. Anything) Within Deep) where
+module _ {E T A : Type 0} (Good : T → Type 0) (test : T → Bool) (last : Bool) (item : Reader E T A) (Item : A → Form T) (Within : A → Type 0) (Unfit : Form T)
+    (repeats : Repeats test last Item Unfit) (rule : IsRule E Good item Item (λ _. Anything) Within Unfit) where
   Adding : List A → Turn (List A) → Form T
   Adding found t ts = (x : A) × (t ≡ again (found ++ x ∷ [])) × Item x ts
 
@@ -145,11 +145,11 @@ module _ {T A : Type 0} (Good : T → Type 0) (test : T → Bool) (last : Bool) 
   begins found (done end) front rest s next = rw s.1 next
   begins found (again next) front rest s _ = absurd (let is : again next ≡ done found = s.0 in cc)
 
-  turn-rule : (found : List A) → IsRule Good (repeated_turn test last item found) (TurnOf found) (Follow found) (Inside found) Deep
+  turn-rule : (found : List A) → IsRule E Good (repeated_turn test last item found) (TurnOf found) (Follow found) (Inside found) Unfit
   unfolding repeated_turn Adding
   turn-rule found =
       choose-rule Good test last (pure (done found)) ((λ x. again (found ++ x ∷ [])) <$> item) (Only (done found)) (λ _. Anything) Never
-      (Adding found) (λ _. Anything) Deep (TurnOf found) (Follow found) (Inside found) Deep
+      (Adding found) (λ _. Anything) Unfit (TurnOf found) (Follow found) (Inside found) Unfit
       (record {
         one = of_only found;
         other = of_adding found;
@@ -158,14 +158,14 @@ module _ {T A : Type 0} (Good : T → Type 0) (test : T → Bool) (last : Bool) 
         other_next = λ t front rest s next. tt;
         one_begins = begins found;
         other_begins = λ t front rest s next. repeats.starts s.0 front rest s.2;
-        one_deep = λ ts d. absurd d;
-        other_deep = λ ts d. d;
-        which_deep = λ ts d. inr d;
-        one_deep_begins = λ front rest d. absurd d;
-        other_deep_begins = repeats.starts_deep;
+        one_unfit = λ ts d. absurd d;
+        other_unfit = λ ts d. d;
+        which_unfit = λ ts d. inr d;
+        one_unfit_begins = λ front rest d. absurd d;
+        other_unfit_begins = repeats.starts_unfit;
       })
       (pure-rule Good (Inside found) (done found) tt)
-      (map-rule Good (λ x. again (found ++ x ∷ [])) item Item (λ _. Anything) Within Deep (Adding found) (λ _. Anything) (Inside found) Deep
+      (map-rule Good (λ x. again (found ++ x ∷ [])) item Item (λ _. Anything) Within Unfit (Adding found) (λ _. Anything) (Inside found) Unfit
       (record {
         there = λ x ts s. (x, refl, s);
         back = λ t ts s. s;
@@ -173,7 +173,7 @@ module _ {T A : Type 0} (Good : T → Type 0) (test : T → Bool) (last : Bool) 
         within = λ x w. λ y is. subst Within (last-same found x y is) w;
         apart = λ x w. w x refl;
         first = λ ts d. d;
-        deep = λ ts d. d;
+        unfit = λ ts d. d;
       })
       rule)
 
@@ -202,14 +202,14 @@ module _ {T A : Type 0} (Good : T → Type 0) (test : T → Bool) (last : Bool) 
   adds_one : AddsOne TurnOf Item
   adds_one = record { item = λ found next ts s. s; turn = λ found x ts s. (x, refl, s) }
 
-  turns : Turns Good (repeated_turn test last item) TurnOf Follow Inside (λ _. Deep) (λ _ rest. tells test last rest ≡ true) (EachIs Within)
+  turns : Turns Good (repeated_turn test last item) TurnOf Follow Inside (λ _. Unfit) (λ _ rest. tells test last rest ≡ true) (EachIs Within)
   turns = record {
     rule = turn-rule;
     filled = λ found next front s. repeats.filled s.0 front s.2;
     closes = λ found. record { value = found; more = []; good = All-nil Good; spelled = (1, inl (refl, refl)) };
     ends = λ found end front rest s next. next;
     goes = λ found next end front back rest s more stop. tt;
-    goes_deep = λ found next front back rest s more. tt;
+    goes_unfit = λ found next front back rest s more. tt;
     within_again = λ found next front s inside each. subst (EachIs Within) (sym s.1) (EachIs-push Within found s.0 each (inside s.0 s.1));
     within_done = λ found end front s inside each. subst (EachIs Within) (sym s.0) each;
     apart_again = λ found next front s each.
@@ -220,27 +220,27 @@ module _ {T A : Type 0} (Good : T → Type 0) (test : T → Bool) (last : Bool) 
 
   -- more items one after another up to where the test holds
   pub repeated_from-rule : (found : List A) → EachIs Within found
-      → IsRule Good (loop (repeated_turn test last item) found) (Adds (Each Item) found) (λ _ rest. tells test last rest ≡ true) (EachIs Within) (EachTo Item Deep)
+      → IsRule E Good (loop (repeated_turn test last item) found) (Adds (Each Item) found) (λ _ rest. tells test last rest ≡ true) (EachIs Within) (EachTo Item Unfit)
   repeated_from-rule found within =
       same-rule Good (loop (repeated_turn test last item) found) (Loop TurnOf found) (λ _ rest. tells test last rest ≡ true) (EachIs Within)
-      (LoopTo TurnOf (λ _. Deep) found) (Adds (Each Item) found) (λ _ rest. tells test last rest ≡ true) (EachIs Within) (EachTo Item Deep)
+      (LoopTo TurnOf (λ _. Unfit) found) (Adds (Each Item) found) (λ _ rest. tells test last rest ≡ true) (EachIs Within) (EachTo Item Unfit)
       (record {
         there = λ end ts s. adds s.0 found end ts s.1;
         back = λ end ts s. subst (λ l. Loop TurnOf found l ts) (sym s.added) (runs found s.items ts s.spelled);
         follow = λ items rest next. next;
         within = λ items each. each;
         apart = λ items each. each;
-        first = λ ts d. adds_deep adds_one d.0 found ts d.1;
-        deep = λ ts d. runs_deep adds_one d.0 found d.1.front d.1.back ts d.1.all d.1.begins d.1.ends;
+        first = λ ts d. adds_unfit adds_one d.0 found ts d.1;
+        unfit = λ ts d. runs_unfit adds_one d.0 found d.1.front d.1.back ts d.1.all d.1.begins d.1.ends;
       })
-      (loop-rule Good (repeated_turn test last item) TurnOf Follow Inside (λ _. Deep) (λ _ rest. tells test last rest ≡ true) (EachIs Within) turns found within)
+      (loop-rule Good (repeated_turn test last item) TurnOf Follow Inside (λ _. Unfit) (λ _ rest. tells test last rest ≡ true) (EachIs Within) turns found within)
 
   -- items one after another up to where the test holds
-  pub repeated-rule : IsRule Good (repeated test last item) (Each Item) (λ _ rest. tells test last rest ≡ true) (EachIs Within) (EachTo Item Deep)
+  pub repeated-rule : IsRule E Good (repeated test last item) (Each Item) (λ _ rest. tells test last rest ≡ true) (EachIs Within) (EachTo Item Unfit)
   unfolding repeated
   repeated-rule =
-      same-rule Good (loop (repeated_turn test last item) []) (Adds (Each Item) []) (λ _ rest. tells test last rest ≡ true) (EachIs Within) (EachTo Item Deep)
-      (Each Item) (λ _ rest. tells test last rest ≡ true) (EachIs Within) (EachTo Item Deep)
+      same-rule Good (loop (repeated_turn test last item) []) (Adds (Each Item) []) (λ _ rest. tells test last rest ≡ true) (EachIs Within) (EachTo Item Unfit)
+      (Each Item) (λ _ rest. tells test last rest ≡ true) (EachIs Within) (EachTo Item Unfit)
       (record {
         there = λ items ts a. subst (λ l. Each Item l ts) (sym a.added) a.spelled;
         back = λ items ts s. record { items = items; added = refl; spelled = s };
@@ -248,6 +248,6 @@ module _ {T A : Type 0} (Good : T → Type 0) (test : T → Bool) (last : Bool) 
         within = λ items each. each;
         apart = λ items each. each;
         first = λ ts d. d;
-        deep = λ ts d. d;
+        unfit = λ ts d. d;
       })
       (repeated_from-rule [] tt)

@@ -12,21 +12,21 @@ use Rattle.tydi_reading.proofs.MarkRules.{skip-rule, close-rule}
 use Rattle.tydi_reading.proofs.RepeatedRule.{Begins, begins-filled}
 use Rattle.tydi_reading.proofs.StepRules.{Only, pure-rule, Maps, map-rule, same-rule}
 
--- a reader with its form, what may follow, what is within its bounds, what leads to something too deep, and that it is a rule of these
-pub record Rule {T : Type 0} (Good : T → Type 0) (A : Type 0) : Type 1 where
-  pub read : Reader T A
+-- a reader with its form, what may follow, what is within its bounds, what leads to something unfit, and that it is a rule of these
+pub record Rule (E : Type 0) {T : Type 0} (Good : T → Type 0) (A : Type 0) : Type 1 where
+  pub read : Reader E T A
   pub Spelled : A → Form T
   pub Next : A → Form T
   pub Within : A → Type 0
-  pub Deep : Form T
-  pub is : IsRule Good read Spelled Next Within Deep
+  pub Unfit : Form T
+  pub is : IsRule E Good read Spelled Next Within Unfit
 
--- a rule of which nothing can stand too deep
-pub record Flat {T : Type 0} (Good : T → Type 0) (A : Type 0) : Type 1 where
-  pub read : Reader T A
+-- a rule of which nothing can stand unfit
+pub record Flat (E : Type 0) {T : Type 0} (Good : T → Type 0) (A : Type 0) : Type 1 where
+  pub read : Reader E T A
   pub Spelled : A → Form T
   pub Next : A → Form T
-  pub is : IsRule Good read Spelled Next (λ _. Unit {0}) Never
+  pub is : IsRule E Good read Spelled Next (λ _. Unit {0}) Never
 
 -- one thing that a test holds of, with its form
 pub record Mark {T : Type 0} (Good : T → Type 0) : Type 1 where
@@ -35,31 +35,31 @@ pub record Mark {T : Type 0} (Good : T → Type 0) : Type 1 where
   pub is : IsMark Good test Spelled
 
 -- what is shown to be a rule, as one thing
-abbrev pub as_rule : {T A : Type 0} {Good : T → Type 0} {read : Reader T A} {Spelled Next : A → Form T} {Within : A → Type 0} {Deep : Form T}
-    → IsRule Good read Spelled Next Within Deep → Rule Good A
-as_rule {read = read} {Spelled = Spelled} {Next = Next} {Within = Within} {Deep = Deep} one =
-    record { read = read; Spelled = Spelled; Next = Next; Within = Within; Deep = Deep; is = one }
+abbrev pub as_rule : {E T A : Type 0} {Good : T → Type 0} {read : Reader E T A} {Spelled Next : A → Form T} {Within : A → Type 0} {Unfit : Form T}
+    → IsRule E Good read Spelled Next Within Unfit → Rule E Good A
+as_rule {read = read} {Spelled = Spelled} {Next = Next} {Within = Within} {Unfit = Unfit} one =
+    record { read = read; Spelled = Spelled; Next = Next; Within = Within; Unfit = Unfit; is = one }
 
-abbrev pub as_flat : {T A : Type 0} {Good : T → Type 0} {read : Reader T A} {Spelled Next : A → Form T}
-    → IsRule Good read Spelled Next (λ _. Unit {0}) Never → Flat Good A
+abbrev pub as_flat : {E T A : Type 0} {Good : T → Type 0} {read : Reader E T A} {Spelled Next : A → Form T}
+    → IsRule E Good read Spelled Next (λ _. Unit {0}) Never → Flat E Good A
 as_flat {read = read} {Spelled = Spelled} {Next = Next} one = record { read = read; Spelled = Spelled; Next = Next; is = one }
 
-abbrev pub of_flat : {T A : Type 0} {Good : T → Type 0} → Flat Good A → Rule Good A
-of_flat r = record { read = r.read; Spelled = r.Spelled; Next = r.Next; Within = λ _. Unit {0}; Deep = Never; is = r.is }
+abbrev pub of_flat : {E T A : Type 0} {Good : T → Type 0} → Flat E Good A → Rule E Good A
+of_flat r = record { read = r.read; Spelled = r.Spelled; Next = r.Next; Within = λ _. Unit {0}; Unfit = Never; is = r.is }
 
 -- a rule that is flat after all
-abbrev pub flat : {T A : Type 0} {Good : T → Type 0} (r : Rule Good A) → ((ts : List T) → r.Deep ts → ⊥) → ((x : A) → r.Within x) → Flat Good A
+abbrev pub flat : {E T A : Type 0} {Good : T → Type 0} (r : Rule E Good A) → ((ts : List T) → r.Unfit ts → ⊥) → ((x : A) → r.Within x) → Flat E Good A
 flat {Good = Good} r none each = record {
   read = r.read;
   Spelled = r.Spelled;
   Next = r.Next;
-  is = same-rule Good r.read r.Spelled r.Next r.Within r.Deep r.Spelled r.Next (λ _. Unit {0}) Never
-      (record { there = λ x ts s. s; back = λ x ts s. s; follow = λ x rest next. next; within = λ x w. tt; apart = λ x w. each x; first = none; deep = λ ts d. absurd d })
+  is = same-rule Good r.read r.Spelled r.Next r.Within r.Unfit r.Spelled r.Next (λ _. Unit {0}) Never
+      (record { there = λ x ts s. s; back = λ x ts s. s; follow = λ x rest next. next; within = λ x w. tt; apart = λ x w. each x; first = none; unfit = λ ts d. absurd d })
       r.is;
 }
 
 -- a mark is a flat rule
-abbrev pub of_mark : {T : Type 0} {Good : T → Type 0} → Mark Good → Flat Good (Unit {0})
+abbrev pub of_mark : {E T : Type 0} {Good : T → Type 0} → Mark Good → Flat E Good (Unit {0})
 of_mark {Good = Good} m = record { read = mark m.test; Spelled = λ _. m.Spelled; Next = λ _. Anything; is = mark-rule Good m.test m.Spelled m.is }
 
 -- ---- one after another
@@ -71,46 +71,46 @@ pub front-marked : {T : Type 0} {Good : T → Type 0} (m : Mark Good) (Second : 
 front-marked m Second front rest = front-tells m.test true m.Spelled Second front rest (mark-tells m)
 
 -- a mark, and then the rule
-abbrev pub skip : {T A : Type 0} {Good : T → Type 0} → Mark Good → Rule Good A → Rule Good A
+abbrev pub skip : {E T A : Type 0} {Good : T → Type 0} → Mark Good → Rule E Good A → Rule E Good A
 skip {Good = Good} m r = record {
   read = mark m.test >> r.read;
   Spelled = λ x. m.Spelled ⋯ r.Spelled x;
   Next = r.Next;
   Within = r.Within;
-  Deep = m.Spelled ⋯ r.Deep;
-  is = skip-rule Good (mark m.test) r.read m.Spelled r.Spelled r.Next r.Within r.Deep (mark-rule Good m.test m.Spelled m.is) r.is;
+  Unfit = m.Spelled ⋯ r.Unfit;
+  is = skip-rule Good (mark m.test) r.read m.Spelled r.Spelled r.Next r.Within r.Unfit (mark-rule Good m.test m.Spelled m.is) r.is;
 }
 
-abbrev pub flat_skip : {T A : Type 0} {Good : T → Type 0} → Mark Good → Flat Good A → Flat Good A
+abbrev pub flat_skip : {E T A : Type 0} {Good : T → Type 0} → Mark Good → Flat E Good A → Flat E Good A
 flat_skip m r = flat (skip m (of_flat r)) (λ ts d. d.ends) (λ x. tt)
 
 -- the rule, and then a mark
-abbrev pub close : {T A : Type 0} {Good : T → Type 0} (r : Rule Good A) (m : Mark Good) → ((x : A) (front rest : List T) → m.Spelled front → r.Next x (front ++ rest)) → Rule Good A
+abbrev pub close : {E T A : Type 0} {Good : T → Type 0} (r : Rule E Good A) (m : Mark Good) → ((x : A) (front rest : List T) → m.Spelled front → r.Next x (front ++ rest)) → Rule E Good A
 close {Good = Good} r m follow = record {
   read = r.read << mark m.test;
   Spelled = λ x. r.Spelled x ⋯ m.Spelled;
   Next = λ _. Anything;
   Within = r.Within;
-  Deep = r.Deep;
-  is = close-rule Good r.read (mark m.test) r.Spelled r.Next r.Within r.Deep m.Spelled follow r.is (mark-rule Good m.test m.Spelled m.is);
+  Unfit = r.Unfit;
+  is = close-rule Good r.read (mark m.test) r.Spelled r.Next r.Within r.Unfit m.Spelled follow r.is (mark-rule Good m.test m.Spelled m.is);
 }
 
-abbrev pub flat_close : {T A : Type 0} {Good : T → Type 0} (r : Flat Good A) (m : Mark Good) → ((x : A) (front rest : List T) → m.Spelled front → r.Next x (front ++ rest)) → Flat Good A
+abbrev pub flat_close : {E T A : Type 0} {Good : T → Type 0} (r : Flat E Good A) (m : Mark Good) → ((x : A) (front rest : List T) → m.Spelled front → r.Next x (front ++ rest)) → Flat E Good A
 flat_close r m follow = flat (close (of_flat r) m follow) (λ ts d. d) (λ x. tt)
 
 -- a flat rule, and then a rule
-abbrev pub both : {T A B : Type 0} {Good : T → Type 0} (a : Flat Good A) (b : Rule Good B)
+abbrev pub both : {E T A B : Type 0} {Good : T → Type 0} (a : Flat E Good A) (b : Rule E Good B)
     → ((x : A) (y : B) (back rest : List T) → b.Spelled y back → b.Next y rest → a.Next x (back ++ rest))
-    → ((x : A) (back rest : List T) → b.Deep back → a.Next x (back ++ rest)) → Rule Good (A × B)
-both {T} {A} {B} {Good} a b follow follow_deep = record {
+    → ((x : A) (back rest : List T) → b.Unfit back → a.Next x (back ++ rest)) → Rule E Good (A × B)
+both {E} {T} {A} {B} {Good} a b follow follow_unfit = record {
   read = a.read <&> b.read;
   Spelled = λ (z : A × B). a.Spelled z.0 ⋯ b.Spelled z.1;
   Next = λ (z : A × B). b.Next z.1;
   Within = λ (z : A × B). b.Within z.1;
-  Deep = Past a.Spelled b.Deep;
+  Unfit = Past a.Spelled b.Unfit;
   is = same-rule Good (a.read <&> b.read) (λ (z : A × B). a.Spelled z.0 ⋯ b.Spelled z.1) (λ z. b.Next z.1) (λ z. Unit {0} × b.Within z.1)
-      (λ ts. Never ts ⊎ Past a.Spelled b.Deep ts)
-      (λ (z : A × B). a.Spelled z.0 ⋯ b.Spelled z.1) (λ z. b.Next z.1) (λ z. b.Within z.1) (Past a.Spelled b.Deep)
+      (λ ts. Never ts ⊎ Past a.Spelled b.Unfit ts)
+      (λ (z : A × B). a.Spelled z.0 ⋯ b.Spelled z.1) (λ z. b.Next z.1) (λ z. b.Within z.1) (Past a.Spelled b.Unfit)
       (record {
         there = λ x ts s. s;
         back = λ x ts s. s;
@@ -118,40 +118,40 @@ both {T} {A} {B} {Good} a b follow follow_deep = record {
         within = λ x w. w.1;
         apart = λ x w. (tt, w);
         first = λ ts. ⊎_elim (λ d. absurd d) (λ d. d);
-        deep = λ ts d. inr d;
+        unfit = λ ts d. inr d;
       })
-      (both-rule Good a.read b.read a.Spelled a.Next (λ _. Unit {0}) Never b.Spelled b.Next b.Within b.Deep follow follow_deep a.is b.is);
+      (both-rule Good a.read b.read a.Spelled a.Next (λ _. Unit {0}) Never b.Spelled b.Next b.Within b.Unfit follow follow_unfit a.is b.is);
 }
 
 -- a flat rule, a mark, and then a rule
-abbrev pub parted : {T A B : Type 0} {Good : T → Type 0} (a : Flat Good A) (m : Mark Good) (b : Rule Good B)
-    → ((x : A) (front rest : List T) → m.Spelled front → a.Next x (front ++ rest)) → Rule Good (A × B)
+abbrev pub parted : {E T A B : Type 0} {Good : T → Type 0} (a : Flat E Good A) (m : Mark Good) (b : Rule E Good B)
+    → ((x : A) (front rest : List T) → m.Spelled front → a.Next x (front ++ rest)) → Rule E Good (A × B)
 parted a m b follow = both a (skip m b)
     (λ x y back rest s next. follows-front (a.Next x) m.Spelled (b.Spelled y) back rest (follow x) s)
-    (λ x back rest d. follows-front (a.Next x) m.Spelled b.Deep back rest (follow x) d)
+    (λ x back rest d. follows-front (a.Next x) m.Spelled b.Unfit back rest (follow x) d)
 
-abbrev pub flat_parted : {T A B : Type 0} {Good : T → Type 0} (a : Flat Good A) (m : Mark Good) (b : Flat Good B)
-    → ((x : A) (front rest : List T) → m.Spelled front → a.Next x (front ++ rest)) → Flat Good (A × B)
+abbrev pub flat_parted : {E T A B : Type 0} {Good : T → Type 0} (a : Flat E Good A) (m : Mark Good) (b : Flat E Good B)
+    → ((x : A) (front rest : List T) → m.Spelled front → a.Next x (front ++ rest)) → Flat E Good (A × B)
 flat_parted a m b follow = flat (parted a m (of_flat b) follow) (λ ts d. d.1.ends.ends) (λ x. tt)
 
 -- ---- values
 
 -- a function of what is read
-pub mapped : {T A B : Type 0} {Good : T → Type 0} (f : A → B) (r : Rule Good A) (Whole Next : B → Form T) (Within : B → Type 0) (Deep : Form T)
-    → Maps f r.Spelled r.Next r.Within r.Deep Whole Next Within Deep → IsRule Good (f <$> r.read) Whole Next Within Deep
-mapped {Good = Good} f r Whole Next Within Deep maps = map-rule Good f r.read r.Spelled r.Next r.Within r.Deep Whole Next Within Deep maps r.is
+pub mapped : {E T A B : Type 0} {Good : T → Type 0} (f : A → B) (r : Rule E Good A) (Whole Next : B → Form T) (Within : B → Type 0) (Unfit : Form T)
+    → Maps f r.Spelled r.Next r.Within r.Unfit Whole Next Within Unfit → IsRule E Good (f <$> r.read) Whole Next Within Unfit
+mapped {Good = Good} f r Whole Next Within Unfit maps = map-rule Good f r.read r.Spelled r.Next r.Within r.Unfit Whole Next Within Unfit maps r.is
 
 -- what is read under another view, which loses nothing
-pub viewed : {T A B : Type 0} {Good : T → Type 0} (f : A → B) (g : B → A) (r : Rule Good A) → ((x : A) → g (f x) ≡ x) → ((y : B) → y ≡ f (g y))
-    → IsRule Good (f <$> r.read) (λ y. r.Spelled (g y)) (λ y. r.Next (g y)) (λ y. r.Within (g y)) r.Deep
-viewed f g r same back = mapped f r (λ y. r.Spelled (g y)) (λ y. r.Next (g y)) (λ y. r.Within (g y)) r.Deep (record {
+pub viewed : {E T A B : Type 0} {Good : T → Type 0} (f : A → B) (g : B → A) (r : Rule E Good A) → ((x : A) → g (f x) ≡ x) → ((y : B) → y ≡ f (g y))
+    → IsRule E Good (f <$> r.read) (λ y. r.Spelled (g y)) (λ y. r.Next (g y)) (λ y. r.Within (g y)) r.Unfit
+viewed f g r same back = mapped f r (λ y. r.Spelled (g y)) (λ y. r.Next (g y)) (λ y. r.Within (g y)) r.Unfit (record {
   there = λ x ts s. subst (λ z. r.Spelled z ts) (sym (same x)) s;
   back = λ y ts s. (g y, back y, s);
   follow = λ x rest next. subst (λ z. r.Next z rest) (same x) next;
   within = λ x w. subst r.Within (sym (same x)) w;
   apart = λ x w. subst r.Within (same x) w;
   first = λ ts d. d;
-  deep = λ ts d. d;
+  unfit = λ ts d. d;
 })
 
 -- the form of what is made of what a rule spells
@@ -159,23 +159,23 @@ abbrev pub Made : {T A B : Type 0} → (A → B) → (A → Form T) → B → Fo
 Made {A = A} f Spelled y ts = (x : A) × (y ≡ f x) × Spelled x ts
 
 -- what is made of what is read
-pub made-rule : {T A B : Type 0} {Good : T → Type 0} (f : A → B) (r : Rule Good A) (Next : B → Form T) (Within : B → Type 0)
+pub made-rule : {E T A B : Type 0} {Good : T → Type 0} (f : A → B) (r : Rule E Good A) (Next : B → Form T) (Within : B → Type 0)
     → ((x : A) (rest : List T) → Next (f x) rest → r.Next x rest) → ((x : A) → r.Within x → Within (f x)) → ((x : A) → Within (f x) → r.Within x)
-    → IsRule Good (f <$> r.read) (Made f r.Spelled) Next Within r.Deep
-made-rule f r Next Within follow to from = mapped f r (Made f r.Spelled) Next Within r.Deep (record {
+    → IsRule E Good (f <$> r.read) (Made f r.Spelled) Next Within r.Unfit
+made-rule f r Next Within follow to from = mapped f r (Made f r.Spelled) Next Within r.Unfit (record {
   there = λ x ts s. (x, refl, s);
   back = λ y ts s. s;
   follow = follow;
   within = to;
   apart = from;
   first = λ ts d. d;
-  deep = λ ts d. d;
+  unfit = λ ts d. d;
 })
 
 -- ---- a choice
 
 -- how the whole is what is made of the one or of the other: a test of the next thing tells which
-pub record IsEither {T A B C : Type 0} {Good : T → Type 0} (test : T → Bool) (f : A → C) (a : Rule Good A) (g : B → C) (b : Flat Good B)
+pub record IsEither {E T A B C : Type 0} {Good : T → Type 0} (test : T → Bool) (f : A → C) (a : Rule E Good A) (g : B → C) (b : Flat E Good B)
     (Whole Next : C → Form T) (Within : C → Type 0) : Type 0 where
   pub one : (x : A) (ts : List T) → a.Spelled x ts → Whole (f x) ts
   pub other : (y : B) (ts : List T) → b.Spelled y ts → Whole (g y) ts
@@ -183,18 +183,18 @@ pub record IsEither {T A B C : Type 0} {Good : T → Type 0} (test : T → Bool)
   pub one_next : (x : A) (rest : List T) → Next (f x) rest → a.Next x rest
   pub other_next : (y : B) (rest : List T) → Next (g y) rest → b.Next y rest
   pub one_begins : (x : A) (front rest : List T) → a.Spelled x front → tells test false (front ++ rest) ≡ true
-  pub deep_begins : (front rest : List T) → a.Deep front → tells test false (front ++ rest) ≡ true
+  pub unfit_begins : (front rest : List T) → a.Unfit front → tells test false (front ++ rest) ≡ true
   pub other_begins : (y : B) (front rest : List T) → b.Spelled y front → Next (g y) rest → tells test false (front ++ rest) ≡ false
   pub within_one : (x : A) → Within (f x) → a.Within x
   pub one_within : (x : A) → a.Within x → Within (f x)
   pub other_within : (y : B) → Within (g y)
 
 -- what is made of the one rule where a test of the next thing holds, and else of the other
-pub either-rule : {T A B C : Type 0} {Good : T → Type 0} (test : T → Bool) (f : A → C) (a : Rule Good A) (g : B → C) (b : Flat Good B)
+pub either-rule : {E T A B C : Type 0} {Good : T → Type 0} (test : T → Bool) (f : A → C) (a : Rule E Good A) (g : B → C) (b : Flat E Good B)
     (Whole Next : C → Form T) (Within : C → Type 0) → IsEither test f a g b Whole Next Within
-    → IsRule Good (choose test false (f <$> a.read) (g <$> b.read)) Whole Next Within a.Deep
-either-rule {T} {A} {B} {C} {Good} test f a g b Whole Next Within is =
-    choose-rule Good test false (f <$> a.read) (g <$> b.read) (Made f a.Spelled) Next a.Deep (Made g b.Spelled) Next Never Whole Next Within a.Deep
+    → IsRule E Good (choose test false (f <$> a.read) (g <$> b.read)) Whole Next Within a.Unfit
+either-rule {E} {T} {A} {B} {C} {Good} test f a g b Whole Next Within is =
+    choose-rule Good test false (f <$> a.read) (g <$> b.read) (Made f a.Spelled) Next a.Unfit (Made g b.Spelled) Next Never Whole Next Within a.Unfit
     (record {
       one = λ z ts s. subst (λ y. Whole y ts) (sym s.1) (is.one s.0 ts s.2);
       other = λ z ts s. subst (λ y. Whole y ts) (sym s.1) (is.other s.0 ts s.2);
@@ -203,20 +203,20 @@ either-rule {T} {A} {B} {C} {Good} test f a g b Whole Next Within is =
       other_next = λ z front rest s next. next;
       one_begins = λ z front rest s next. is.one_begins s.0 front rest s.2;
       other_begins = λ z front rest s next. is.other_begins s.0 front rest s.2 (subst (λ y. Next y rest) s.1 next);
-      one_deep = λ ts d. d;
-      other_deep = λ ts d. absurd d;
-      which_deep = λ ts d. inl d;
-      one_deep_begins = is.deep_begins;
-      other_deep_begins = λ front rest d. absurd d;
+      one_unfit = λ ts d. d;
+      other_unfit = λ ts d. absurd d;
+      which_unfit = λ ts d. inl d;
+      one_unfit_begins = is.unfit_begins;
+      other_unfit_begins = λ front rest d. absurd d;
     })
     (made-rule f a Next Within is.one_next is.one_within is.within_one)
     (made-rule g (of_flat b) Next Within is.other_next (λ y w. is.other_within y) (λ y w. tt))
 
 -- what a flat rule reads, where a test of the next thing holds
-pub optional-rule : {T A : Type 0} {Good : T → Type 0} (test : T → Bool) (a : Flat Good A)
+pub optional-rule : {E T A : Type 0} {Good : T → Type 0} (test : T → Bool) (a : Flat E Good A)
     → ((x : A) (front rest : List T) → a.Spelled x front → tells test false (front ++ rest) ≡ true) → ((x : A) (rest : List T) → a.Next x rest)
-    → IsRule Good (optional test a.read) (Optional a.Spelled) (λ _ rest. tells test false rest ≡ false) (λ _. Unit {0}) Never
-optional-rule {T} {A} {Good} test a begins next =
+    → IsRule E Good (optional test a.read) (Optional a.Spelled) (λ _ rest. tells test false rest ≡ false) (λ _. Unit {0}) Never
+optional-rule {E} {T} {A} {Good} test a begins next =
     either-rule test Some (of_flat a) (λ _. None) (as_flat (pure-rule {A = Unit {0}} Good (λ _. Unit {0}) tt tt)) (Optional a.Spelled) (λ _ rest. tells test false rest ≡ false) (λ _. Unit {0})
     (record {
       one = λ x ts s. s;
@@ -225,7 +225,7 @@ optional-rule {T} {A} {Good} test a begins next =
       one_next = λ x rest _. next x rest;
       other_next = λ u rest _. tt;
       one_begins = begins;
-      deep_begins = λ front rest d. absurd d;
+      unfit_begins = λ front rest d. absurd d;
       other_begins = λ u front rest s after. subst (λ l. tells test false (l ++ rest) ≡ false) (sym s.1) after;
       within_one = λ x w. tt;
       one_within = λ x w. tt;
@@ -238,21 +238,21 @@ optional-rule {T} {A} {Good} test a begins next =
 
 -- ---- what takes a thing at least
 
-pub shrinks : {T A : Type 0} {Good : T → Type 0} {lead : T → Bool} {Deep : Form T} (r : Rule Good A) → Begins lead r.Spelled Deep → Shrinks r.read
+pub shrinks : {E T A : Type 0} {Good : T → Type 0} {lead : T → Bool} {Unfit : Form T} (r : Rule E Good A) → Begins lead r.Spelled Unfit → Shrinks r.read
 shrinks {Good = Good} {lead = lead} r begins =
-    shrinks-rule Good r.read r.Spelled r.Next r.Within r.Deep (λ x front s. begins-filled lead front (begins.item x front [] s)) r.is
+    shrinks-rule Good r.read r.Spelled r.Next r.Within r.Unfit (λ x front s. begins-filled lead front (begins.item x front [] s)) r.is
 
 -- a rule where less may follow, and one with another form of the same
-pub fewer : {T A : Type 0} {Good : T → Type 0} (r : Rule Good A) (Next : A → Form T) → ((x : A) (rest : List T) → Next x rest → r.Next x rest)
-    → IsRule Good r.read r.Spelled Next r.Within r.Deep
+pub fewer : {E T A : Type 0} {Good : T → Type 0} (r : Rule E Good A) (Next : A → Form T) → ((x : A) (rest : List T) → Next x rest → r.Next x rest)
+    → IsRule E Good r.read r.Spelled Next r.Within r.Unfit
 fewer {Good = Good} r Next follow =
-    same-rule Good r.read r.Spelled r.Next r.Within r.Deep r.Spelled Next r.Within r.Deep
-    (record { there = λ x ts s. s; back = λ x ts s. s; follow = follow; within = λ x w. w; apart = λ x w. w; first = λ ts d. d; deep = λ ts d. d })
+    same-rule Good r.read r.Spelled r.Next r.Within r.Unfit r.Spelled Next r.Within r.Unfit
+    (record { there = λ x ts s. s; back = λ x ts s. s; follow = follow; within = λ x w. w; apart = λ x w. w; first = λ ts d. d; unfit = λ ts d. d })
     r.is
 
-pub respelled : {T A : Type 0} {Good : T → Type 0} (r : Rule Good A) (Whole : A → Form T) → ((x : A) (ts : List T) → r.Spelled x ts → Whole x ts)
-    → ((x : A) (ts : List T) → Whole x ts → r.Spelled x ts) → IsRule Good r.read Whole r.Next r.Within r.Deep
+pub respelled : {E T A : Type 0} {Good : T → Type 0} (r : Rule E Good A) (Whole : A → Form T) → ((x : A) (ts : List T) → r.Spelled x ts → Whole x ts)
+    → ((x : A) (ts : List T) → Whole x ts → r.Spelled x ts) → IsRule E Good r.read Whole r.Next r.Within r.Unfit
 respelled {Good = Good} r Whole there back =
-    same-rule Good r.read r.Spelled r.Next r.Within r.Deep Whole r.Next r.Within r.Deep
-    (record { there = there; back = back; follow = λ x rest next. next; within = λ x w. w; apart = λ x w. w; first = λ ts d. d; deep = λ ts d. d })
+    same-rule Good r.read r.Spelled r.Next r.Within r.Unfit Whole r.Next r.Within r.Unfit
+    (record { there = there; back = back; follow = λ x rest next. next; within = λ x w. w; apart = λ x w. w; first = λ ts d. d; unfit = λ ts d. d })
     r.is

@@ -6,29 +6,29 @@ use Rattle.tydi_reading.specs.Lists.{EachIs, Separated, SeparatedTo, LastSeparat
 use Rattle.tydi_reading.specs.Reading.{Reader, Turn, tells, ◌<$>◌}
 use Rattle.tydi_reading.specs.Rules.{IsRule}
 use Rattle.tydi_reading.proofs.MarkLemmas.{IsMark}
-use Rattle.tydi_reading.proofs.RepeatedRule.{Adds, AddsOne, Repeats, adds_deep, runs_deep, last-same, EachIs-push, EachIs-pop}
+use Rattle.tydi_reading.proofs.RepeatedRule.{Adds, AddsOne, Repeats, adds_unfit, runs_unfit, last-same, EachIs-push, EachIs-pop}
 use Rattle.tydi_reading.proofs.StepsRule.{Separates, TurnOf, steps-rule}
 use Rattle.tydi_reading.proofs.StepRules.{map-rule, same-rule}
 
 -- items of the rule may stand with such separators between them up to where the test holds
-pub record Between {T A : Type 0} (Good : T → Type 0) (test : T → Bool) (last : Bool) (separates : T → Bool) (Separator : Form T) (Item : A → Form T) (ItemNext : Form T) (Deep : Form T) : Type 0 where
+pub record Between {T A : Type 0} (Good : T → Type 0) (test : T → Bool) (last : Bool) (separates : T → Bool) (Separator : Form T) (Item : A → Form T) (ItemNext : Form T) (Unfit : Form T) : Type 0 where
   pub mark : IsMark Good separates Separator
-  pub repeats : Repeats test last Item Deep
+  pub repeats : Repeats test last Item Unfit
   pub before_end : (rest : List T) → tells test last rest ≡ true → ItemNext rest
   pub before_separator : (t : T) (rest : List T) → separates t ≡ true → ItemNext (t ∷ rest)
   pub apart : (rest : List T) → tells test last rest ≡ true → tells separates false rest ≡ false
 
-module _ {T A : Type 0} (Good : T → Type 0) (test : T → Bool) (last : Bool) (separates : T → Bool) (Separator : Form T) (item : Reader T A) (Item : A → Form T) (ItemNext : Form T)
-    (Within : A → Type 0) (Deep : Form T) (between : Between Good test last separates Separator Item ItemNext Deep) (rule : IsRule Good item Item (λ _. ItemNext) Within Deep) where
+module _ {E T A : Type 0} (Good : T → Type 0) (test : T → Bool) (last : Bool) (separates : T → Bool) (Separator : Form T) (item : Reader E T A) (Item : A → Form T) (ItemNext : Form T)
+    (Within : A → Type 0) (Unfit : Form T) (between : Between Good test last separates Separator Item ItemNext Unfit) (rule : IsRule E Good item Item (λ _. ItemNext) Within Unfit) where
   abbrev Push : List A → List A → Form T
   Push found next ts = (x : A) × (next ≡ found ++ x ∷ []) × Item x ts
 
   abbrev PushWithin : List A → List A → Type 0
   PushWithin found next = (x : A) → next ≡ found ++ x ∷ [] → Within x
 
-  push-rule : (found : List A) → IsRule Good ((λ x. found ++ x ∷ []) <$> item) (Push found) (λ _. ItemNext) (PushWithin found) Deep
+  push-rule : (found : List A) → IsRule E Good ((λ x. found ++ x ∷ []) <$> item) (Push found) (λ _. ItemNext) (PushWithin found) Unfit
   push-rule found =
-      map-rule Good (λ x. found ++ x ∷ []) item Item (λ _. ItemNext) Within Deep (Push found) (λ _. ItemNext) (PushWithin found) Deep
+      map-rule Good (λ x. found ++ x ∷ []) item Item (λ _. ItemNext) Within Unfit (Push found) (λ _. ItemNext) (PushWithin found) Unfit
       (record {
         there = λ x ts s. (x, refl, s);
         back = λ t ts s. s;
@@ -36,7 +36,7 @@ module _ {T A : Type 0} (Good : T → Type 0) (test : T → Bool) (last : Bool) 
         within = λ x w. λ y is. subst Within (last-same found x y is) w;
         apart = λ x w. w x refl;
         first = λ ts d. d;
-        deep = λ ts d. d;
+        unfit = λ ts d. d;
       })
       rule
 
@@ -48,12 +48,12 @@ module _ {T A : Type 0} (Good : T → Type 0) (test : T → Bool) (last : Bool) 
       let both = EachIs-pop Within found p.0 (subst (EachIs Within) p.1 each) in
       ((λ y same. subst Within (last-same found p.0 y (sym p.1 ∙ same)) both.1), both.0)
 
-  separates-items : Separates Good test last separates Separator Push (λ _. ItemNext) PushWithin (λ _. Deep) (EachIs Within)
+  separates-items : Separates Good test last separates Separator Push (λ _. ItemNext) PushWithin (λ _. Unfit) (EachIs Within)
   separates-items = record {
     mark = between.mark;
     filled = λ found next front p. between.repeats.filled p.0 front p.2;
     starts = λ found next front rest p. between.repeats.starts p.0 front rest p.2;
-    starts_deep = λ found front rest d. between.repeats.starts_deep front rest d;
+    starts_unfit = λ found front rest d. between.repeats.starts_unfit front rest d;
     before_end = λ next rest stop. between.before_end rest stop;
     before_separator = λ next t rest is. between.before_separator t rest is;
     apart = between.apart;
@@ -63,7 +63,7 @@ module _ {T A : Type 0} (Good : T → Type 0) (test : T → Bool) (last : Bool) 
   }
 
   abbrev Turning : List A → Turn (List A) → Form T
-  Turning = TurnOf Good test last separates Separator (λ found. (λ x. found ++ x ∷ []) <$> item) Push (λ _. ItemNext) PushWithin (λ _. Deep) (EachIs Within) separates-items (λ found. inl (push-rule found))
+  Turning = TurnOf Good test last separates Separator (λ found. (λ x. found ++ x ∷ []) <$> item) Push (λ _. ItemNext) PushWithin (λ _. Unfit) (EachIs Within) separates-items (λ found. inl (push-rule found))
 
   -- ---- the list
 
@@ -137,18 +137,18 @@ module _ {T A : Type 0} (Good : T → Type 0) (test : T → Bool) (last : Bool) 
   }
 
   -- items with separators up to where the test holds
-  pub separated-rule : IsRule Good (separated test last separates item) (Separated Separator Item) (λ _ rest. tells test last rest ≡ true) (EachIs Within) (SeparatedTo Separator Item Deep)
+  pub separated-rule : IsRule E Good (separated test last separates item) (Separated Separator Item) (λ _ rest. tells test last rest ≡ true) (EachIs Within) (SeparatedTo Separator Item Unfit)
   unfolding separated
   separated-rule =
       same-rule Good (steps test last separates (λ found. (λ x. found ++ x ∷ []) <$> item) []) (Loop Turning []) (λ _ rest. tells test last rest ≡ true) (EachIs Within)
-      (LoopTo Turning (λ _. Deep) []) (Separated Separator Item) (λ _ rest. tells test last rest ≡ true) (EachIs Within) (SeparatedTo Separator Item Deep)
+      (LoopTo Turning (λ _. Unfit) []) (Separated Separator Item) (λ _ rest. tells test last rest ≡ true) (EachIs Within) (SeparatedTo Separator Item Unfit)
       (record {
         there = λ items ts s. let a = adds s.0 [] items ts s.1 in subst (λ l. Separated Separator Item l ts) (sym a.added) a.spelled;
         back = λ items ts s. runs items [] ts s;
         follow = λ items rest next. next;
         within = λ items each. each;
         apart = λ items each. each;
-        first = λ ts d. adds_deep adds_one d.0 [] ts d.1;
-        deep = λ ts d. runs_deep adds_one d.0 [] d.1.front d.1.back ts d.1.all d.1.begins d.1.ends;
+        first = λ ts d. adds_unfit adds_one d.0 [] ts d.1;
+        unfit = λ ts d. runs_unfit adds_one d.0 [] d.1.front d.1.back ts d.1.all d.1.begins d.1.ends;
       })
-      (steps-rule Good test last separates Separator (λ found. (λ x. found ++ x ∷ []) <$> item) Push (λ _. ItemNext) PushWithin (λ _. Deep) (EachIs Within) separates-items (λ found. inl (push-rule found)) [] tt)
+      (steps-rule Good test last separates Separator (λ found. (λ x. found ++ x ∷ []) <$> item) Push (λ _. ItemNext) PushWithin (λ _. Unfit) (EachIs Within) separates-items (λ found. inl (push-rule found)) [] tt)

@@ -20,12 +20,12 @@ All-back P all [] back is each = subst (All P) is each
 All-back P all (x ∷ front) back is each = All-back P (front ++ back) front back refl (All-tail P x (front ++ back) (subst (All P) is each))
 
 -- what was read stays where the next thing stays
-pub lookahead : {T A : Type 0} (p : Reader T A) (ts rest : List T) (x : A) (l : Local p ts (took x rest)) (front after more : List T) (next : T)
+pub lookahead : {E T A : Type 0} (p : Reader E T A) (ts rest : List T) (x : A) (l : Local p ts (took x rest)) (front after more : List T) (next : T)
     → rest ≡ front ++ next ∷ after → p (l.front ++ (front ++ next ∷ more)) ≡ took x (front ++ next ∷ more)
 lookahead p ts rest x l [] after more next is = l.stays next after more is
 lookahead p ts rest x l (v ∷ front) after more next is = l.stays v (front ++ next ∷ after) (front ++ next ∷ more) is
 
-pub local-then : {T A B : Type 0} (p : Reader T A) (f : A → Reader T B) (ts : List T) (made : Outcome T A) → Local p ts made
+pub local-then : {E T A B : Type 0} (p : Reader E T A) (f : A → Reader E T B) (ts : List T) (made : Outcome E T A) → Local p ts made
     → ((x : A) (rest : List T) → made ≡ took x rest → Local (f x) rest (f x rest)) → Local (p >>= f) ts (and_then made f)
 local-then p f ts (stopped e rest) l next = record {
   front = l.front;
@@ -43,7 +43,7 @@ local-then p f ts (took x rest) l next =
           ap (p >>= f) (append_assoc l.front m.front (u ∷ more)) ∙ ap (λ o. and_then o f) one ∙ m.stays u after more is;
     }
 
-pub local-same : {T A : Type 0} (p q : Reader T A) (ts : List T) → ((us : List T) → p us ≡ q us) → Local p ts (p ts) → Local q ts (q ts)
+pub local-same : {E T A : Type 0} (p q : Reader E T A) (ts : List T) → ((us : List T) → p us ≡ q us) → Local p ts (p ts) → Local q ts (q ts)
 local-same p q ts same l = record {
   front = l.front;
   split = l.split ∙ ap (λ o. l.front ++ left o) (same ts);
@@ -51,14 +51,14 @@ local-same p q ts same l = record {
 }
 
 -- a fault is a fault, whatever was to be read
-pub stopped-same : {T A B : Type 0} (a e : Fault) (ts rest : List T) → ◌≡◌ {A = Outcome T A} (stopped a ts) (stopped e rest)
-    → ◌≡◌ {A = Outcome T B} (stopped a ts) (stopped e rest)
+pub stopped-same : {E T A B : Type 0} (a e : Fault E) (ts rest : List T) → ◌≡◌ {A = Outcome E T A} (stopped a ts) (stopped e rest)
+    → ◌≡◌ {A = Outcome E T B} (stopped a ts) (stopped e rest)
 stopped-same a e ts rest is = cc
 
 module _ {T A B : Type 0} (Spelled : A → Form T) (Second : A → B → Form T) (Whole : B → Form T)
     (join : (x : A) (y : B) (front back : List T) → Spelled x front → Second x y back → Whole y (front ++ back)) where
-  pub sound-then : (Within : A → Type 0) (Inside : A → B → Type 0) (All : B → Type 0)
-      → ((x : A) (y : B) (back : List T) → Second x y back → Within x → Inside x y → All y) → (f : A → Reader T B) (ts : List T) (made : Outcome T A)
+  pub sound-then : {E : Type 0} → (Within : A → Type 0) (Inside : A → B → Type 0) (All : B → Type 0)
+      → ((x : A) (y : B) (back : List T) → Second x y back → Within x → Inside x y → All y) → (f : A → Reader E T B) (ts : List T) (made : Outcome E T A)
       → ((rest : List T) (x : A) → made ≡ took x rest → Found Spelled Within ts rest x)
       → ((middle rest : List T) (x : A) (y : B) → made ≡ took x middle → f x middle ≡ took y rest → Found (Second x) (Inside x) middle rest y)
       → (rest : List T) (y : B) → and_then made f ≡ took y rest → Found Whole All ts rest y
@@ -93,55 +93,55 @@ module _ {T A B : Type 0} (Spelled : A → Form T) (Second : A → B → Form T)
       spelled = subst (Whole goes.value) (sym (append_assoc front back goes.more)) (join x goes.value front (back ++ goes.more) spelled goes.spelled);
     }
 
-    finishes-first : (First Deep : Form T) → ((front : List T) → First front → Deep front) → ((x : A) → GoesOn Good (Second x) [])
-        → (ts rest : List T) (e : Fault) → Finishes Good Spelled First ts rest e → Finishes Good Whole Deep ts rest e
-    finishes-first First Deep deep examples ts rest faults.Refused c = record { front = c.front; split = c.split; goes = goes-first c.front examples c.goes }
-    finishes-first First Deep deep examples ts rest faults.TooDeep c = record {
+    finishes-first : {E : Type 0} → (First Unfit : Form T) → ((front : List T) → First front → Unfit front) → ((x : A) → GoesOn Good (Second x) [])
+        → (ts rest : List T) (e : Fault E) → Finishes Good Spelled First ts rest e → Finishes Good Whole Unfit ts rest e
+    finishes-first First Unfit unfit examples ts rest faults.Refused c = record { front = c.front; split = c.split; goes = goes-first c.front examples c.goes }
+    finishes-first First Unfit unfit examples ts rest (faults.Unfit why) c = record {
       front = c.front;
       next = c.next;
       after = c.after;
       split = c.split;
       begins = c.begins;
-      deep = deep c.front c.deep;
+      unfit = unfit c.front c.unfit;
       goes = goes-first (c.front ++ c.next ∷ []) examples c.goes;
     }
-    finishes-first First Deep deep examples ts rest faults.Memory c = c
+    finishes-first First Unfit unfit examples ts rest faults.Memory c = c
 
-    finishes-second : (Last : A → Form T) (Deep : Form T) → ((x : A) (front back : List T) → Spelled x front → Last x back → Deep (front ++ back))
-        → (x : A) (ts front middle rest : List T) (e : Fault) → ts ≡ front ++ middle → Spelled x front
-        → Finishes Good (Second x) (Last x) middle rest e → Finishes Good Whole Deep ts rest e
-    finishes-second Last Deep deep x ts front middle rest faults.Refused split spelled c = record {
+    finishes-second : {E : Type 0} → (Last : A → Form T) (Unfit : Form T) → ((x : A) (front back : List T) → Spelled x front → Last x back → Unfit (front ++ back))
+        → (x : A) (ts front middle rest : List T) (e : Fault E) → ts ≡ front ++ middle → Spelled x front
+        → Finishes Good (Second x) (Last x) middle rest e → Finishes Good Whole Unfit ts rest e
+    finishes-second Last Unfit unfit x ts front middle rest faults.Refused split spelled c = record {
       front = front ++ c.front;
       split = split ∙ ap (λ r. front ++ r) c.split ∙ sym (append_assoc front c.front rest);
       goes = goes-second x front c.front spelled c.goes;
     }
-    finishes-second Last Deep deep x ts front middle rest faults.TooDeep split spelled c = record {
+    finishes-second Last Unfit unfit x ts front middle rest (faults.Unfit why) split spelled c = record {
       front = front ++ c.front;
       next = c.next;
       after = c.after;
       split = split ∙ ap (λ r. front ++ r) c.split ∙ sym (append_assoc front c.front rest);
       begins = c.begins;
-      deep = deep x front c.front spelled c.deep;
+      unfit = unfit x front c.front spelled c.unfit;
       goes = subst (GoesOn Good Whole) (sym (append_assoc front c.front (c.next ∷ []))) (goes-second x front (c.front ++ c.next ∷ []) spelled c.goes);
     }
-    finishes-second Last Deep deep x ts front middle rest faults.Memory split spelled c = c
+    finishes-second Last Unfit unfit x ts front middle rest faults.Memory split spelled c = c
 
-    pub finishes-then : (Within : A → Type 0) (First : Form T) (Last : A → Form T) (Deep : Form T)
-        → ((front : List T) → First front → Deep front)
-        → ((x : A) (front back : List T) → Spelled x front → Last x back → Deep (front ++ back))
+    pub finishes-then : {E : Type 0} → (Within : A → Type 0) (First : Form T) (Last : A → Form T) (Unfit : Form T)
+        → ((front : List T) → First front → Unfit front)
+        → ((x : A) (front back : List T) → Spelled x front → Last x back → Unfit (front ++ back))
         → ((x : A) → GoesOn Good (Second x) [])
-        → (f : A → Reader T B) (ts : List T) (made : Outcome T A)
+        → (f : A → Reader E T B) (ts : List T) (made : Outcome E T A)
         → ((rest : List T) (x : A) → made ≡ took x rest → Found Spelled Within ts rest x)
-        → ((rest : List T) (e : Fault) → made ≡ stopped e rest → Finishes Good Spelled First ts rest e)
-        → ((middle rest : List T) (x : A) (e : Fault) → made ≡ took x middle → f x middle ≡ stopped e rest → Finishes Good (Second x) (Last x) middle rest e)
-        → (rest : List T) (e : Fault) → and_then made f ≡ stopped e rest → Finishes Good Whole Deep ts rest e
-    finishes-then Within First Last Deep first last examples f ts (stopped a middle) found one two rest e is =
-        finishes-first First Deep first examples ts rest e (one rest e (stopped-same a e middle rest is))
-    finishes-then Within First Last Deep first last examples f ts (took x middle) found one two rest e is =
+        → ((rest : List T) (e : Fault E) → made ≡ stopped e rest → Finishes Good Spelled First ts rest e)
+        → ((middle rest : List T) (x : A) (e : Fault E) → made ≡ took x middle → f x middle ≡ stopped e rest → Finishes Good (Second x) (Last x) middle rest e)
+        → (rest : List T) (e : Fault E) → and_then made f ≡ stopped e rest → Finishes Good Whole Unfit ts rest e
+    finishes-then Within First Last Unfit first last examples f ts (stopped a middle) found one two rest e is =
+        finishes-first First Unfit first examples ts rest e (one rest e (stopped-same a e middle rest is))
+    finishes-then Within First Last Unfit first last examples f ts (took x middle) found one two rest e is =
         let a = found middle x refl in
-        finishes-second Last Deep last x ts a.front middle rest e a.split a.spelled (two middle rest x e refl is)
+        finishes-second Last Unfit last x ts a.front middle rest e a.split a.spelled (two middle rest x e refl is)
 
-module _ {T A B : Type 0} (p : Reader T A) (f : A → Reader T B) (x : A) (front back rest : List T) where
+module _ {E T A B : Type 0} (p : Reader E T A) (f : A → Reader E T B) (x : A) (front back rest : List T) where
   pub complete-then : (Within : A → Type 0) (Inside : B → Type 0) (All : B → Type 0) (y : B) → (All y → Within x × Inside y)
       → Reached Within (back ++ rest) x (p (front ++ (back ++ rest))) → Reached Inside rest y (f x (back ++ rest))
       → Reached All rest y ((p >>= f) ((front ++ back) ++ rest))
@@ -150,9 +150,10 @@ module _ {T A B : Type 0} (p : Reader T A) (f : A → Reader T B) (x : A) (front
       (⊎_elim
       (λ is. ⊎_elim
       (λ other. inl (ap (λ o. and_then o f) is ∙ other))
-      (λ far. inr (record { at = far.at; is = ap (λ o. and_then o f) is ∙ far.is; before = far.before; beyond = λ all. far.beyond (apart all).1 }))
+      (λ far. inr (record { why = far.why; at = far.at; is = ap (λ o. and_then o f) is ∙ far.is; before = far.before; beyond = λ all. far.beyond (apart all).1 }))
       two)
       (λ far. inr (record {
+        why = far.why;
         at = far.at;
         is = ap (λ o. and_then o f) far.is;
         before = let sum = length-append back rest in let much = far.before in omega arith;
@@ -167,12 +168,12 @@ module _ {T A B : Type 0} (p : Reader T A) (f : A → Reader T B) (x : A) (front
       (⊎_elim
       (λ is. record { fault = two.fault; at = two.at; is = ap (λ o. and_then o f) is ∙ two.is; before = two.before })
       (λ far. record {
-        fault = faults.TooDeep;
+        fault = faults.Unfit far.why;
         at = far.at;
         is = ap (λ o. and_then o f) far.is;
         before = let sum = length-append back rest in let much = far.before in omega arith;
       })
       one)
 
-pub stops-first : {T A B : Type 0} (f : A → Reader T B) (rest : List T) (made : Outcome T A) → Stops rest made → Stops rest (and_then made f)
+pub stops-first : {E T A B : Type 0} (f : A → Reader E T B) (rest : List T) (made : Outcome E T A) → Stops rest made → Stops rest (and_then made f)
 stops-first f rest made s = record { fault = s.fault; at = s.at; is = ap (λ o. and_then o f) s.is; before = s.before }

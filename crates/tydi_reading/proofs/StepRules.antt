@@ -12,18 +12,18 @@ use Rattle.tydi_reading.proofs.StepLemmas.{All-front, All-back, local-then, soun
 
 -- ---- what takes nothing
 
-took-pair : {T A : Type 0} (x y : A) (ts rest : List T) → ◌≡◌ {A = Outcome T A} (took x ts) (took y rest) → (x ≡ y) × (ts ≡ rest)
+took-pair : {E T A : Type 0} (x y : A) (ts rest : List T) → ◌≡◌ {A = Outcome E T A} (took x ts) (took y rest) → (x ≡ y) × (ts ≡ rest)
 took-pair x y ts rest is = (cc, cc)
 
-stopped-pair : {T A : Type 0} (a e : Fault) (ts rest : List T) → ◌≡◌ {A = Outcome T A} (stopped a ts) (stopped e rest) → (a ≡ e) × (ts ≡ rest)
+stopped-pair : {E T A : Type 0} (a e : Fault E) (ts rest : List T) → ◌≡◌ {A = Outcome E T A} (stopped a ts) (stopped e rest) → (a ≡ e) × (ts ≡ rest)
 stopped-pair a e ts rest is = (cc, cc)
 
 -- the form of what takes nothing
 abbrev pub Only : {T A : Type 0} → A → A → Form T
 Only x y ts = (y ≡ x) × (ts ≡ [])
 
-pub pure-rule : {T A : Type 0} (Good : T → Type 0) (Within : A → Type 0) (x : A) → Within x → IsRule Good (pure x) (Only x) (λ _. Anything) Within Never
-pure-rule {T} {A} Good Within x within = record {
+pub pure-rule : {E T A : Type 0} (Good : T → Type 0) (Within : A → Type 0) (x : A) → Within x → IsRule E Good (pure x) (Only x) (λ _. Anything) Within Never
+pure-rule {E} {T} {A} Good Within x within = record {
   example = record { value = x; more = []; good = All-nil Good; spelled = (refl, refl) };
   local = λ ts. record { front = []; split = refl; stays = λ next after more is. refl };
   sound = λ ts rest y is.
@@ -34,14 +34,14 @@ pure-rule {T} {A} Good Within x within = record {
   stops = λ front rest _ d. absurd d;
 }
   where
-    differ : (ts rest : List T) (e : Fault) → ◌≡◌ {A = Outcome T A} (took x ts) (stopped e rest) → ⊥
+    differ : (ts rest : List T) (e : Fault E) → ◌≡◌ {A = Outcome E T A} (took x ts) (stopped e rest) → ⊥
     differ ts rest e is = cc
 
 -- ---- readers that read the same
 
-pub read-rule : {T A : Type 0} (Good : T → Type 0) (p q : Reader T A) (Spelled : A → Form T) (Next : A → Form T) (Within : A → Type 0) (Deep : Form T)
-    → ((ts : List T) → p ts ≡ q ts) → IsRule Good p Spelled Next Within Deep → IsRule Good q Spelled Next Within Deep
-read-rule Good p q Spelled Next Within Deep same rule = subst (λ r. IsRule Good r Spelled Next Within Deep) (λ i. λ ts. same ts i) rule
+pub read-rule : {E T A : Type 0} (Good : T → Type 0) (p q : Reader E T A) (Spelled : A → Form T) (Next : A → Form T) (Within : A → Type 0) (Unfit : Form T)
+    → ((ts : List T) → p ts ≡ q ts) → IsRule E Good p Spelled Next Within Unfit → IsRule E Good q Spelled Next Within Unfit
+read-rule {E = E} Good p q Spelled Next Within Unfit same rule = subst (λ r. IsRule E Good r Spelled Next Within Unfit) (λ i. λ ts. same ts i) rule
 
 -- ---- one thing
 
@@ -54,9 +54,9 @@ pub record IsLeaf {T A : Type 0} (Good : T → Type 0) (meaning : T → Option A
   pub there : (x : A) (t : T) → meaning t ≡ Some x → Spelled x (t ∷ [])
   pub back : (x : A) (ts : List T) → All Good ts → Spelled x ts → (t : T) × (ts ≡ t ∷ []) × (meaning t ≡ Some x)
 
-pub leaf-rule : {T A : Type 0} (Good : T → Type 0) (meaning : T → Option A) (Spelled : A → Form T) (thing : T) (x : A) → Good thing → meaning thing ≡ Some x
-    → IsLeaf Good meaning Spelled → IsRule Good (leaf meaning) Spelled (λ _. Anything) (λ _. Unit {0}) Never
-leaf-rule {T} {A} Good meaning Spelled thing x good means is_leaf = record {
+pub leaf-rule : {E T A : Type 0} (Good : T → Type 0) (meaning : T → Option A) (Spelled : A → Form T) (thing : T) (x : A) → Good thing → meaning thing ≡ Some x
+    → IsLeaf Good meaning Spelled → IsRule E Good (leaf meaning) Spelled (λ _. Anything) (λ _. Unit {0}) Never
+leaf-rule {E} {T} {A} Good meaning Spelled thing x good means is_leaf = record {
   example = example;
   local = local;
   sound = λ ts rest y is. sound ts rest y is;
@@ -68,21 +68,21 @@ leaf-rule {T} {A} Good meaning Spelled thing x good means is_leaf = record {
     example : GoesOn Good Spelled []
     example = record { value = x; more = thing ∷ []; good = All-one Good thing good; spelled = is_leaf.there x thing means }
 
-    stays : (t : T) (ts : List T) (made : Option A) → meaning t ≡ made → Local (leaf meaning) (t ∷ ts) (meant made ts (t ∷ ts))
+    stays : (t : T) (ts : List T) (made : Option A) → meaning t ≡ made → Local {E = E} (leaf meaning) (t ∷ ts) (meant made ts (t ∷ ts))
     stays t ts (Some y) is = record { front = t ∷ []; split = refl; stays = λ next after more _. ap (λ m. meant m (next ∷ more) (t ∷ next ∷ more)) is }
     stays t ts None is = record {
       front = [];
       split = refl;
       stays = λ next after more same.
           let head : t ≡ next = cc in
-          subst (λ u. leaf meaning (u ∷ more) ≡ stopped faults.Refused (u ∷ more)) head (ap (λ m. meant m more (t ∷ more)) is);
+          subst (λ u. leaf {E = E} meaning (u ∷ more) ≡ stopped faults.Refused (u ∷ more)) head (ap (λ m. meant m more (t ∷ more)) is);
     }
 
-    local : (ts : List T) → Local (leaf meaning) ts (leaf meaning ts)
+    local : (ts : List T) → Local {E = E} (leaf meaning) ts (leaf meaning ts)
     local [] = record { front = []; split = refl; stays = λ next after more is. absurd (let no : ◌≡◌ {A = List T} [] (next ∷ after) = is in cc) }
     local (t ∷ ts) = stays t ts (meaning t) refl
 
-    found : (t : T) (ts rest : List T) (y : A) (made : Option A) → meaning t ≡ made → meant made ts (t ∷ ts) ≡ took y rest
+    found : (t : T) (ts rest : List T) (y : A) (made : Option A) → meaning t ≡ made → meant {E = E} made ts (t ∷ ts) ≡ took y rest
         → Found Spelled (λ _. Unit {0}) (t ∷ ts) rest y
     found t ts rest y (Some z) means is =
         let both = took-pair z y ts rest is in
@@ -94,21 +94,21 @@ leaf-rule {T} {A} Good meaning Spelled thing x good means is_leaf = record {
         }
     found t ts rest y None means is = absurd cc
 
-    sound : (ts rest : List T) (y : A) → leaf meaning ts ≡ took y rest → Found Spelled (λ _. Unit {0}) ts rest y
+    sound : (ts rest : List T) (y : A) → leaf {E = E} meaning ts ≡ took y rest → Found Spelled (λ _. Unit {0}) ts rest y
     sound [] rest y is = absurd cc
     sound (t ∷ ts) rest y is = found t ts rest y (meaning t) refl is
 
-    cut : (ts rest : List T) (e : Fault) → ◌≡◌ {A = Outcome T A} (stopped faults.Refused ts) (stopped e rest) → Finishes Good Spelled Never ts rest e
+    cut : (ts rest : List T) (e : Fault E) → ◌≡◌ {A = Outcome E T A} (stopped faults.Refused ts) (stopped e rest) → Finishes Good Spelled Never ts rest e
     cut ts rest e is =
         let both = stopped-pair faults.Refused e ts rest is in
         subst (λ a. Finishes Good Spelled Never ts rest a) both.0 (record { front = []; split = both.1; goes = example })
 
-    refused : (t : T) (ts rest : List T) (e : Fault) (made : Option A) → meant made ts (t ∷ ts) ≡ stopped e rest
+    refused : (t : T) (ts rest : List T) (e : Fault E) (made : Option A) → meant made ts (t ∷ ts) ≡ stopped e rest
         → Finishes Good Spelled Never (t ∷ ts) rest e
     refused t ts rest e (Some z) is = absurd cc
     refused t ts rest e None is = cut (t ∷ ts) rest e is
 
-    finishes : (ts rest : List T) (e : Fault) → leaf meaning ts ≡ stopped e rest → Finishes Good Spelled Never ts rest e
+    finishes : (ts rest : List T) (e : Fault E) → leaf meaning ts ≡ stopped e rest → Finishes Good Spelled Never ts rest e
     finishes [] rest e is = cut [] rest e is
     finishes (t ∷ ts) rest e is = refused t ts rest e (meaning t) is
 
@@ -117,25 +117,25 @@ leaf-rule {T} {A} Good meaning Spelled thing x good means is_leaf = record {
 -- how the whole is of the parts
 pub record Joins {T A B : Type 0} (Spelled : A → Form T) (Follow : A → Form T) (Within : A → Type 0) (First : Form T)
     (Second : A → B → Form T) (Follows : A → B → Form T) (Inside : A → B → Type 0) (Last : A → Form T)
-    (Whole : B → Form T) (Next : B → Form T) (All : B → Type 0) (Deep : Form T) : Type 0 where
+    (Whole : B → Form T) (Next : B → Form T) (All : B → Type 0) (Unfit : Form T) : Type 0 where
   pub join : (x : A) (y : B) (front back : List T) → Spelled x front → Second x y back → Whole y (front ++ back)
   pub part : (y : B) (ts : List T) → Whole y ts → (x : A) × ((Spelled x ⋯ Second x y) ts)
   pub follow : (x : A) (y : B) (back rest : List T) → Second x y back → Next y rest → Follow x (back ++ rest)
   pub follows : (x : A) (y : B) (back rest : List T) → Second x y back → Next y rest → Follows x y rest
   pub within : (x : A) (y : B) (back : List T) → Second x y back → Within x → Inside x y → All y
   pub apart : (x : A) (y : B) (front back : List T) → Spelled x front → Second x y back → All y → Within x × Inside x y
-  pub first : (front : List T) → First front → Deep front
-  pub last : (x : A) (front back : List T) → Spelled x front → Last x back → Deep (front ++ back)
-  pub deep : (ts : List T) → Deep ts → First ts ⊎ ((x : A) × ((Spelled x ⋯ Last x) ts))
-  pub follow_deep : (x : A) (back rest : List T) → Last x back → Follow x (back ++ rest)
+  pub first : (front : List T) → First front → Unfit front
+  pub last : (x : A) (front back : List T) → Spelled x front → Last x back → Unfit (front ++ back)
+  pub unfit : (ts : List T) → Unfit ts → First ts ⊎ ((x : A) × ((Spelled x ⋯ Last x) ts))
+  pub follow_unfit : (x : A) (back rest : List T) → Last x back → Follow x (back ++ rest)
 
-pub then-rule : {T A B : Type 0} (Good : T → Type 0) (p : Reader T A) (f : A → Reader T B) (Spelled : A → Form T) (Follow : A → Form T) (Within : A → Type 0) (First : Form T)
+pub then-rule : {E T A B : Type 0} (Good : T → Type 0) (p : Reader E T A) (f : A → Reader E T B) (Spelled : A → Form T) (Follow : A → Form T) (Within : A → Type 0) (First : Form T)
     (Second : A → B → Form T) (Follows : A → B → Form T) (Inside : A → B → Type 0) (Last : A → Form T)
-    (Whole : B → Form T) (Next : B → Form T) (All : B → Type 0) (Deep : Form T)
-    → Joins Spelled Follow Within First Second Follows Inside Last Whole Next All Deep
-    → IsRule Good p Spelled Follow Within First → ((x : A) → IsRule Good (f x) (Second x) (Follows x) (Inside x) (Last x))
-    → IsRule Good (p >>= f) Whole Next All Deep
-then-rule {T} {A} {B} Good p f Spelled Follow Within First Second Follows Inside Last Whole Next All Deep joins one two = record {
+    (Whole : B → Form T) (Next : B → Form T) (All : B → Type 0) (Unfit : Form T)
+    → Joins Spelled Follow Within First Second Follows Inside Last Whole Next All Unfit
+    → IsRule E Good p Spelled Follow Within First → ((x : A) → IsRule E Good (f x) (Second x) (Follows x) (Inside x) (Last x))
+    → IsRule E Good (p >>= f) Whole Next All Unfit
+then-rule {E} {T} {A} {B} Good p f Spelled Follow Within First Second Follows Inside Last Whole Next All Unfit joins one two = record {
   example = example one.example;
   local = λ ts. local-then p f ts (p ts) (one.local ts) (λ x rest is. (two x).local rest);
   sound = λ ts rest y is.
@@ -143,9 +143,9 @@ then-rule {T} {A} {B} Good p f Spelled Follow Within First Second Follows Inside
       (λ middle rest x y _ is. (two x).sound middle rest y is) rest y is;
   complete = λ front rest y good s next. complete front rest y good s next (joins.part y front s);
   finishes = λ ts rest e is.
-      finishes-then Spelled Second Whole joins.join Good Within First Last Deep joins.first joins.last (λ x. (two x).example) f ts (p ts)
+      finishes-then Spelled Second Whole joins.join Good Within First Last Unfit joins.first joins.last (λ x. (two x).example) f ts (p ts)
       (λ rest x is. one.sound ts rest x is) (λ rest e is. one.finishes ts rest e is) (λ middle rest x e _ is. (two x).finishes middle rest e is) rest e is;
-  stops = λ front rest good d. stops front rest good (joins.deep front d);
+  stops = λ front rest good d. stops front rest good (joins.unfit front d);
 }
   where
     example : GoesOn Good Spelled [] → GoesOn Good Whole []
@@ -176,7 +176,7 @@ then-rule {T} {A} {B} Good p f Spelled Follow Within First Second Follows Inside
         let b = d.1 in
         rw b.all
         (stops-second p f x b.front b.back rest Within
-        (one.complete b.front (b.back ++ rest) x (All-front Good front b.front b.back b.all good) b.begins (joins.follow_deep x b.back rest b.ends))
+        (one.complete b.front (b.back ++ rest) x (All-front Good front b.front b.back b.all good) b.begins (joins.follow_unfit x b.back rest b.ends))
         ((two x).stops b.back rest (All-back Good front b.front b.back b.all good) b.ends)))
 
 -- what asks for the rule of what follows, and what follows
@@ -187,12 +187,12 @@ module _ {T K A : Type 0} (First : K → Form T) (Second : K → A → Form T) w
   abbrev pub ChainedTo : (K → Form T) → Form T
   ChainedTo To ts = (k : K) × ((First k ⋯ To k) ts)
 
-  pub chain-rule : (Good : T → Type 0) (p : Reader T K) (f : K → Reader T A) (Follow : K → Form T) (Next : A → Form T) (Within : A → Type 0) (To : K → Form T)
+  pub chain-rule : {E : Type 0} → (Good : T → Type 0) (p : Reader E T K) (f : K → Reader E T A) (Follow : K → Form T) (Next : A → Form T) (Within : A → Type 0) (To : K → Form T)
       → ((k : K) (x : A) (back rest : List T) → Second k x back → Next x rest → Follow k (back ++ rest))
       → ((k : K) (back rest : List T) → To k back → Follow k (back ++ rest))
-      → IsRule Good p First Follow (λ _. Unit {0}) Never → ((k : K) → IsRule Good (f k) (Second k) Next Within (To k))
-      → IsRule Good (p >>= f) Chained Next Within (ChainedTo To)
-  chain-rule Good p f Follow Next Within To follow follow_deep one two =
+      → IsRule E Good p First Follow (λ _. Unit {0}) Never → ((k : K) → IsRule E Good (f k) (Second k) Next Within (To k))
+      → IsRule E Good (p >>= f) Chained Next Within (ChainedTo To)
+  chain-rule Good p f Follow Next Within To follow follow_unfit one two =
       then-rule Good p f First Follow (λ _. Unit {0}) Never Second (λ _. Next) (λ _. Within) To Chained Next Within (ChainedTo To)
       (record {
         join = λ k x front back s o. (k, record { front = front; back = back; all = refl; begins = s; ends = o });
@@ -203,8 +203,8 @@ module _ {T K A : Type 0} (First : K → Form T) (Second : K → A → Form T) w
         apart = λ k x front back _ s all. (tt, all);
         first = λ ts d. absurd d;
         last = λ k front back s d. (k, record { front = front; back = back; all = refl; begins = s; ends = d });
-        deep = λ ts d. inr d;
-        follow_deep = follow_deep;
+        unfit = λ ts d. inr d;
+        follow_unfit = follow_unfit;
       })
       one two
 
@@ -212,20 +212,20 @@ module _ {T K A : Type 0} (First : K → Form T) (Second : K → A → Form T) w
 
 -- how the whole is of the part
 pub record Maps {T A B : Type 0} (f : A → B) (Spelled : A → Form T) (Follow : A → Form T) (Within : A → Type 0) (First : Form T)
-    (Whole : B → Form T) (Next : B → Form T) (All : B → Type 0) (Deep : Form T) : Type 0 where
+    (Whole : B → Form T) (Next : B → Form T) (All : B → Type 0) (Unfit : Form T) : Type 0 where
   pub there : (x : A) (ts : List T) → Spelled x ts → Whole (f x) ts
   pub back : (y : B) (ts : List T) → Whole y ts → (x : A) × (y ≡ f x) × Spelled x ts
   pub follow : (x : A) (rest : List T) → Next (f x) rest → Follow x rest
   pub within : (x : A) → Within x → All (f x)
   pub apart : (x : A) → All (f x) → Within x
-  pub first : (ts : List T) → First ts → Deep ts
-  pub deep : (ts : List T) → Deep ts → First ts
+  pub first : (ts : List T) → First ts → Unfit ts
+  pub unfit : (ts : List T) → Unfit ts → First ts
 
-pub map-rule : {T A B : Type 0} (Good : T → Type 0) (f : A → B) (p : Reader T A) (Spelled : A → Form T) (Follow : A → Form T) (Within : A → Type 0) (First : Form T)
-    (Whole : B → Form T) (Next : B → Form T) (All : B → Type 0) (Deep : Form T)
-    → Maps f Spelled Follow Within First Whole Next All Deep → IsRule Good p Spelled Follow Within First → IsRule Good (f <$> p) Whole Next All Deep
-map-rule {T} {A} {B} Good f p Spelled Follow Within First Whole Next All Deep maps one =
-    then-rule Good p (λ x. pure (f x)) Spelled Follow Within First (λ x. Only (f x)) (λ x _. Anything) (λ x y. Unit {0}) (λ _. Never) Whole Next All Deep
+pub map-rule : {E T A B : Type 0} (Good : T → Type 0) (f : A → B) (p : Reader E T A) (Spelled : A → Form T) (Follow : A → Form T) (Within : A → Type 0) (First : Form T)
+    (Whole : B → Form T) (Next : B → Form T) (All : B → Type 0) (Unfit : Form T)
+    → Maps f Spelled Follow Within First Whole Next All Unfit → IsRule E Good p Spelled Follow Within First → IsRule E Good (f <$> p) Whole Next All Unfit
+map-rule {E} {T} {A} {B} Good f p Spelled Follow Within First Whole Next All Unfit maps one =
+    then-rule Good p (λ x. pure (f x)) Spelled Follow Within First (λ x. Only (f x)) (λ x _. Anything) (λ x y. Unit {0}) (λ _. Never) Whole Next All Unfit
     (record {
       join = join;
       part = part;
@@ -235,8 +235,8 @@ map-rule {T} {A} {B} Good f p Spelled Follow Within First Whole Next All Deep ma
       apart = λ x y front back _ s all. (maps.apart x (subst All s.0 all), tt);
       first = maps.first;
       last = λ x front back s d. absurd d;
-      deep = λ ts d. inl (maps.deep ts d);
-      follow_deep = λ x back rest d. absurd d;
+      unfit = λ ts d. inl (maps.unfit ts d);
+      follow_unfit = λ x back rest d. absurd d;
     })
     one (λ x. pure-rule Good (λ _. Unit {0}) (f x) tt)
   where
@@ -254,31 +254,31 @@ map-rule {T} {A} {B} Good f p Spelled Follow Within First Whole Next All Deep ma
 
 -- how the one form is the other
 pub record Same {T A : Type 0} (Spelled : A → Form T) (Follow : A → Form T) (Within : A → Type 0) (First : Form T)
-    (Whole : A → Form T) (Next : A → Form T) (All : A → Type 0) (Deep : Form T) : Type 0 where
+    (Whole : A → Form T) (Next : A → Form T) (All : A → Type 0) (Unfit : Form T) : Type 0 where
   pub there : (x : A) (ts : List T) → Spelled x ts → Whole x ts
   pub back : (x : A) (ts : List T) → Whole x ts → Spelled x ts
   pub follow : (x : A) (rest : List T) → Next x rest → Follow x rest
   pub within : (x : A) → Within x → All x
   pub apart : (x : A) → All x → Within x
-  pub first : (ts : List T) → First ts → Deep ts
-  pub deep : (ts : List T) → Deep ts → First ts
+  pub first : (ts : List T) → First ts → Unfit ts
+  pub unfit : (ts : List T) → Unfit ts → First ts
 
-module _ {T A : Type 0} (Good : T → Type 0) (p : Reader T A) (Spelled : A → Form T) (Follow : A → Form T) (Within : A → Type 0) (First : Form T)
-    (Whole : A → Form T) (Next : A → Form T) (All : A → Type 0) (Deep : Form T) (same : Same Spelled Follow Within First Whole Next All Deep) where
-  finishes-same : (ts rest : List T) (e : Fault) → Finishes Good Spelled First ts rest e → Finishes Good Whole Deep ts rest e
+module _ {E T A : Type 0} (Good : T → Type 0) (p : Reader E T A) (Spelled : A → Form T) (Follow : A → Form T) (Within : A → Type 0) (First : Form T)
+    (Whole : A → Form T) (Next : A → Form T) (All : A → Type 0) (Unfit : Form T) (same : Same Spelled Follow Within First Whole Next All Unfit) where
+  finishes-same : (ts rest : List T) (e : Fault E) → Finishes Good Spelled First ts rest e → Finishes Good Whole Unfit ts rest e
   finishes-same ts rest faults.Refused c = record { front = c.front; split = c.split; goes = goes_as (λ x. x) same.there c.goes }
-  finishes-same ts rest faults.TooDeep c = record {
+  finishes-same ts rest (faults.Unfit why) c = record {
     front = c.front;
     next = c.next;
     after = c.after;
     split = c.split;
     begins = c.begins;
-    deep = same.first c.front c.deep;
+    unfit = same.first c.front c.unfit;
     goes = goes_as (λ x. x) same.there c.goes;
   }
   finishes-same ts rest faults.Memory c = c
 
-  pub same-rule : IsRule Good p Spelled Follow Within First → IsRule Good p Whole Next All Deep
+  pub same-rule : IsRule E Good p Spelled Follow Within First → IsRule E Good p Whole Next All Unfit
   same-rule one = record {
     example = goes_as (λ x. x) same.there one.example;
     local = one.local;
@@ -286,15 +286,15 @@ module _ {T A : Type 0} (Good : T → Type 0) (p : Reader T A) (Spelled : A → 
         let f = one.sound ts rest x is in
         record { front = f.front; split = f.split; spelled = same.there x f.front f.spelled; within = same.within x f.within };
     complete = λ front rest x good s next. ⊎_elim inl
-        (λ far. inr (record { at = far.at; is = far.is; before = far.before; beyond = λ all. far.beyond (same.apart x all) }))
+        (λ far. inr (record { why = far.why; at = far.at; is = far.is; before = far.before; beyond = λ all. far.beyond (same.apart x all) }))
         (one.complete front rest x good (same.back x front s) (same.follow x rest next));
     finishes = λ ts rest e is. finishes-same ts rest e (one.finishes ts rest e is);
-    stops = λ front rest good d. one.stops front rest good (same.deep front d);
+    stops = λ front rest good d. one.stops front rest good (same.unfit front d);
   }
 
--- the same by another way to say what leads to something too deep
-pub deep-rule : {T A : Type 0} (Good : T → Type 0) (p : Reader T A) (Spelled : A → Form T) (Next : A → Form T) (Within : A → Type 0) (First Deep : Form T)
-    → ((ts : List T) → First ts → Deep ts) → ((ts : List T) → Deep ts → First ts) → IsRule Good p Spelled Next Within First → IsRule Good p Spelled Next Within Deep
-deep-rule Good p Spelled Next Within First Deep first deep =
-    same-rule Good p Spelled Next Within First Spelled Next Within Deep
-    (record { there = λ x ts s. s; back = λ x ts s. s; follow = λ x rest next. next; within = λ x w. w; apart = λ x w. w; first = first; deep = deep })
+-- the same by another way to say what leads to something unfit
+pub leads-rule : {E T A : Type 0} (Good : T → Type 0) (p : Reader E T A) (Spelled : A → Form T) (Next : A → Form T) (Within : A → Type 0) (First Unfit : Form T)
+    → ((ts : List T) → First ts → Unfit ts) → ((ts : List T) → Unfit ts → First ts) → IsRule E Good p Spelled Next Within First → IsRule E Good p Spelled Next Within Unfit
+leads-rule Good p Spelled Next Within First Unfit first unfit =
+    same-rule Good p Spelled Next Within First Spelled Next Within Unfit
+    (record { there = λ x ts s. s; back = λ x ts s. s; follow = λ x rest next. next; within = λ x w. w; apart = λ x w. w; first = first; unfit = unfit })

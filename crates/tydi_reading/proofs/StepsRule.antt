@@ -14,11 +14,11 @@ use Rattle.tydi_reading.proofs.StepRules.{Only, pure-rule, map-rule, same-rule, 
 
 -- the steps may stand with such separators between them up to where the test holds
 pub record Separates {T S : Type 0} (Good : T → Type 0) (test : T → Bool) (last : Bool) (separates : T → Bool) (Separator : Form T) (Step : S → S → Form T) (StepNext : S → Form T)
-    (StepWithin : S → S → Type 0) (Deep : S → Form T) (Within : S → Type 0) : Type 0 where
+    (StepWithin : S → S → Type 0) (Unfit : S → Form T) (Within : S → Type 0) : Type 0 where
   pub mark : IsMark Good separates Separator
   pub filled : (s next : S) (front : List T) → Step s next front → 0 < length front
   pub starts : (s next : S) (front rest : List T) → Step s next front → tells test last (front ++ rest) ≡ false
-  pub starts_deep : (s : S) (front rest : List T) → Deep s front → tells test last (front ++ rest) ≡ false
+  pub starts_unfit : (s : S) (front rest : List T) → Unfit s front → tells test last (front ++ rest) ≡ false
   pub before_end : (next : S) (rest : List T) → tells test last rest ≡ true → StepNext next rest
   pub before_separator : (next : S) (t : T) (rest : List T) → separates t ≡ true → StepNext next (t ∷ rest)
   pub apart : (rest : List T) → tells test last rest ≡ true → tells separates false rest ≡ false
@@ -27,14 +27,14 @@ pub record Separates {T S : Type 0} (Good : T → Type 0) (test : T → Bool) (l
   pub unwithin : (s next : S) (front : List T) → Step s next front → Within next → StepWithin s next × Within s
 
 -- no step goes on from this state
-pub record IsStuck {T S : Type 0} (step : Reader T S) (Step : S → Form T) (Deep : Form T) : Type 0 where
+pub record IsStuck {E T S : Type 0} (step : Reader E T S) (Step : S → Form T) (Unfit : Form T) : Type 0 where
   pub refuses : (ts : List T) → step ts ≡ stopped faults.Refused ts
   pub none : (next : S) (ts : List T) → Step next ts → ⊥
-  pub none_deep : (ts : List T) → Deep ts → ⊥
+  pub none_unfit : (ts : List T) → Unfit ts → ⊥
 
-module _ {T S : Type 0} (Good : T → Type 0) (test : T → Bool) (last : Bool) (separates : T → Bool) (Separator : Form T) (step : S → Reader T S) (Step : S → S → Form T) (StepNext : S → Form T)
-    (StepWithin : S → S → Type 0) (Deep : S → Form T) (Within : S → Type 0) (between : Separates Good test last separates Separator Step StepNext StepWithin Deep Within)
-    (rule : (s : S) → IsRule Good (step s) (Step s) StepNext (StepWithin s) (Deep s) ⊎ IsStuck (step s) (Step s) (Deep s)) where
+module _ {E T S : Type 0} (Good : T → Type 0) (test : T → Bool) (last : Bool) (separates : T → Bool) (Separator : Form T) (step : S → Reader E T S) (Step : S → S → Form T) (StepNext : S → Form T)
+    (StepWithin : S → S → Type 0) (Unfit : S → Form T) (Within : S → Type 0) (between : Separates Good test last separates Separator Step StepNext StepWithin Unfit Within)
+    (rule : (s : S) → IsRule E Good (step s) (Step s) StepNext (StepWithin s) (Unfit s) ⊎ IsStuck (step s) (Step s) (Unfit s)) where
   -- ---- after a step
 
   abbrev After : S → Turn (S) → Form T
@@ -66,7 +66,7 @@ module _ {T S : Type 0} (Good : T → Type 0) (test : T → Bool) (last : Bool) 
   end_begins found (done end) front rest s next = rw s.1 next
   end_begins found (again next) front rest s _ = absurd (let is : again next ≡ done found = s.0 in cc)
 
-  after-rule : (found : S) → IsRule Good (separator_turn separates found) (After found) AfterNext (λ _. Unit {0}) Never
+  after-rule : (found : S) → IsRule E Good (separator_turn separates found) (After found) AfterNext (λ _. Unit {0}) Never
   unfolding separator_turn Marked
   after-rule found =
       choose-rule Good separates false ((λ _. again found) <$> mark separates) (pure (done found)) (Marked found) (λ _. Anything) Never
@@ -79,11 +79,11 @@ module _ {T S : Type 0} (Good : T → Type 0) (test : T → Bool) (last : Bool) 
         other_next = λ t front rest s next. tt;
         one_begins = λ t front rest s next. Mark-tells Good separates Separator between.mark front rest s.1;
         other_begins = end_begins found;
-        one_deep = λ ts d. d;
-        other_deep = λ ts d. d;
-        which_deep = λ ts d. absurd d;
-        one_deep_begins = λ front rest d. absurd d;
-        other_deep_begins = λ front rest d. absurd d;
+        one_unfit = λ ts d. d;
+        other_unfit = λ ts d. d;
+        which_unfit = λ ts d. absurd d;
+        one_unfit_begins = λ front rest d. absurd d;
+        other_unfit_begins = λ front rest d. absurd d;
       })
       (map-rule Good (λ _. again found) (mark separates) (λ _. Separator) (λ _. Anything) (λ _. Unit {0}) Never
       (Marked found) (λ _. Anything) (λ _. Unit {0}) Never
@@ -94,7 +94,7 @@ module _ {T S : Type 0} (Good : T → Type 0) (test : T → Bool) (last : Bool) 
         within = λ x w. tt;
         apart = λ x w. tt;
         first = λ ts d. d;
-        deep = λ ts d. d;
+        unfit = λ ts d. d;
       })
       (mark-rule Good separates Separator between.mark))
       (pure-rule Good (λ _. Unit {0}) (done found) tt)
@@ -139,10 +139,10 @@ module _ {T S : Type 0} (Good : T → Type 0) (test : T → Bool) (last : Bool) 
   step_within s x (done end) back a inside = (subst (StepWithin s) a.0 inside, tt)
   step_within s x (again next) back a inside = (subst (StepWithin s) a.0 inside, tt)
 
-  part-rule : (s : S) → IsRule Good (step s) (Step s) StepNext (StepWithin s) (Deep s) → IsRule Good (step s >>= separator_turn separates) (Part s) Follow (Inside s) (Deep s)
+  part-rule : (s : S) → IsRule E Good (step s) (Step s) StepNext (StepWithin s) (Unfit s) → IsRule E Good (step s >>= separator_turn separates) (Part s) Follow (Inside s) (Unfit s)
   part-rule s one =
-      then-rule Good (step s) (separator_turn separates) (Step s) StepNext (StepWithin s) (Deep s)
-      After (λ x. AfterNext) (λ x t. Unit {0}) (λ x. Never) (Part s) Follow (Inside s) (Deep s)
+      then-rule Good (step s) (separator_turn separates) (Step s) StepNext (StepWithin s) (Unfit s)
+      After (λ x. AfterNext) (λ x t. Unit {0}) (λ x. Never) (Part s) Follow (Inside s) (Unfit s)
       (record {
         join = join s;
         part = apart_part s;
@@ -152,8 +152,8 @@ module _ {T S : Type 0} (Good : T → Type 0) (test : T → Bool) (last : Bool) 
         apart = λ x t front back _ a inside. step_within s x t back a inside;
         first = λ ts d. d;
         last = λ x front back s d. absurd d;
-        deep = λ ts d. inl d;
-        follow_deep = λ x back rest d. absurd d;
+        unfit = λ ts d. inl d;
+        follow_unfit = λ x back rest d. absurd d;
       })
       one after-rule
 
@@ -183,15 +183,15 @@ module _ {T S : Type 0} (Good : T → Type 0) (test : T → Bool) (last : Bool) 
   part_begins s (done end) front rest p next = between.starts s end front rest p
   part_begins s (again next) front rest b _ = rw (b.all, append_assoc b.front b.back rest) (between.starts s next b.front (b.back ++ rest) b.begins)
 
-  no_part : (s : S) → IsStuck (step s) (Step s) (Deep s) → (t : Turn S) (ts : List T) → Part s t ts → ⊥
+  no_part : (s : S) → IsStuck (step s) (Step s) (Unfit s) → (t : Turn S) (ts : List T) → Part s t ts → ⊥
   no_part s stuck (done end) ts p = stuck.none end ts p
   no_part s stuck (again next) ts p = stuck.none next p.front p.begins
 
-  stuck-rule : (s : S) → IsStuck (step s) (Step s) (Deep s) → IsRule Good (steps_turn test last separates step s) (TurnOf s) Follow (Inside s) (Deep s)
+  stuck-rule : (s : S) → IsStuck (step s) (Step s) (Unfit s) → IsRule E Good (steps_turn test last separates step s) (TurnOf s) Follow (Inside s) (Unfit s)
   unfolding steps_turn
   stuck-rule s stuck =
       same-rule Good (choose test last (pure (done s)) (step s >>= separator_turn separates)) (Only (done s)) Follow (Inside s) Never
-      (TurnOf s) Follow (Inside s) (Deep s)
+      (TurnOf s) Follow (Inside s) (Unfit s)
       (record {
         there = of_only s;
         back = λ t ts one. ⊎_elim (λ o. o) (λ p. absurd (no_part s stuck t ts p)) (which s t ts one);
@@ -199,18 +199,18 @@ module _ {T S : Type 0} (Good : T → Type 0) (test : T → Bool) (last : Bool) 
         within = λ t w. w;
         apart = λ t w. w;
         first = λ ts d. absurd d;
-        deep = λ ts d. stuck.none_deep ts d;
+        unfit = λ ts d. stuck.none_unfit ts d;
       })
       (stop-rule Good test last (pure (done s)) (step s >>= separator_turn separates) (Only (done s)) (λ _. Anything) Follow (Inside s) Never
       (λ ts. ap (λ o. and_then o (separator_turn separates)) (stuck.refuses ts))
       (λ t front rest o next. tt) (begins s) (λ front rest d. absurd d)
       (pure-rule Good (Inside s) (done s) (between.idle s)))
 
-  go-rule : (s : S) → IsRule Good (step s) (Step s) StepNext (StepWithin s) (Deep s) → IsRule Good (steps_turn test last separates step s) (TurnOf s) Follow (Inside s) (Deep s)
+  go-rule : (s : S) → IsRule E Good (step s) (Step s) StepNext (StepWithin s) (Unfit s) → IsRule E Good (steps_turn test last separates step s) (TurnOf s) Follow (Inside s) (Unfit s)
   unfolding steps_turn
   go-rule s one =
       choose-rule Good test last (pure (done s)) (step s >>= separator_turn separates) (Only (done s)) (λ _. Anything) Never
-      (Part s) Follow (Deep s) (TurnOf s) Follow (Inside s) (Deep s)
+      (Part s) Follow (Unfit s) (TurnOf s) Follow (Inside s) (Unfit s)
       (record {
         one = of_only s;
         other = of_part s;
@@ -219,16 +219,16 @@ module _ {T S : Type 0} (Good : T → Type 0) (test : T → Bool) (last : Bool) 
         other_next = λ t front rest o next. next;
         one_begins = begins s;
         other_begins = part_begins s;
-        one_deep = λ ts d. absurd d;
-        other_deep = λ ts d. d;
-        which_deep = λ ts d. inr d;
-        one_deep_begins = λ front rest d. absurd d;
-        other_deep_begins = between.starts_deep s;
+        one_unfit = λ ts d. absurd d;
+        other_unfit = λ ts d. d;
+        which_unfit = λ ts d. inr d;
+        one_unfit_begins = λ front rest d. absurd d;
+        other_unfit_begins = between.starts_unfit s;
       })
       (pure-rule Good (Inside s) (done s) (between.idle s))
       (part-rule s one)
 
-  turn-rule : (s : S) → IsRule Good (steps_turn test last separates step s) (TurnOf s) Follow (Inside s) (Deep s)
+  turn-rule : (s : S) → IsRule E Good (steps_turn test last separates step s) (TurnOf s) Follow (Inside s) (Unfit s)
   turn-rule s = ⊎_elim (go-rule s) (stuck-rule s) (rule s)
 
   -- ---- the loop
@@ -253,14 +253,14 @@ module _ {T S : Type 0} (Good : T → Type 0) (test : T → Bool) (last : Bool) 
       (λ p. between.unwithin s end front p w)
       one
 
-  turns : Turns Good (steps_turn test last separates step) TurnOf (λ _. Follow) Inside Deep (λ _ rest. tells test last rest ≡ true) Within
+  turns : Turns Good (steps_turn test last separates step) TurnOf (λ _. Follow) Inside Unfit (λ _ rest. tells test last rest ≡ true) Within
   turns = record {
     rule = turn-rule;
     filled = again_filled;
     closes = λ s. record { value = s; more = []; good = All-nil Good; spelled = (1, inl (inl (refl, refl))) };
     ends = λ s end front rest one next. next;
     goes = λ s next end front back rest one more stop. tt;
-    goes_deep = λ s next front back rest one more. tt;
+    goes_unfit = λ s next front back rest one more. tt;
     within_again = λ s next front one inside w. between.within s next one.front one.begins inside w;
     within_done = kept_done;
     apart_again = λ s next front one w. between.unwithin s next one.front one.begins w;
@@ -268,7 +268,7 @@ module _ {T S : Type 0} (Good : T → Type 0) (test : T → Bool) (last : Bool) 
   }
 
   -- steps with separators up to where the test holds
-  pub steps-rule : (s : S) → Within s → IsRule Good (steps test last separates step s) (Loop TurnOf s) (λ _ rest. tells test last rest ≡ true) Within (LoopTo TurnOf Deep s)
+  pub steps-rule : (s : S) → Within s → IsRule E Good (steps test last separates step s) (Loop TurnOf s) (λ _ rest. tells test last rest ≡ true) Within (LoopTo TurnOf Unfit s)
   unfolding steps
   steps-rule s within =
-      loop-rule Good (steps_turn test last separates step) TurnOf (λ _. Follow) Inside Deep (λ _ rest. tells test last rest ≡ true) Within turns s within
+      loop-rule Good (steps_turn test last separates step) TurnOf (λ _. Follow) Inside Unfit (λ _ rest. tells test last rest ≡ true) Within turns s within

@@ -27,25 +27,25 @@ module _ {S T : Type 0} (left : S → List T) where
   DoesMean {F} {K} calls f meaning = (p : Bor S) (k : Option K) → calls.post f (p, tt) k → k ≡ told_by meaning (left p.now)
 
   -- each call does what a reader does
-  abbrev pub DoesRead : {F A : Type 0} → Shared F (MutBor S × Unit {0}) (Result A Fault × (MutBor S × Unit {0})) → F → Reader T A → Type 0
-  DoesRead {F} {A} calls f read = (p q : MutBor S) (a : Result A Fault) → calls.post f (p, tt) (a, (q, tt)) → Reads (read (left p.now)) a (left q.now)
+  abbrev pub DoesRead : {E F A : Type 0} → Shared F (MutBor S × Unit {0}) (Result A (Fault E) × (MutBor S × Unit {0})) → F → Reader E T A → Type 0
+  DoesRead {E} {F} {A} calls f read = (p q : MutBor S) (a : Result A (Fault E)) → calls.post f (p, tt) (a, (q, tt)) → Reads (read (left p.now)) a (left q.now)
 
   -- each call takes a thing at least, where it gives something
-  abbrev pub DoesShrink : {F A : Type 0} → Shared F (MutBor S × Unit {0}) (Result A Fault × (MutBor S × Unit {0})) → F → Type 0
-  DoesShrink {F} {A} calls f = (p q : MutBor S) (a : Result A Fault) → calls.post f (p, tt) (a, (q, tt)) → OnOk a (length (left q.now) < length (left p.now))
+  abbrev pub DoesShrink : {E F A : Type 0} → Shared F (MutBor S × Unit {0}) (Result A (Fault E) × (MutBor S × Unit {0})) → F → Type 0
+  DoesShrink {E} {F} {A} calls f = (p q : MutBor S) (a : Result A (Fault E)) → calls.post f (p, tt) (a, (q, tt)) → OnOk a (length (left q.now) < length (left p.now))
 
   -- each call does what the reader of a step from a state does
-  abbrev pub DoesStep : {F X : Type 0} → Shared F (MutBor S × (X × Unit {0})) (Result X Fault × (MutBor S × Unit {0})) → F → (X → Reader T X) → Type 0
-  DoesStep {F} {X} calls f step = (p q : MutBor S) (x : X) (a : Result X Fault) → calls.post f (p, (x, tt)) (a, (q, tt)) → Reads (step x (left p.now)) a (left q.now)
+  abbrev pub DoesStep : {E F X : Type 0} → Shared F (MutBor S × (X × Unit {0})) (Result X (Fault E) × (MutBor S × Unit {0})) → F → (X → Reader E T X) → Type 0
+  DoesStep {E} {F} {X} calls f step = (p q : MutBor S) (x : X) (a : Result X (Fault E)) → calls.post f (p, (x, tt)) (a, (q, tt)) → Reads (step x (left p.now)) a (left q.now)
 
   -- each step takes a thing at least, where it gives something
-  abbrev pub StepsShrink : {F X : Type 0} → Shared F (MutBor S × (X × Unit {0})) (Result X Fault × (MutBor S × Unit {0})) → F → Type 0
-  StepsShrink {F} {X} calls f = (p q : MutBor S) (x : X) (a : Result X Fault) → calls.post f (p, (x, tt)) (a, (q, tt)) → OnOk a (length (left q.now) < length (left p.now))
+  abbrev pub StepsShrink : {E F X : Type 0} → Shared F (MutBor S × (X × Unit {0})) (Result X (Fault E) × (MutBor S × Unit {0})) → F → Type 0
+  StepsShrink {E} {F} {X} calls f = (p q : MutBor S) (x : X) (a : Result X (Fault E)) → calls.post f (p, (x, tt)) (a, (q, tt)) → OnOk a (length (left q.now) < length (left p.now))
 
   -- each call does what the reader for this name and what is given does
-  abbrev pub DoesAdd : {F K G : Type 0} → Shared F (MutBor S × (K × (G × Unit {0}))) (Result G Fault × (MutBor S × Unit {0})) → F → (K → G → Reader T G) → Type 0
-  DoesAdd {F} {K} {G} calls f read = (p q : MutBor S) (k : K) (g : G) (a : Result G Fault) → calls.post f (p, (k, (g, tt))) (a, (q, tt)) → Reads (read k g (left p.now)) a (left q.now)
+  abbrev pub DoesAdd : {E F K G : Type 0} → Shared F (MutBor S × (K × (G × Unit {0}))) (Result G (Fault E) × (MutBor S × Unit {0})) → F → (K → G → Reader E T G) → Type 0
+  DoesAdd {E} {F} {K} {G} calls f read = (p q : MutBor S) (k : K) (g : G) (a : Result G (Fault E)) → calls.post f (p, (k, (g, tt))) (a, (q, tt)) → Reads (read k g (left p.now)) a (left q.now)
 
   -- no value leaves more things than there were
-  abbrev pub AddsAtMost : {F K G : Type 0} → Shared F (MutBor S × (K × (G × Unit {0}))) (Result G Fault × (MutBor S × Unit {0})) → F → Type 0
-  AddsAtMost {F} {K} {G} calls f = (p q : MutBor S) (k : K) (g : G) (a : Result G Fault) → calls.post f (p, (k, (g, tt))) (a, (q, tt)) → OnOk a (length (left q.now) ≤ length (left p.now))
+  abbrev pub AddsAtMost : {E F K G : Type 0} → Shared F (MutBor S × (K × (G × Unit {0}))) (Result G (Fault E) × (MutBor S × Unit {0})) → F → Type 0
+  AddsAtMost {E} {F} {K} {G} calls f = (p q : MutBor S) (k : K) (g : G) (a : Result G (Fault E)) → calls.post f (p, (k, (g, tt))) (a, (q, tt)) → OnOk a (length (left q.now) ≤ length (left p.now))

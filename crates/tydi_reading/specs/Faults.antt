@@ -4,41 +4,41 @@ use Rattle.tydi_reading.specs.Forms.{Form, GoesOn}
 use Rattle.tydi_reading.specs.declared.fault.Fault.{Fault}
 use Rattle.tydi_reading.specs.declared.fault.Fault.TheVariants as faults
 
--- nothing among the first so many things begins that stands too deep
-abbrev pub IsShallow : {T : Type 0} → Form T → ℕ → List T → Type 0
-IsShallow Deep k ts = (j : ℕ) → j < k → Deep (take j ts) → ⊥
+-- nothing among the first so many things begins that is unfit
+abbrev pub AreFit : {T : Type 0} → Form T → ℕ → List T → Type 0
+AreFit Unfit k ts = (j : ℕ) → j < k → Unfit (take j ts) → ⊥
 
 -- the things before this one can go on to a text of the form, and with this one they cannot, whatever good things follow
-pub record IsRefusedAt {T A : Type 0} (Good : T → Type 0) (Spelled : A → Form T) (Deep : Form T) (k : ℕ) (ts : List T) : Type 0 where
+pub record IsRefusedAt {T A : Type 0} (Good : T → Type 0) (Spelled : A → Form T) (Unfit : Form T) (k : ℕ) (ts : List T) : Type 0 where
   pub there : k < length ts
   pub goes : GoesOn Good Spelled (take k ts)
   pub ends : (x : A) (more : List T) → All Good more → Spelled x (take (suc k) ts ++ more) → ⊥
-  pub shallow : IsShallow Deep k ts
+  pub fit : AreFit Unfit k ts
 
--- at this one the first begins that stands too deep; with it the things can go on to a text of the form
-pub record IsTooDeepAt {T A : Type 0} (Good : T → Type 0) (Spelled : A → Form T) (Deep : Form T) (k : ℕ) (ts : List T) : Type 0 where
+-- at this one the first begins that is unfit; with it the things can go on to a text of the form
+pub record IsUnfitAt {T A : Type 0} (Good : T → Type 0) (Spelled : A → Form T) (Unfit : Form T) (k : ℕ) (ts : List T) : Type 0 where
   pub there : k < length ts
-  pub deep : Deep (take k ts)
+  pub unfit : Unfit (take k ts)
   pub goes : GoesOn Good Spelled (take (suc k) ts)
-  pub shallow : IsShallow Deep k ts
+  pub fit : AreFit Unfit k ts
 
 -- all things can go on to a text of the form, and are none
-pub record IsCutOff {T A : Type 0} (Good : T → Type 0) (Spelled : A → Form T) (Deep : Form T) (ts : List T) : Type 0 where
+pub record IsCutOff {T A : Type 0} (Good : T → Type 0) (Spelled : A → Form T) (Unfit : Form T) (ts : List T) : Type 0 where
   pub goes : GoesOn Good Spelled ts
   pub none : (x : A) → Spelled x ts → ⊥
-  pub shallow : IsShallow Deep (length ts) ts
+  pub fit : AreFit Unfit (length ts) ts
 
--- where things stop: at a refused one, at their end, or at one that stands too deep
+-- where things stop: at a refused one, at their end, or at one that stands unfit
 pub data Stop : Type 0 where
   refused : ℕ → Stop
   cut_off : Stop
-  deep : ℕ → Stop
+  unfit : ℕ → Stop
 
 -- what it says that things stop there
 abbrev pub IsStop : {T A : Type 0} → (T → Type 0) → (A → Form T) → Form T → List T → Stop → Type 0
-IsStop Good Spelled Deep ts (refused k) = IsRefusedAt Good Spelled Deep k ts
-IsStop Good Spelled Deep ts cut_off = IsCutOff Good Spelled Deep ts
-IsStop Good Spelled Deep ts (deep k) = IsTooDeepAt Good Spelled Deep k ts
+IsStop Good Spelled Unfit ts (refused k) = IsRefusedAt Good Spelled Unfit k ts
+IsStop Good Spelled Unfit ts cut_off = IsCutOff Good Spelled Unfit ts
+IsStop Good Spelled Unfit ts (unfit k) = IsUnfitAt Good Spelled Unfit k ts
 
 -- nothing is left, or this one is refused
 abbrev pub refused_or : ℕ → ℕ → Stop
@@ -46,7 +46,7 @@ refused_or zero index = cut_off
 refused_or (suc left) index = refused index
 
 -- where so many things stop by a fault, with so many left
-abbrev pub stop_at : Fault → ℕ → ℕ → Stop
+abbrev pub stop_at : {E : Type 0} → Fault E → ℕ → ℕ → Stop
 stop_at faults.Refused count left = refused_or left (count - left)
-stop_at faults.TooDeep count left = deep (count - left)
+stop_at (faults.Unfit _) count left = unfit (count - left)
 stop_at faults.Memory count left = cut_off

@@ -6,3 +6,4 @@ pub mod Rules
 pub mod Lists
 pub mod Named
 pub mod Tables
+pub mod Pieces

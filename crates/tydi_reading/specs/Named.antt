@@ -31,13 +31,13 @@ abbrev pub awaited : {T K G : Type 0} → (T → Option K) → (K → G → Bool
 awaited name is_given given t = option_and_then (λ k. if is_given k given then None else Some k) (name t)
 
 -- one argument more: its name, which is not given yet, and its value, which is added to what is given
-unfoldable pub argument : {T K G : Type 0} → (T → Option K) → (K → G → Bool) → (K → G → Reader T G) → G → Reader T G
+unfoldable pub argument : {E T K G : Type 0} → (T → Option K) → (K → G → Bool) → (K → G → Reader E T G) → G → Reader E T G
 argument name is_given value given = leaf (awaited name is_given given) >>= (λ k. value k given)
 
 -- arguments with separators, beside those that are given, up to where a test of the next thing holds
-unfoldable pub named : {T K G : Type 0} → (T → Bool) → Bool → (T → Bool) → (T → Option K) → (K → G → Bool) → (K → G → Reader T G) → G → Reader T G
+unfoldable pub named : {E T K G : Type 0} → (T → Bool) → Bool → (T → Bool) → (T → Option K) → (K → G → Bool) → (K → G → Reader E T G) → G → Reader E T G
 named test last separates name is_given value = steps test last separates (argument name is_given value)
 
 -- what is read of a value is no more than what was there
-pub record NeverGrows {T K G : Type 0} (value : K → G → Reader T G) : Type 0 where
+pub record NeverGrows {E T K G : Type 0} (value : K → G → Reader E T G) : Type 0 where
   pub least : (k : K) (given : G) (ts rest : List T) (next : G) → value k given ts ≡ took next rest → length rest ≤ length ts

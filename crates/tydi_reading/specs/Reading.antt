@@ -3,27 +3,28 @@ use Rattle.std.specs.Prelude.{◌≡◌, ◌≢◌, ◌<◌, ℕ, zero, suc, Boo
 use Rattle.tydi_reading.specs.declared.fault.Fault.{Fault}
 use Rattle.tydi_reading.specs.declared.fault.Fault.TheVariants as faults
 
--- what is read, or why nothing is; and the things that are left, which begin with the one at which reading stopped
-pub data Outcome (T A : Type 0) : Type 0 where
-  took : A → List T → Outcome T A
-  stopped : Fault → List T → Outcome T A
+-- what is read, or why nothing is; and the things that are left, which begin with the one at which reading stopped. E is what a text's own
+-- refusals are, T what the things are
+pub data Outcome (E T A : Type 0) : Type 0 where
+  took : A → List T → Outcome E T A
+  stopped : Fault E → List T → Outcome E T A
 
 -- from the things that are left to what is read of them
-abbrev pub Reader : Type 0 → Type 0 → Type 0
-Reader T A = List T → Outcome T A
+abbrev pub Reader : Type 0 → Type 0 → Type 0 → Type 0
+Reader E T A = List T → Outcome E T A
 
 -- a function did what the reader does, unless memory ran out
-abbrev pub Reads : {T A : Type 0} → Outcome T A → Result A Fault → List T → Type 0
+abbrev pub Reads : {E T A : Type 0} → Outcome E T A → Result A (Fault E) → List T → Type 0
 Reads outcome (Ok x) new = outcome ≡ took x new
 Reads outcome (Err e) new = e ≢ faults.Memory → outcome ≡ stopped e new
 
 -- a function that wants no memory did what the reader does
-abbrev pub ReadsAlways : {T A : Type 0} → Outcome T A → Result A Fault → List T → Type 0
+abbrev pub ReadsAlways : {E T A : Type 0} → Outcome E T A → Result A (Fault E) → List T → Type 0
 ReadsAlways outcome (Ok x) new = outcome ≡ took x new
 ReadsAlways outcome (Err e) new = (e ≢ faults.Memory) × (outcome ≡ stopped e new)
 
 -- what is read takes a thing at least
-pub record Shrinks {T A : Type 0} (read : Reader T A) : Type 0 where
+pub record Shrinks {E T A : Type 0} (read : Reader E T A) : Type 0 where
   pub less : (ts rest : List T) (x : A) → read ts ≡ took x rest → length rest < length ts
 
 -- ---- the next thing
@@ -64,62 +65,66 @@ after_eating test (next ∷ rest) = if test next then rest else next ∷ rest
 -- ---- steps
 
 -- takes nothing
-abbrev pub pure : {T A : Type 0} → A → Reader T A
+abbrev pub pure : {E T A : Type 0} → A → Reader E T A
 pure x = λ ts. took x ts
 
 -- nothing goes on
-abbrev pub refuse : {T A : Type 0} → Reader T A
+abbrev pub refuse : {E T A : Type 0} → Reader E T A
 refuse = λ ts. stopped faults.Refused ts
 
 -- what is read is handed on, with the things after it; a fault stays
-abbrev pub and_then : {T A B : Type 0} → Outcome T A → (A → Reader T B) → Outcome T B
+abbrev pub and_then : {E T A B : Type 0} → Outcome E T A → (A → Reader E T B) → Outcome E T B
 and_then (took x rest) f = f x rest
 and_then (stopped e rest) f = stopped e rest
 
 -- one reader, and then the reader that what is read asks for
 infixl 10 ◌>>=◌
-abbrev pub ◌>>=◌ : {T A B : Type 0} → Reader T A → (A → Reader T B) → Reader T B
+abbrev pub ◌>>=◌ : {E T A B : Type 0} → Reader E T A → (A → Reader E T B) → Reader E T B
 p >>= f = λ ts. and_then (p ts) f
 
 -- one reader, and then another
 infixl 10 ◌>>◌
-abbrev pub ◌>>◌ : {T A B : Type 0} → Reader T A → Reader T B → Reader T B
+abbrev pub ◌>>◌ : {E T A B : Type 0} → Reader E T A → Reader E T B → Reader E T B
 p >> q = p >>= (λ _. q)
 
 -- a function of what is read
 infixr 11 ◌<$>◌
-abbrev pub ◌<$>◌ : {T A B : Type 0} → (A → B) → Reader T A → Reader T B
+abbrev pub ◌<$>◌ : {E T A B : Type 0} → (A → B) → Reader E T A → Reader E T B
 f <$> p = p >>= (λ x. pure (f x))
 
 -- one after another: both values
 infixr 12 ◌<&>◌
-abbrev pub ◌<&>◌ : {T A B : Type 0} → Reader T A → Reader T B → Reader T (A × B)
+abbrev pub ◌<&>◌ : {E T A B : Type 0} → Reader E T A → Reader E T B → Reader E T (A × B)
 p <&> q = p >>= (λ x. (λ y. (x, y)) <$> q)
 
 -- one reader, and then another: the value of the first
 infixl 12 ◌<<◌
-abbrev pub ◌<<◌ : {T A B : Type 0} → Reader T A → Reader T B → Reader T A
+abbrev pub ◌<<◌ : {E T A B : Type 0} → Reader E T A → Reader E T B → Reader E T A
 p << q = p >>= (λ x. (λ _. x) <$> q)
 
 -- the one reader where a test of the next thing holds, and else the other
-abbrev pub choose : {T A : Type 0} → (T → Bool) → Bool → Reader T A → Reader T A → Reader T A
+abbrev pub choose : {E T A : Type 0} → (T → Bool) → Bool → Reader E T A → Reader E T A → Reader E T A
 choose test last p q = λ ts. (if tells test last ts then p else q) ts
 
 -- what is read where a test of the next thing holds
-abbrev pub optional : {T A : Type 0} → (T → Bool) → Reader T A → Reader T (Option A)
+abbrev pub optional : {E T A : Type 0} → (T → Bool) → Reader E T A → Reader E T (Option A)
 optional test p = choose test false (Some <$> p) (pure None)
 
+-- what is read where the next thing is such a one; else nothing goes on
+abbrev pub beginning : {E T A : Type 0} → (T → Bool) → Reader E T A → Reader E T A
+beginning test p = choose test false p refuse
+
 -- the next thing, which is to have a meaning
-abbrev pub meant : {T A : Type 0} → Option A → List T → List T → Outcome T A
+abbrev pub meant : {E T A : Type 0} → Option A → List T → List T → Outcome E T A
 meant (Some x) rest all = took x rest
 meant None rest all = stopped faults.Refused all
 
 -- what is read is to have a meaning, else nothing goes on after it
-abbrev pub checked : {T A B : Type 0} → (A → Option B) → Reader T A → Reader T B
+abbrev pub checked : {E T A B : Type 0} → (A → Option B) → Reader E T A → Reader E T B
 checked meaning p = p >>= (λ x. λ rest. meant (meaning x) rest rest)
 
 -- takes the next thing, which is to have a meaning, and gives the meaning
-abbrev pub leaf : {T A : Type 0} → (T → Option A) → Reader T A
+abbrev pub leaf : {E T A : Type 0} → (T → Option A) → Reader E T A
 leaf meaning = λ ts. meant (option_and_then meaning (first ts)) (rest_of ts) ts
 
 -- the meaning of the next thing, where it has one
@@ -127,22 +132,18 @@ abbrev pub told_by : {T K : Type 0} → (T → Option K) → List T → Option K
 told_by meaning ts = option_and_then meaning (first ts)
 
 -- what a meaning asks for, after the thing that has it, or the other reader where there is none
-abbrev pub led_by : {T K A : Type 0} → Option K → (K → Reader T A) → Reader T A → Reader T A
+abbrev pub led_by : {E T K A : Type 0} → Option K → (K → Reader E T A) → Reader E T A → Reader E T A
 led_by (Some k) p q = λ ts. p k (rest_of ts)
 led_by None p q = q
 
 -- a next thing with a meaning is taken, and what that asks for follows; without one, the other reader
-abbrev pub led : {T K A : Type 0} → (T → Option K) → (K → Reader T A) → Reader T A → Reader T A
+abbrev pub led : {E T K A : Type 0} → (T → Option K) → (K → Reader E T A) → Reader E T A → Reader E T A
 led meaning p q = λ ts. led_by (told_by meaning ts) p q ts
 
--- the fault of what may not stand here, inside as many others as are allowed
-abbrev pub fault_too_deep : {T : Type 0} → (T → Bool) → List T → Fault
-fault_too_deep begins ts = if sees begins ts then faults.TooDeep else faults.Refused
-
--- what may not stand here, inside as many others as are allowed: told where it begins
-abbrev pub too_deep : {T A : Type 0} → (T → Bool) → Reader T A
-too_deep begins [] = refuse []
-too_deep begins (next ∷ rest) = stopped (if begins next then faults.TooDeep else faults.Refused) (next ∷ rest)
+-- what may not stand here: told where it begins, and why
+abbrev pub unfit : {E T A : Type 0} → E → (T → Bool) → Reader E T A
+unfit why begins [] = refuse []
+unfit why begins (next ∷ rest) = stopped (if begins next then faults.Unfit why else faults.Refused) (next ∷ rest)
 
 -- ---- loops
 
@@ -152,15 +153,15 @@ pub data Turn (S : Type 0) : Type 0 where
   done : S → Turn S
 
 -- goes on with the loop, or ends it
-abbrev pub turned : {T S : Type 0} → (S → Reader T S) → Turn S → Reader T S
+abbrev pub turned : {E T S : Type 0} → (S → Reader E T S) → Turn S → Reader E T S
 turned more (again s) = more s
 turned more (done s) = pure s
 
 -- so many turns at most
-unfoldable pub loop_from : {T S : Type 0} → (S → Reader T (Turn S)) → ℕ → S → Reader T S
+unfoldable pub loop_from : {E T S : Type 0} → (S → Reader E T (Turn S)) → ℕ → S → Reader E T S
 loop_from turn zero s = refuse
 loop_from turn (suc turns) s = turn s >>= turned (loop_from turn turns)
 
 -- each turn that goes on takes a thing, so there are no more turns than things, and one
-unfoldable pub loop : {T S : Type 0} → (S → Reader T (Turn S)) → S → Reader T S
+unfoldable pub loop : {E T S : Type 0} → (S → Reader E T (Turn S)) → S → Reader E T S
 loop turn s = λ ts. loop_from turn (suc (length ts)) s ts

@@ -1,8 +1,8 @@
 //! The steps that take one thing, and those that the next thing decides. One step after another is a `?`, and a choice by the next thing
 //! an `if` or a `match`.
 
-ghost use Rattle.std.specs.Prelude.{◌≡◌, Bool, false, Option};
-ghost use Rattle.tydi_reading.specs.Calls.{DoesMean, DoesRead, DoesTell};
+ghost use Rattle.std.specs.Prelude.{◌<◌, Bool, false, length, OnOk, Option};
+ghost use Rattle.tydi_reading.specs.Calls.{DoesMean, DoesRead, DoesShrink, DoesTell};
 ghost use Rattle.tydi_reading.specs.Lists as lists;
 ghost use Rattle.tydi_reading.specs.Reading as spec;
 ghost use Rattle.tydi_reading.specs.Reading.{Reader, Reads, ReadsAlways};
@@ -12,7 +12,7 @@ use crate::source::Source;
 
 /// Takes the next thing, which is to be such a one.
 #[tactic(auto, unfolding(crate::specs::Lists::mark))]
-pub fn mark<S: Source, F: Fn(&S) -> bool>(source: &mut S, is: F) -> Result<(), Fault>
+pub fn mark<S: Source, E: Drop, F: Fn(&S) -> bool>(source: &mut S, is: F) -> Result<(), Fault<E>>
     requires { F.IsAlwaysCallable is }
     ensures { (test : S.Thing → Bool) → DoesTell S.left F.Fn is test false → ReadsAlways (lists.mark test (S.left source.old)) result (S.left source.new) }
 {
@@ -24,10 +24,10 @@ pub fn mark<S: Source, F: Fn(&S) -> bool>(source: &mut S, is: F) -> Result<(), F
 }
 
 /// Takes the next thing, which is to have a meaning, and gives the meaning.
-pub fn leaf<S: Source, A: Drop, F: Fn(&S) -> Option<A>>(
+pub fn leaf<S: Source, E: Drop, A: Drop, F: Fn(&S) -> Option<A>>(
     source: &mut S,
     meaning: F,
-) -> Result<A, Fault>
+) -> Result<A, Fault<E>>
     requires { F.IsAlwaysCallable meaning }
     ensures { (means : S.Thing → Option A) → DoesMean S.left F.Fn meaning means → ReadsAlways (spec.leaf means (S.left source.old)) result (S.left source.new) }
 {
@@ -39,14 +39,16 @@ pub fn leaf<S: Source, A: Drop, F: Fn(&S) -> Option<A>>(
 }
 
 /// What stands where the next thing is such a one, if it is.
-pub fn optional<S: Source, A: Drop, F: Fn(&S) -> bool, P: Fn(&mut S) -> Result<A, Fault>>(
-    source: &mut S,
-    begins: F,
-    item: P,
-) -> Result<Option<A>, Fault>
+pub fn optional<
+    S: Source,
+    E: Drop,
+    A: Drop,
+    F: Fn(&S) -> bool,
+    P: Fn(&mut S) -> Result<A, Fault<E>>,
+>(source: &mut S, begins: F, item: P) -> Result<Option<A>, Fault<E>>
     requires tests { F.IsAlwaysCallable begins }
     requires calls { P.IsAlwaysCallable item }
-    ensures { (test : S.Thing → Bool) (read : Reader S.Thing A) → DoesTell S.left F.Fn begins test false → DoesRead S.left P.Fn item read
+    ensures { (test : S.Thing → Bool) (read : Reader E S.Thing A) → DoesTell S.left F.Fn begins test false → DoesRead S.left P.Fn item read
         → Reads (spec.optional test read (S.left source.old)) result (S.left source.new) }
 {
     if !begins(source) {
@@ -55,14 +57,23 @@ pub fn optional<S: Source, A: Drop, F: Fn(&S) -> bool, P: Fn(&mut S) -> Result<A
     Ok(Some(item(source)?))
 }
 
-/// Why what begins so may not stand here, inside as many others as are allowed.
-pub fn too_deep<S: Source, F: Fn(&S) -> bool>(source: &S, begins: F) -> Fault
-    requires { F.IsAlwaysCallable begins }
-    ensures { (test : S.Thing → Bool) → DoesTell S.left F.Fn begins test false → result ≡ spec.fault_too_deep test (S.left source.now) }
+/// What begins with the next thing, which is to be such a one: as one before which white space stands.
+pub fn beginning<
+    S: Source,
+    E: Drop,
+    A: Drop,
+    F: Fn(&S) -> bool,
+    P: Fn(&mut S) -> Result<A, Fault<E>>,
+>(source: &mut S, begins: &F, item: &P) -> Result<A, Fault<E>>
+    requires tests { F.IsAlwaysCallable begins.now }
+    requires calls { P.IsAlwaysCallable item.now }
+    requires less { DoesShrink S.left P.Fn item.now }
+    ensures reads { (test : S.Thing → Bool) (read : Reader E S.Thing A) → DoesTell S.left F.Fn begins.now test false → DoesRead S.left P.Fn item.now read
+        → Reads (spec.beginning test read (S.left source.old)) result (S.left source.new) }
+    ensures less { OnOk result (length (S.left source.new) < length (S.left source.old)) }
 {
-    if begins(source) {
-        Fault::TooDeep
-    } else {
-        Fault::Refused
+    if !begins(source) {
+        return Err(Fault::Refused);
     }
+    item(source)
 }
