@@ -12,6 +12,7 @@ use Rattle.til_parser.proofs.{LexemeLemmas.length-lexemes, LexemeLemmas.lexemes_
 use Rattle.til_parser.proofs.{rules.ParseLemmas.named, rules.ProjectRules.decl-filled}
 use Rattle.til_parser.specs.declared.tree.AstKind.TheVariants as decls
 use Rattle.til_parser.specs.declared.tree.AstPorts.TheVariants as ports
+use Rattle.til_parser.specs.declared.refusal.TooDeep.{TooDeep}
 
 -- the tokens of a text have their form
 pub formed_of : (text : List ℕ) (tokens : List Token) → IsUtf8 text → tokens_of text ≡ Ok tokens → All IsFormed (lexemes_of text tokens)
@@ -52,7 +53,7 @@ trees_apart text one other s s' =
     let levels = max w.0 w'.0 in
     let read = project_complete levels (lexemes_of text s.tokens) one formed (w.1 levels (omega arith)) s.spelled in
     let read' = project_complete levels (lexemes_of text s.tokens) other formed (w'.1 levels (omega arith)) spelled in
-    let same : ◌≡◌ {A = Outcome Lexeme Ast} (took one []) (took other []) = sym read ∙ read' in cc
+    let same : ◌≡◌ {A = Outcome TooDeep Lexeme Ast} (took one []) (took other []) = sym read ∙ read' in cc
 
 pub trees_or_faults : TreesOrFaults
 trees_or_faults text tokens utf8 lexed = tree_or_fault (lexemes_of text tokens) (formed_of text tokens utf8 lexed)

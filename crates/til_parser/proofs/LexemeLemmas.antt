@@ -1,6 +1,6 @@
 -- The tokens that are left.
 use Rattle.til_parser.proofs.rules.Common.{◌≡◌, ◌-◌, ◌≤◌, ◌⊎◌, inl, inr, ◌∙◌, ℕ, true, false, cond, List, [], ◌∷◌, length, All, length-append, refl, ap, subst, rules, arith}
-use Rattle.til_parser.proofs.rules.Common.{Outcome, stopped, too_deep, tells, HasForm, IsBetween, TokenKind, AstType, Lexeme, lexemes_of, same_kind, begins_type}
+use Rattle.til_parser.proofs.rules.Common.{Outcome, stopped, unfit, tells, HasForm, IsBetween, TokenKind, AstType, Lexeme, lexemes_of, same_kind, begins_type}
 use Rattle.std.proofs.Common.{◌==◌, ◌++◌, map, slice_index_or, IsUtf8, IsCharBoundary, take}
 use Rattle.std.proofs.{lemmas.List.length-map, lemmas.Str.IsCharBoundary-at_seam, lemmas.Str.IsUtf8-append, Math.Seq.take-append_seam}
 use Rattle.til_lexer.specs.{Spelling.own_text, declared.token.Token.Token}
@@ -9,6 +9,7 @@ use Rattle.til_parser.specs.Lexemes.{HasFormIn, between_marks, lexeme_of}
 use Rattle.til_parser.proofs.rules.TokenRules.{kind_is}
 use Rattle.tydi_reading.specs.declared.fault.Fault.TheVariants as reading
 use Rattle.til_lexer.specs.declared.token.TokenKind.TheVariants as kinds
+use Rattle.til_parser.specs.declared.refusal.TooDeep.{TooDeep}
 
 -- each token makes one
 pub lexemes_of-map : (text : List ℕ) (tokens : List Token) → lexemes_of text tokens ≡ map (lexeme_of text) tokens
@@ -33,12 +34,12 @@ HasForm-first text tokens token kind spelling formed some same is =
 -- a word, which has its form, begins a type
 pub TooDeep-first : (text : List ℕ) (tokens : List Token) (token : Token) → All (HasFormIn text) tokens → 1 ≤ length tokens
     → same_kind (slice_index_or tokens 0 token).kind kinds.Word ≡ true
-    → ◌≡◌ {A = Outcome Lexeme AstType} (too_deep begins_type (lexemes_of text tokens)) (stopped reading.TooDeep (lexemes_of text tokens))
+    → ◌≡◌ {A = Outcome TooDeep Lexeme AstType} (unfit (record {}) begins_type (lexemes_of text tokens)) (stopped (reading.Unfit (record {})) (lexemes_of text tokens))
 TooDeep-first text [] token formed some same = absurd (omega arith)
 TooDeep-first text (t ∷ tokens) token formed some same =
     let form = HasForm-first text (t ∷ tokens) t kinds.Word (own_text text t) formed some same refl in
     let test : begins_type (lexeme_of text t) ≡ true = rw (same) form in
-    ap (λ b. stopped (cond b reading.TooDeep reading.Refused) (lexemes_of text (t ∷ tokens))) test
+    ap (λ b. stopped (cond b (reading.Unfit (record {})) reading.Refused) (lexemes_of text (t ∷ tokens))) test
 
 -- ---- what stands between two marks
 

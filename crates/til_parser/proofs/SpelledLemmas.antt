@@ -4,7 +4,7 @@ use Rattle.til_parser.proofs.rules.Common.{Place, HasForm, IsBetween, TokenKind,
 use Rattle.til_parser.proofs.rules.Common.{Whole, Lexeme, IsFormed, between_marks, ◌⊎◌, inl, inr, ◌++◌, Argument, AstKind, AstNamespace, IsDefault, Of, Second, SpellsType}
 use Rattle.til_parser.proofs.rules.Common.{SpellsParts, SpellsPort, SpellsPorts, SpellsEnd, SpellsStmt, SpellsBody, SpellsKind, SpellsDecl, SpellsNamespace, ⊎_elim}
 use Rattle.std.proofs.Common.{IsUtf8}
-use Rattle.tydi_base.specs.{Frac.Fraction, Pieces.Lacks}
+use Rattle.tydi_base.specs.{Frac.Fraction, Level.IsLevel, Level.whole_level, Pieces.Lacks}
 use Rattle.tydi_reading.proofs.{StepLemmas.All-front, StepLemmas.All-back, ContainsLemmas.Inside, ContainsLemmas.named-or}
 use Rattle.til_parser.specs.Trees.{PathWith, IsDoc, IsQuote, FitsBetween, IsShort, IsSpelledNumber, AreSettings, TypeWith, PartsWith, PortWith, SecondWith, EndWith}
 use Rattle.til_parser.specs.Trees.{StmtWith, BodyWith, KindWith, DeclWith, NamespaceWith}
@@ -108,6 +108,10 @@ doc_of (Some text) spelt = fits_between 35 text spelt.spelled.lexeme.spelling (o
 
 -- ---- the arguments of a Stream
 
+-- 4 is a level
+four-is : IsLevel (whole_level 4)
+four-is = record { first = (omega arith, omega arith); second = omega arith; third = omega arith; fourth = omega arith }
+
 module _ {At : Place → Type 0} (Element User : Form) (user : Ltype) (settings : Settings) (spelt : Spelt At (Arguments Element User user settings)) where
   has : (argument : Argument) → Spelt At (Given Element User settings argument) ⊎ IsDefault user settings argument
   has argument = ⊎_elim (λ (i : Inside (Given Element User settings argument) spelt.tokens). inl (record {
@@ -124,7 +128,7 @@ module _ {At : Place → Type 0} (Element User : Form) (user : Ltype) (settings 
     record {
       throughput = ⊎_elim (λ found. number_of settings.throughput (third_of found)) (λ default. subst IsSpelledNumber (sym default) one-is) (has arguments.Throughput);
       dims = ⊎_elim (λ found. whole_of settings.dims (third_of found)) (λ default. omega (arith, default)) (has arguments.Dimensionality);
-      level = ⊎_elim (λ found. (third_of {H = Level settings.level} found).spelled.within) (λ default. omega (arith, default)) (has arguments.Complexity);
+      level = ⊎_elim (λ found. (third_of {H = Level settings.level} found).spelled.within) (λ default. subst IsLevel (sym default) four-is) (has arguments.Complexity);
     },
   )
 

@@ -1,3 +1,4 @@
 pub mod PrintedForms
+pub mod PrintedLevels
 pub mod PrintedTrees
 pub mod ReadAgain

@@ -1,6 +1,7 @@
 pub mod Common
 pub mod TokenRules
 pub mod LeafRules
+pub mod LevelRules
 pub mod StreamFields
 pub mod TypeRules
 pub mod DeclRules

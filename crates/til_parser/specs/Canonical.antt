@@ -3,6 +3,7 @@ use Rattle.std.specs.Prelude.{ℕ, zero, suc, ◌+◌, ◌*◌, ◌/◌, ◌%◌
 use Rattle.std.specs.Prelude.{if◌then◌else◌, codes, decimal}
 use Rattle.std.specs.List.{flat_map}
 use Rattle.tydi_base.specs.Frac.{Fraction}
+use Rattle.tydi_base.specs.Level.{level_text}
 use Rattle.til_parser.specs.declared.ltype.AstPart.{AstPart}
 use Rattle.til_parser.specs.declared.ltype.AstStream.{AstStream}
 use Rattle.til_parser.specs.declared.tree.Ast.{Ast}
@@ -64,7 +65,7 @@ settings_text settings after =
     codes ", throughput: " ⁀ number_text settings.throughput
     ⁀ codes ", dimensionality: " ⁀ decimal settings.dims
     ⁀ codes ", synchronicity: " ⁀ sync_word settings.sync
-    ⁀ codes ", complexity: " ⁀ decimal settings.level
+    ⁀ codes ", complexity: " ⁀ level_text settings.level
     ⁀ codes ", direction: " ⁀ direction_word settings.reverse
     ⁀ codes ", user: " ⁀ after
 

@@ -1,7 +1,7 @@
 -- What a fault of tokens names. This project's own.
 use Rattle.std.specs.Prelude.{◌≡◌, ℕ, zero, suc, ◌<◌, ◌-◌, ◌⊎◌, List, Result, Ok, Err}
 use Rattle.std.specs.Str.{IsUtf8}
-use Rattle.tydi_reading.specs.Faults.{IsRefusedAt, IsTooDeepAt, IsCutOff}
+use Rattle.tydi_reading.specs.Faults.{IsRefusedAt, IsUnfitAt, IsCutOff}
 use Rattle.til_lexer.specs.Tokens.{tokens_of}
 use Rattle.til_lexer.specs.declared.token.Token.{Token}
 use Rattle.til_parser.specs.Grammar.{Spells, IsWithin, SpellNone, most_levels}
@@ -10,6 +10,7 @@ use Rattle.til_parser.specs.Nesting.{ProjectTo}
 use Rattle.til_parser.specs.declared.tree.Ast.{Ast}
 use Rattle.tydi_reading.specs.declared.fault.Fault.{Fault}
 use Rattle.tydi_reading.specs.declared.fault.Fault.TheVariants as reading
+use Rattle.til_parser.specs.declared.refusal.TooDeep.{TooDeep}
 use Rattle.til_parser.specs.declared.fault.ParseFault.{ParseFault}
 use Rattle.til_parser.specs.declared.fault.ParseFault.TheVariants as faults
 
@@ -26,9 +27,9 @@ refused_at zero index = faults.EndOfText
 refused_at (suc left) index = faults.Unexpected index
 
 -- what a fault says of so many tokens, where so many are left
-abbrev pub fault_at : Fault → ℕ → ℕ → ParseFault
+abbrev pub fault_at : Fault TooDeep → ℕ → ℕ → ParseFault
 fault_at reading.Refused count left = refused_at left (count - left)
-fault_at reading.TooDeep count left = faults.TooDeep (count - left)
+fault_at (reading.Unfit _) count left = faults.TooDeep (count - left)
 fault_at reading.Memory count left = faults.Memory
 
 -- what a fault of tokens says, by the texts of the grammar alone, whose types nest as deep as they like. The tokens before a refused one
@@ -37,7 +38,7 @@ fault_at reading.Memory count left = faults.Memory
 abbrev pub IsFaultOf : List Lexeme → ParseFault → Type 0
 IsFaultOf ts (faults.Unexpected index) = IsRefusedAt IsFormed Spells (ProjectTo most_levels) index ts
 IsFaultOf ts faults.EndOfText = IsCutOff IsFormed Spells (ProjectTo most_levels) ts
-IsFaultOf ts (faults.TooDeep index) = IsTooDeepAt IsFormed Spells (ProjectTo most_levels) index ts
+IsFaultOf ts (faults.TooDeep index) = IsUnfitAt IsFormed Spells (ProjectTo most_levels) index ts
 IsFaultOf ts faults.Memory = ⊥
 
 -- tokens with this fault are told it, where there is memory

@@ -1,11 +1,11 @@
 -- The grammar of the Tydi Intermediate Language: which tokens spell which tree, by recursion on the tree. It is this project's
 -- own, after the published language. No reader is in it.
-use Rattle.std.specs.Prelude.{◌≡◌, ◌≤◌, ◌<◌, ℕ, Bool, true, false, List, [], ◌∷◌, length, Option, IsTrue, codes}
+use Rattle.std.specs.Prelude.{◌≡◌, ◌≤◌, ◌<◌, ℕ, Bool, true, false, List, [], ◌∷◌, ◌++◌, length, Option, Some, None, IsTrue, codes}
 use Rattle.std.specs.List.{list_all}
 use Rattle.std.specs.Char.{is_ascii_digit}
 use Rattle.tydi_base.specs.Decimal.{read_on}
 use Rattle.tydi_base.specs.Frac.{Fraction, IsReduced}
-use Rattle.tydi_base.specs.Level.{IsLevel}
+use Rattle.tydi_base.specs.Level.{LevelNumbers, IsLevel, of_numbers, whole_level}
 use Rattle.tydi_base.specs.Name.{is_name}
 use Rattle.tydi_reading.specs.Forms.{◌⋯◌, Nothing, Optional}
 use Rattle.tydi_reading.specs.Lists.{Each, EachIs, Separated, LastSeparator, Joined}
@@ -31,7 +31,7 @@ use Rattle.til_parser.specs.declared.tree.AstPorts.TheVariants as ports
 use Rattle.til_parser.specs.declared.tree.AstStmt.{AstStmt}
 use Rattle.til_parser.specs.declared.tree.AstStmt.TheVariants as stmts
 use Rattle.til_parser.specs.Lexemes.{Lexeme, between_marks}
-use Rattle.til_parser.specs.Numbers.{numerator_of, denominator_of}
+use Rattle.til_parser.specs.Numbers.{numerator_of, denominator_of, digit_runs}
 use Rattle.til_parser.specs.Tree.{Ltype, null, bits, group, union, stream, path, Parts, no_parts, part, Settings, plain, depth}
 
 -- which tokens have a form
@@ -154,9 +154,33 @@ abbrev pub truth_word : Bool → List ℕ
 truth_word true = codes "true"
 truth_word false = codes "false"
 
--- a whole number from 1 to 8
-pub record Level (level : ℕ) (ts : List Lexeme) : Type 0 where
-  pub whole : Whole level ts
+-- runs of digits, by value: one, or two
+abbrev pub Runs : Type 0
+Runs = ℕ × Option ℕ
+
+-- a number with these runs of digits
+pub record IsRuns (these : Runs) (lexeme : Lexeme) : Type 0 where
+  pub kind : lexeme.kind ≡ kinds.Number
+  pub runs : these ≡ digit_runs lexeme.spelling
+
+-- the numbers that they are
+abbrev pub numbers_from : ℕ → Option ℕ → List ℕ
+numbers_from first None = first ∷ []
+numbers_from first (Some second) = first ∷ second ∷ []
+
+abbrev pub numbers_in : Runs → List ℕ
+numbers_in runs = numbers_from runs.0 runs.1
+
+abbrev pub later_numbers : Option Runs → List ℕ
+later_numbers None = []
+later_numbers (Some runs) = numbers_in runs
+
+-- one number, or two with a point between them, whose runs of digits are the numbers of a level, four at most: those that are not written are 0
+pub record Level (level : LevelNumbers) (ts : List Lexeme) : Type 0 where
+  pub first : Runs
+  pub later : Option Runs
+  pub spelled : (One (IsRuns first) ⋯ Optional (λ (runs : Runs). Of kinds.Point ⋯ One (IsRuns runs)) later) ts
+  pub numbers : level ≡ of_numbers (numbers_in first ++ later_numbers later)
   pub within : IsLevel level
 
 -- the value that the Stream has for an argument
@@ -180,7 +204,7 @@ IsDefault user settings arguments.Data = ⊥
 IsDefault user settings arguments.Throughput = settings.throughput ≡ record { num = 1; den = 1 }
 IsDefault user settings arguments.Dimensionality = settings.dims ≡ 0
 IsDefault user settings arguments.Synchronicity = settings.sync ≡ syncs.Sync
-IsDefault user settings arguments.Complexity = settings.level ≡ 4
+IsDefault user settings arguments.Complexity = settings.level ≡ whole_level 4
 IsDefault user settings arguments.Direction = settings.reverse ≡ false
 IsDefault user settings arguments.User = user ≡ null
 IsDefault user settings arguments.Keep = settings.keep ≡ false

@@ -1,5 +1,5 @@
 -- Numbers in projects. This project's own.
-use Rattle.std.specs.Prelude.{ℕ, zero, suc, ◌+◌, ◌/◌, ◌%◌, ◌^◌, ◌==◌, List, length, take, drop, ◌++◌, Option, Some, None, if◌then◌else◌}
+use Rattle.std.specs.Prelude.{ℕ, zero, suc, ◌+◌, ◌/◌, ◌%◌, ◌^◌, ◌==◌, List, [], ◌∷◌, length, take, drop, ◌++◌, Option, Some, None, if◌then◌else◌}
 use Rattle.std.specs.List.{list_all}
 use Rattle.std.specs.Char.{is_ascii_digit}
 use Rattle.tydi_base.specs.Decimal.{read_on, below}
@@ -16,6 +16,15 @@ digits_before number = take (digits_at number) number
 
 abbrev pub digits_behind : List ℕ → List ℕ
 digits_behind number = drop (digits_at number + 1) number
+
+-- the number that digits behind a point spell, where there are any
+abbrev pub value_behind : List ℕ → Option ℕ
+value_behind [] = None
+value_behind (digit ∷ digits) = Some (read_on 0 (digit ∷ digits))
+
+-- the runs of digits of a number, by value: that before its point, and that behind it, if it has one. Zeros at their begin do not count
+abbrev pub digit_runs : List ℕ → ℕ × Option ℕ
+digit_runs number = (read_on 0 (digits_before number), value_behind (digits_behind number))
 
 -- a number with a point is that of all its digits, in parts of which ten to the count of digits after the point are a whole
 abbrev pub numerator_of : List ℕ → ℕ

@@ -1,14 +1,16 @@
 -- How `parse` reads names, numbers, paths and types. No public clause names these. This project's own.
 use Rattle.std.specs.Prelude.{ℕ, zero, suc, nat_lt, ◌&&◌, Bool, true, false, List, [], ◌∷◌, ◌++◌, Option, Some, None}
-use Rattle.std.specs.Prelude.{option_map, if◌then◌else◌, codes}
+use Rattle.std.specs.Prelude.{option_map, option_and_then, if◌then◌else◌, codes}
 use Rattle.std.specs.Option.{is_some, unwrap_or}
 use Rattle.std.specs.Str.{bytes_eq}
+use Rattle.tydi_base.specs.Decimal.{read_on, below}
+use Rattle.tydi_base.specs.Level.{LevelNumbers, of_numbers, whole_level}
 use Rattle.tydi_base.specs.Name.{name_of}
 use Rattle.tydi_base.specs.Frac.{Fraction}
 use Rattle.tydi_base.specs.declared.place.Place.{Place}
 use Rattle.tydi_reading.specs.Lists.{steps, joined}
 use Rattle.tydi_reading.specs.Named.{named}
-use Rattle.tydi_reading.specs.Reading.{◌>>◌, ◌<$>◌, ◌<&>◌, ◌<<◌, pure, checked, led, optional, too_deep}
+use Rattle.tydi_reading.specs.Reading.{◌>>◌, ◌<$>◌, ◌<&>◌, ◌<<◌, pure, checked, led, optional, unfit}
 use Rattle.til_lexer.specs.declared.token.TokenKind.{TokenKind}
 use Rattle.til_lexer.specs.declared.token.TokenKind.TheVariants as kinds
 use Rattle.til_parser.specs.declared.arguments.Arguments.{Arguments}
@@ -24,8 +26,9 @@ use Rattle.til_parser.specs.declared.ltype.AstSync.{AstSync}
 use Rattle.til_parser.specs.declared.ltype.AstSync.TheVariants as syncs
 use Rattle.til_parser.specs.declared.tree.AstName.{AstName}
 use Rattle.til_parser.specs.declared.tree.AstPath.{AstPath}
+use Rattle.til_parser.specs.Grammar.{Runs, numbers_in, later_numbers}
 use Rattle.til_parser.specs.Lexemes.{between_marks}
-use Rattle.til_parser.specs.Numbers.{whole_of, numerator_of, denominator_of, lowest}
+use Rattle.til_parser.specs.Numbers.{whole_of, digits_before, digits_behind, numerator_of, denominator_of, lowest}
 use Rattle.til_parser.specs.Words.{sync_of, type_word_at, argument_at}
 use Rattle.til_parser.specs.Reading.{Reader, is_kind, begins_type, expect, token}
 
@@ -48,14 +51,42 @@ whole = token kinds.Number (λ place spelling. whole_of spelling)
 abbrev pub number : Reader Fraction
 number = token kinds.Number (λ place spelling. Some (lowest (numerator_of spelling) (denominator_of spelling)))
 
--- a level, 1 to 8
-abbrev pub level_of : Option ℕ → Option ℕ
-level_of None = None
-level_of (Some n) = if nat_lt 0 n && nat_lt n 9 then Some n else None
+-- the number that digits spell, where it is at most 255
+abbrev pub byte_of : List ℕ → Option ℕ
+byte_of digits = below 256 (Some (read_on 0 digits))
 
--- a number that is a level
-abbrev pub level : Reader ℕ
-level = token kinds.Number (λ place spelling. level_of (whole_of spelling))
+-- the number behind a point, where there is one
+abbrev pub second_run : List ℕ → Option (Option ℕ)
+second_run [] = Some None
+second_run (digit ∷ digits) = option_map Some (byte_of (digit ∷ digits))
+
+-- the runs of digits of a number, by value, where none is over 255
+abbrev pub runs_of : List ℕ → Option Runs
+runs_of number = option_and_then (λ first. option_map (λ second. (first, second)) (second_run (digits_behind number))) (byte_of (digits_before number))
+
+-- such runs where the first is 1 to 8
+abbrev pub if_first : Runs → Option Runs
+if_first runs = if nat_lt 0 runs.0 && nat_lt runs.0 9 then Some runs else None
+
+-- a number with which a level may begin
+abbrev pub first_runs : Reader Runs
+first_runs = token kinds.Number (λ place spelling. option_and_then if_first (runs_of spelling))
+
+-- a number with which a level goes on
+abbrev pub runs : Reader Runs
+runs = token kinds.Number (λ place spelling. runs_of spelling)
+
+-- a point and such a number, or none
+unfoldable pub later_runs : Reader (Option Runs)
+later_runs = optional (is_kind kinds.Point) (expect kinds.Point >> runs)
+
+-- the level of a number's runs and of those of a second one, if there is one
+abbrev pub level_of : Runs × Option Runs → LevelNumbers
+level_of runs = of_numbers (numbers_in runs.0 ++ later_numbers runs.1)
+
+-- a level
+unfoldable pub level : Reader LevelNumbers
+level = level_of <$> (first_runs <&> later_runs)
 
 -- the text between the marks of a token of this kind
 abbrev pub marked : TokenKind → Reader (List ℕ)
@@ -111,7 +142,7 @@ Value arguments.Data = AstType
 Value arguments.Throughput = Fraction
 Value arguments.Dimensionality = ℕ
 Value arguments.Synchronicity = AstSync
-Value arguments.Complexity = ℕ
+Value arguments.Complexity = LevelNumbers
 Value arguments.Direction = Bool
 Value arguments.User = AstType
 Value arguments.Keep = Bool
@@ -187,7 +218,7 @@ filled element given = roll-AstStream (record {
   throughput = unwrap_or given.throughput (lowest 1 1);
   dims = unwrap_or given.dims 0;
   sync = unwrap_or given.sync syncs.Sync;
-  level = unwrap_or given.level 4;
+  level = unwrap_or given.level (whole_level 4);
   reverse = unwrap_or given.reverse false;
   user = unwrap_or given.user types.Null;
   keep = unwrap_or given.keep false;
@@ -225,5 +256,5 @@ type_with inner = led type_word_at (type_after inner) (types.Path <$> path)
 
 -- a type of at most so many levels; one that stands inside as many others as are allowed is too deep
 unfoldable pub ltype : ℕ → Reader AstType
-ltype zero = too_deep begins_type
+ltype zero = unfit (record {}) begins_type
 ltype (suc levels) = type_with (ltype levels)

@@ -10,11 +10,12 @@ use Rattle.tydi_base.specs.Name.{has_name_form}
 use Rattle.til_lexer.specs.contracts.token.TokenKind.{the_type}
 use Rattle.til_lexer.specs.declared.token.TokenKind.{TokenKind}
 use Rattle.til_lexer.specs.declared.token.TokenKind.TheVariants as kinds
+use Rattle.til_parser.specs.declared.refusal.TooDeep.{TooDeep}
 use Rattle.til_parser.specs.Lexemes.{Lexeme}
 
 -- from the tokens that are left to what is read of them
 abbrev pub Reader : Type 0 → Type 0
-Reader A = steps.Reader Lexeme A
+Reader A = steps.Reader TooDeep Lexeme A
 
 -- two kinds are the same
 unfoldable pub same_kind : TokenKind → TokenKind → Bool

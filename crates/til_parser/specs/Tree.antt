@@ -1,6 +1,7 @@
 -- The tree of a type as plain data. This project's own.
 use Rattle.std.specs.Prelude.{ℕ, suc, max, Bool, List, [], ◌∷◌}
 use Rattle.tydi_base.specs.Frac.{Fraction}
+use Rattle.tydi_base.specs.Level.{LevelNumbers}
 use Rattle.til_parser.specs.declared.ltype.AstType.{AstType}
 use Rattle.til_parser.specs.declared.ltype.AstType.TheOpen.{AstType-F, AstPart-F, AstStream-F}
 use Rattle.til_parser.specs.declared.ltype.AstType.TheFolds.{fold-AstType}
@@ -13,7 +14,7 @@ pub record Settings : Type 0 where
   pub throughput : Fraction
   pub dims : ℕ
   pub sync : AstSync
-  pub level : ℕ
+  pub level : LevelNumbers
   pub reverse : Bool
   pub keep : Bool
 

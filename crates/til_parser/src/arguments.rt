@@ -1,5 +1,6 @@
 ghost use Rattle.std.specs.Prelude.{◌≡◌};
 ghost use Rattle.til_parser.specs.Numbers.{lowest};
+ghost use Rattle.tydi_base.specs.Level.{whole_level};
 ghost use Rattle.til_parser.specs.ReadTypes.{is_given, none_given, stream_of};
 
 use crate::keyword::Argument;
@@ -77,7 +78,7 @@ fn default_throughput() -> Frac
 }
 
 fn default_level() -> Level
-    ensures { result ≡ 4 }
+    ensures { result ≡ whole_level 4 }
 {
     Level::new(4).unwrap()
 }

@@ -8,12 +8,13 @@ ghost use Rattle.tydi_reading.specs.Reading.{Reads, ReadsAlways};
 
 use crate::keyword::{Keyword, keyword_of};
 use crate::parser::Parser;
+use crate::refusal::Fault;
 use crate::tree::{
     Ast, AstBody, AstDecl, AstEnd, AstKind, AstName, AstNamespace, AstPort, AstPorts, AstStmt,
 };
 use til_lexer::TokenKind;
 use tydi_base::{Boxed, List};
-use tydi_reading::{Fault, repeated};
+use tydi_reading::repeated;
 
 impl<'a> Parser<'a> {
     /// `project`, whose types have at most so many levels.

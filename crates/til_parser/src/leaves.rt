@@ -1,6 +1,6 @@
 //! Names, numbers, quoted text, documentation and paths.
 
-ghost use Rattle.std.specs.Prelude.{◌≡◌, ◌+◌, ◌*◌, ◌^◌, ◌≤◌, ◌⊎◌, [], length, IfOk, IsTrue, Some};
+ghost use Rattle.std.specs.Prelude.{◌≡◌, ◌+◌, ◌*◌, ◌^◌, ◌≤◌, ◌⊎◌, [], length, option_and_then, IfOk, IsTrue, Some};
 ghost use Rattle.std.specs.Char.{is_ascii_digit};
 ghost use Rattle.std.specs.List.{list_all};
 ghost use Rattle.til_lexer.specs.Spelling.{HasForm};
@@ -10,13 +10,15 @@ ghost use Rattle.til_parser.specs.Numbers.{whole_of, digits_before, digits_behin
 ghost use Rattle.til_parser.specs.ReadTypes as spec;
 ghost use Rattle.tydi_reading.specs.Reading.{Reads, ReadsAlways};
 ghost use Rattle.tydi_base.specs.Decimal.{read_on};
+ghost use Rattle.tydi_base.specs.Level.{IsFirst};
 
 use crate::parser::Parser;
+use crate::refusal::Fault;
 use crate::tree::{AstName, AstPath};
 use std::alloc::Global;
 use til_lexer::{TokenKind, digits_at};
 use tydi_base::{Frac, Level, List, Memory, Name, Text, number_of_digits};
-use tydi_reading::{Fault, Source, joined};
+use tydi_reading::{Source, joined};
 
 impl<'a> Parser<'a> {
     /// `name`
@@ -41,13 +43,50 @@ impl<'a> Parser<'a> {
         self.token(TokenKind::Number, |spelling| whole_number(spelling))
     }
 
-    /// A whole number from 1 to 8.
+    /// `number [ "." number ]`: the numbers of a level are their runs of digits.
+    #[tactic(auto, unfolding(crate::specs::ReadTypes::level))]
     pub(crate) fn level(&mut self) -> Result<Level, Fault>
         ensures { ReadsAlways (spec.level self.old) result self.new }
     {
+        let first = self.first_runs()?;
+        let later = self.later_runs()?;
+        Ok(level_of(first, later))
+    }
+
+    /// `number`, with which a level may begin.
+    fn first_runs(&mut self) -> Result<(u8, Option<u8>), Fault>
+        ensures { ReadsAlways (spec.first_runs self.old) result self.new }
+    {
         self.token(
             TokenKind::Number,
-            |spelling| level_of(whole_number(spelling)),
+            |spelling: &str| -> Option<(u8, Option<u8>)>
+                requires { HasForm kinds.Number spelling.now }
+                ensures { result ≡ option_and_then spec.if_first (spec.runs_of spelling.now) }
+            { first_runs(spelling) },
+        )
+    }
+
+    /// `[ "." number ]`
+    #[tactic(auto, unfolding(crate::specs::ReadTypes::later_runs, tydi_reading::specs::Lists::mark))]
+    fn later_runs(&mut self) -> Result<Option<(u8, Option<u8>)>, Fault>
+        ensures { ReadsAlways (spec.later_runs self.old) result self.new }
+    {
+        if !self.eat(TokenKind::Point) {
+            return Ok(None);
+        }
+        Ok(Some(self.runs()?))
+    }
+
+    /// `number`, with which a level goes on.
+    fn runs(&mut self) -> Result<(u8, Option<u8>), Fault>
+        ensures { ReadsAlways (spec.runs self.old) result self.new }
+    {
+        self.token(
+            TokenKind::Number,
+            |spelling: &str| -> Option<(u8, Option<u8>)>
+                requires { HasForm kinds.Number spelling.now }
+                ensures { result ≡ spec.runs_of spelling.now }
+            { runs_of(spelling) },
         )
     }
 
@@ -147,14 +186,58 @@ fn are_digits(bytes: &[u8]) -> bool
     bytes.iter().all(|byte| byte.is_ascii_digit())
 }
 
-/// The level of a number, if it is 1 to 8.
-fn level_of(whole: Option<u64>) -> Option<Level>
-    ensures { result ≡ spec.level_of whole }
+/// The level of the runs of a number, and of those of a second one, if there is one.
+fn level_of(first: (u8, Option<u8>), later: Option<(u8, Option<u8>)>) -> Level
+    requires { IsFirst first.0 }
+    ensures { result ≡ spec.level_of (first, later) }
 {
-    match whole {
-        Some(number @ 1..=8) => Level::new(number as u8),
-        _ => None,
+    let numbers = match (first, later) {
+        ((first, None), None) => [first, 0, 0, 0],
+        ((first, Some(second)), None) => [first, second, 0, 0],
+        ((first, None), Some((second, third))) => [first, second, third.unwrap_or(0), 0],
+        ((first, Some(second)), Some((third, fourth))) => {
+            [first, second, third, fourth.unwrap_or(0)]
+        }
+    };
+    Level::dotted(numbers).unwrap()
+}
+
+/// The runs of digits of a number with which a level may begin: the first is 1 to 8, and one behind the point at most 255.
+fn first_runs(spelling: &str) -> Option<(u8, Option<u8>)>
+    requires { HasForm kinds.Number spelling.now }
+    ensures { result ≡ option_and_then spec.if_first (spec.runs_of spelling.now) }
+{
+    let runs = runs_of(spelling)?;
+    if 0 < runs.0 && runs.0 < 9 {
+        Some(runs)
+    } else {
+        None
     }
+}
+
+/// The runs of digits of a number, by value, where none is over 255: one, or two where it has a point.
+fn runs_of(spelling: &str) -> Option<(u8, Option<u8>)>
+    requires { HasForm kinds.Number spelling.now }
+    ensures { result ≡ spec.runs_of spelling.now }
+{
+    let (before, behind) = around_point(spelling);
+    let first = byte_of(before)?;
+    if behind.is_empty() {
+        return Some((first, None));
+    }
+    Some((first, Some(byte_of(behind)?)))
+}
+
+/// The number that digits spell, where it is at most 255.
+fn byte_of(digits: &[u8]) -> Option<u8>
+    requires { IsTrue (list_all is_ascii_digit digits.now) }
+    ensures { result ≡ spec.byte_of digits.now }
+{
+    let number = number_of_digits(digits)?;
+    if number > 255 {
+        return None;
+    }
+    Some(number as u8)
 }
 
 /// The number that a number spells, its point counted, in lowest terms.

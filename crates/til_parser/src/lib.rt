@@ -1,8 +1,7 @@
-//! The tree of a project in the Tydi Intermediate Language, and its one canonical text. `parse` gives the tree that the tokens of a
-//! text spell, or why they spell none; `print` gives the canonical text of a tree. `specs/Grammar.antt` says which tokens spell
-//! which tree, by recursion on the tree, and `specs/Canonical.antt` what the canonical text is. Two laws tie them: no text spells
-//! two trees, and the canonical text of a tree that a text spells, spells that tree again, places aside. The crate stands on
-//! `tydi_base`, for the tokens on `til_lexer`, and for the steps of reading on `tydi_reading`.
+//! The tree of a project in the Tydi Intermediate Language, and its canonical text. `parse` makes the tree of a text's tokens, and
+//! `print` the canonical text of a tree. `specs/Grammar.antt` says which tokens spell which tree, by recursion on the tree,
+//! `specs/Faults.antt` which error tokens have, and `specs/Canonical.antt` the canonical text. The crate stands on `tydi_base`, on
+//! `til_lexer` for tokens, and on `tydi_reading` for the steps of reading.
 #![tactic(auto)]
 
 mod arguments;
@@ -17,6 +16,7 @@ mod ltype;
 mod parser;
 mod parsing;
 mod printing;
+mod refusal;
 mod tree;
 mod types;
 mod written;

@@ -5,13 +5,15 @@ ghost use Rattle.til_parser.specs.Cursor.{tokens};
 ghost use Rattle.til_parser.specs.Lexemes.{Lexeme};
 ghost use Rattle.til_parser.specs.ReadDecls as decls;
 ghost use Rattle.til_parser.specs.ReadTypes as types;
+ghost use Rattle.til_parser.specs.declared.refusal.TooDeep.{TooDeep};
 ghost use Rattle.tydi_reading.specs.Calls.{DoesRead, DoesShrink, DoesStep, StepsShrink};
 ghost use Rattle.tydi_reading.specs.Reading.{Reader, Reads, Shrinks};
 
 use crate::parser::Parser;
+use crate::refusal::Fault;
 use til_lexer::TokenKind;
 use tydi_base::List;
-use tydi_reading::{Fault, repeated, steps};
+use tydi_reading::{repeated, steps};
 
 impl<'a> Parser<'a> {
     /// `"{" { item } "}"`
@@ -22,7 +24,7 @@ impl<'a> Parser<'a> {
     ) -> Result<List<A>, Fault>
         requires calls { P.IsAlwaysCallable item }
         requires less { DoesShrink tokens P.Fn item }
-        ensures { (read : Reader Lexeme A) → DoesRead tokens P.Fn item read → Shrinks read → Reads (decls.braced read self.old) result self.new }
+        ensures { (read : Reader TooDeep Lexeme A) → DoesRead tokens P.Fn item read → Shrinks read → Reads (decls.braced read self.old) result self.new }
     {
         self.expect(TokenKind::OpenBrace)?;
         let none = List::new(self.alloc());
@@ -40,7 +42,7 @@ impl<'a> Parser<'a> {
     ) -> Result<S, Fault>
         requires calls { P.IsAlwaysCallable step }
         requires less { StepsShrink tokens P.Fn step }
-        ensures { (read : S → Reader Lexeme S) → DoesStep tokens P.Fn step read → ((s : S) → Shrinks (read s)) → Reads (types.bracketed_steps read start self.old) result self.new }
+        ensures { (read : S → Reader TooDeep Lexeme S) → DoesStep tokens P.Fn step read → ((s : S) → Shrinks (read s)) → Reads (types.bracketed_steps read start self.old) result self.new }
     {
         self.expect(TokenKind::OpenParen)?;
         let end = steps(

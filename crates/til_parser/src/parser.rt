@@ -7,16 +7,18 @@ ghost use Rattle.til_lexer.specs.Spelling.{HasForm, own_text};
 ghost use Rattle.til_parser.specs.Lexemes.{Lexeme, HasFormIn, lexemes_of};
 ghost use Rattle.til_parser.specs.Reading as spec;
 ghost use Rattle.til_parser.specs.declared.ltype.AstType.{AstType};
+ghost use Rattle.til_parser.specs.declared.refusal.TooDeep.{TooDeep};
 ghost use Rattle.tydi_reading.specs.Calls.{Means};
-ghost use Rattle.tydi_reading.specs.Reading.{Outcome, ReadsAlways, rest_of, stopped, tells, told_by, too_deep};
+ghost use Rattle.tydi_reading.specs.Reading.{Outcome, ReadsAlways, rest_of, stopped, tells, told_by, unfit};
 ghost use Rattle.til_parser.specs.Words.{argument_at, type_word_at};
 
 use crate::keyword::{Argument, TypeWord, argument_of, type_word_of};
+use crate::refusal::{Fault, TooDeep};
 use std::alloc::Global;
 use std::marker::Model;
 use til_lexer::{Token, TokenKind};
 use tydi_base::Place;
-use tydi_reading::{Fault, Source, mark};
+use tydi_reading::{Source, mark};
 
 /// The tokens of a text that are not taken yet. Contracts see these.
 #[derive(Drop)]
@@ -193,10 +195,10 @@ impl<'a> Parser<'a> {
 
     /// Why no type may stand here, inside as many others as are allowed.
     pub(crate) fn too_deep(&self) -> Fault
-        ensures { ◌≡◌ {A = Outcome Lexeme AstType} (too_deep spec.begins_type self.now) (stopped result self.now) }
+        ensures { ◌≡◌ {A = Outcome TooDeep Lexeme AstType} (unfit (record {}) spec.begins_type self.now) (stopped result self.now) }
     {
         match self.rest {
-            [next, ..] if same_kind(next.kind, TokenKind::Word) => Fault::TooDeep,
+            [next, ..] if same_kind(next.kind, TokenKind::Word) => Fault::Unfit(TooDeep),
             _ => Fault::Refused,
         }
     }

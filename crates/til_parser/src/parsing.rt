@@ -10,10 +10,10 @@ ghost use Rattle.til_parser.specs.Lexemes.{lexemes_of};
 
 use crate::fault::ParseFault;
 use crate::parser::Parser;
+use crate::refusal::Fault;
 use crate::tree::Ast;
 use std::alloc::Global;
 use til_lexer::{Token, tokens_are_of_the_text, tokens_have_their_form};
-use tydi_reading::Fault;
 
 /// How deep types may nest.
 const MOST_LEVELS: usize = 64;
@@ -47,7 +47,7 @@ fn fault_at(fault: Fault, count: usize, left: usize) -> ParseFault
     match fault {
         Fault::Refused if left == 0 => ParseFault::EndOfText,
         Fault::Refused => ParseFault::Unexpected(count.saturating_sub(left)),
-        Fault::TooDeep => ParseFault::TooDeep(count.saturating_sub(left)),
+        Fault::Unfit(_) => ParseFault::TooDeep(count.saturating_sub(left)),
         Fault::Memory => ParseFault::Memory,
     }
 }

@@ -212,7 +212,7 @@ impl Written for Settings<'_> {
             ", throughput: ", FewestDigits(stream.throughput),
             ", dimensionality: ", stream.dims,
             ", synchronicity: ", sync_word(stream.sync),
-            ", complexity: ", stream.level.number(),
+            ", complexity: ", stream.level,
             ", direction: ", direction_word(stream.reverse),
             ", user: ")
     }

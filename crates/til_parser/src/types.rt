@@ -8,9 +8,10 @@ use crate::arguments::Arguments;
 use crate::keyword::{Argument, TypeWord, sync_of};
 use crate::ltype::{AstPart, AstStream, AstSync, AstType};
 use crate::parser::Parser;
+use crate::refusal::Fault;
 use til_lexer::TokenKind;
 use tydi_base::{Boxed, List};
-use tydi_reading::{Fault, Source, named};
+use tydi_reading::{Source, named};
 
 impl<'a> Parser<'a> {
     /// `type`, of at most so many levels.

@@ -4,9 +4,9 @@ use Rattle.til_parser.proofs.rules.Common.{has_name_form, TokenKind, ◌⋯◌, 
 use Rattle.std.proofs.Common.{get_or, map, take, append_assoc, take-append-drop}
 use Rattle.std.proofs.{Math.Seq.drop-append_seam, Math.Seq.take-append_seam, lemmas.List.drop-map, lemmas.List.length-map, lemmas.List.take-map}
 use Rattle.std.proofs.lemmas.List.{nil_from_length, Folds.list_all-append}
-use Rattle.til_lexer.specs.Spelling.{AreSpelled, IsApart, Spelled, runs_on, spelled_text}
+use Rattle.til_lexer.specs.Spelling.{AreSpelled, IsApart, Spelled, goes_on, runs_on, spelled_text}
 use Rattle.til_lexer.specs.{Places.place_past, Spans.is_space}
-use Rattle.til_lexer.proofs.SpelledTokens.{first_spelled, made_of}
+use Rattle.til_lexer.proofs.{SpelledPieces.goes-less, SpelledTokens.first_spelled, SpelledTokens.made_of}
 use Rattle.til_lexer.specs.declared.token.TokenKind.TheVariants as kinds
 
 -- ---- texts of tokens
@@ -31,11 +31,12 @@ pub record IsSplit (text : List ℕ) (tokens : List Shown) : Type 0 where
 abbrev pub Stops : TokenKind → List ℕ → Type 0
 Stops kind text = runs_on kind (get_or text 0 0) ≡ false
 
-apart_from : (kind : TokenKind) (spelling gap : List ℕ) (pieces : List Spelled) → AreSpelled pieces → Stops kind (gap ++ spelled_text pieces)
+apart_from : (kind : TokenKind) (spelling gap : List ℕ) (pieces : List Spelled) → AreSpelled pieces → goes_on kind spelling (get_or (gap ++ spelled_text pieces) 0 0) ≡ false
     → IsApart (record { kind = kind; spelling = spelling; gap = gap }) pieces
 apart_from kind spelling gap [] are stops = tt
 apart_from kind spelling gap (next ∷ pieces) are stops = λ none.
-    ap (runs_on kind) (sym (first_spelled next pieces are.0)) ∙ subst (λ g. Stops kind (g ++ spelled_text (next ∷ pieces))) none stops
+    ap (goes_on kind spelling) (sym (first_spelled next pieces are.0))
+    ∙ subst (λ g. goes_on kind spelling (get_or (g ++ spelled_text (next ∷ pieces)) 0 0) ≡ false) none stops
 
 -- ---- what is printed
 
@@ -149,7 +150,7 @@ one_match kind spelling (lexeme ∷ next ∷ ts) are = absurd cc
 
 -- a token, which goes on with no more than one of the last kind, and what it is read as
 pub one_token : {A : Type 0} {Is : A → Lexeme → Type 0} {last : TokenKind} (kind : TokenKind) (spelling : List ℕ) → HasForm kind spelling
-    → ((byte : ℕ) → runs_on last byte ≡ false → runs_on kind byte ≡ false)
+    → ((byte : ℕ) → runs_on last byte ≡ false → goes_on kind spelling byte ≡ false)
     → ((lexeme : Lexeme) → lexeme.kind ≡ kind → lexeme.spelling ≡ spelling → (a : A) × Is a lexeme) → Printed last spelling (λ a. One (Is a))
 one_token {last = last} kind spelling form less reads = record {
   tokens = (kind, spelling) ∷ [];
@@ -177,7 +178,7 @@ nothing = record {
 
 -- a symbol that goes on with nothing
 pub symbol : (kind : TokenKind) (spelling : List ℕ) → HasForm kind spelling → ((byte : ℕ) → runs_on kind byte ≡ false) → Fixed free spelling (Of kind)
-symbol kind spelling form stops = one_token kind spelling form (λ byte _. stops byte) (λ lexeme kind_is spelling_is. (tt, kind_is))
+symbol kind spelling form stops = one_token kind spelling form (λ byte _. goes-less kind spelling byte (stops byte)) (λ lexeme kind_is spelling_is. (tt, kind_is))
 
 pub word : (spelling : List ℕ) → has_name_form spelling ≡ true → Fixed kinds.Word spelling (Word spelling)
 word spelling form = one_token kinds.Word spelling form (λ _ s. s) (λ lexeme kind_is spelling_is. (tt, record { kind = kind_is; text = spelling_is }))

@@ -1,11 +1,11 @@
 -- Names, numbers, marked texts, lists, and from them whole trees are printed so that they are read again.
 use Rattle.til_parser.proofs.rules.Common.{◌≡◌, ℕ, inl, true, false, List, [], ◌∷◌, ◌++◌, Option, Some, None, codes, refl, sym, ap, ◌∙◌, arith, append-nil, list_all}
-use Rattle.til_parser.proofs.rules.Common.{has_name_form, HasForm, TokenKind, AstName, ◌⋯◌, Each, EachIs, Form, Doc, IsMarked, Level, Name, Number, One, Path, Quoted, Whole}
+use Rattle.til_parser.proofs.rules.Common.{has_name_form, HasForm, TokenKind, AstName, ◌⋯◌, Each, EachIs, Form, Doc, IsMarked, Name, Number, One, Path, Quoted, Whole}
 use Rattle.til_parser.proofs.rules.Common.{Lexeme, between_marks, Bool, AstType, AstKind, AstNamespace, Bracketed, Commas, Of, Word, SpellsType, SpellsParts, SpellsPort}
 use Rattle.til_parser.proofs.rules.Common.{SpellsPorts, SpellsEnd, SpellsStmt, SpellsBody, SpellsStreamletPorts, SpellsKind, SpellsDecl, SpellsNamespace, direction_word, sync_word}
 use Rattle.til_parser.proofs.rules.Common.{truth_word, way_word, Ltype, null, plain, all_arguments}
 use Rattle.std.proofs.{Common.flat_map, Common.decimal, lemmas.Bool.Decides.nat_tests}
-use Rattle.tydi_base.specs.{Frac.Fraction, Level.IsLevel}
+use Rattle.tydi_base.specs.{Frac.Fraction}
 use Rattle.til_lexer.specs.{Spans.is_space, Spelling.runs_on}
 use Rattle.til_parser.specs.Canonical.{doc_text, names_text, number_text, quoted_text, type_text, but_first, more_parts_text, port_text, ports_text, stmt_text, spaced_text}
 use Rattle.til_parser.specs.Canonical.{body_text, streamlet_text, kind_text, decl_text, doc_line, namespace_text, second_text}
@@ -16,6 +16,8 @@ use Rattle.til_parser.specs.declared.tree.{AstBody.AstBody, AstDecl.AstDecl, Ast
 use Rattle.til_parser.specs.{Grammar.LastComma, Grammar.Arguments, Trees.IsDecl, Trees.IsNamespace, Trees.IsSecond, declared.ltype.AstSync.AstSync}
 use Rattle.til_parser.proofs.printed.PrintedForms.{Fixed, Printed, at_end, followed, free, joined, made, nothing, one_token, prefixed, seen, spaced, between_words, bracketed}
 use Rattle.til_parser.proofs.printed.PrintedForms.{colon, comma, equals, indented, keyword, labelled, led, suffixed, symbol, word, worded}
+use Rattle.til_lexer.proofs.SpelledPieces.{goes-less}
+use Rattle.til_parser.proofs.printed.PrintedLevels.{printed_level}
 use Rattle.til_parser.proofs.{texts.NumberTextLemmas.number_text-is, texts.NumberTextLemmas.decimal-are, PlainLemmas.with_plain}
 use Rattle.til_parser.proofs.{LexemeLemmas.between_marks-of, rules.StreamFields.all_arguments-all, rules.StreamFields.all_arguments-apart}
 use Rattle.til_lexer.specs.declared.token.TokenKind.TheVariants as kinds
@@ -40,22 +42,19 @@ printed_name name named = one_token kinds.Word name.name (grind (arith, nat_test
 printed_whole : (whole : ℕ) → IsShort whole → Fixed kinds.Number (decimal whole) (Whole whole)
 printed_whole whole below =
     let shown = decimal-are 18 whole (omega arith) (omega arith) below in
-    one_token kinds.Number (decimal whole) (inl (record { digits = shown.0; few = shown.1 })) (λ _ s. s)
+    one_token kinds.Number (decimal whole) (inl (record { digits = shown.0; few = shown.1 })) (goes-less kinds.Number (decimal whole))
     (λ lexeme kind_is text_is. (tt, record { kind = kind_is; digits = rw text_is shown.0.each; value = rw text_is (sym shown.2) }))
-
-printed_level : (level : ℕ) → IsLevel level → Fixed kinds.Number (decimal level) (Level level)
-printed_level level within = made (λ a. a) (λ a ts is. record { whole = is; within = within }) (printed_whole level (let high = within.1 in omega arith))
 
 printed_number : (number : Fraction) → IsSpelledNumber number → Fixed kinds.Number (number_text number) (Number number)
 printed_number number is =
     let shown = number_text-is number is.text is.spelled in
-    one_token kinds.Number (number_text number) shown.form (λ _ s. s) (λ lexeme kind_is text_is. (tt, record { kind = kind_is; value = rw text_is shown.value }))
+    one_token kinds.Number (number_text number) shown.form (goes-less kinds.Number (number_text number)) (λ lexeme kind_is text_is. (tt, record { kind = kind_is; value = rw text_is shown.value }))
 
 -- ---- marked texts
 
 printed_marked : (kind : TokenKind) (mark : ℕ) (text : List ℕ) → HasForm kind (mark ∷ text ++ mark ∷ []) → ((byte : ℕ) → runs_on kind byte ≡ false)
     → Fixed free (mark ∷ text ++ mark ∷ []) (One (IsMarked kind text))
-printed_marked kind mark text form stops = one_token kind (mark ∷ text ++ mark ∷ []) form (λ byte _. stops byte)
+printed_marked kind mark text form stops = one_token kind (mark ∷ text ++ mark ∷ []) form (λ byte _. goes-less kind (mark ∷ text ++ mark ∷ []) byte (stops byte))
     (λ lexeme kind_is text_is. (tt, record { kind_is = kind_is; text_is = sym (ap between_marks text_is ∙ between_marks-of mark text) }))
 
 printed_quoted : (text : List ℕ) → IsQuote text → Fixed free (quoted_text text) (Quoted text)

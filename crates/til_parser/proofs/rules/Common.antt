@@ -19,7 +19,7 @@ unfoldable pub use Rattle.til_parser.specs.Numbers.{whole_of, lowest, divisor_fr
 pub use Rattle.til_parser.specs.ReadDecls.{keyword, kind_of, project_of}
 unfoldable pub use Rattle.til_parser.specs.ReadDecls.{second, end, link_from, instance_of, stmt, body, port, streamlet_ports, impl_kind, test_kind, braced, namespace, project}
 unfoldable pub use Rattle.til_parser.specs.ReadDecls.{named_kind, decl}
-pub use Rattle.til_parser.specs.ReadTypes.{name, one_more, bracketed, name_at, whole, number, level_of, level, marked, quoted, either_word, sync, Value, field, put, is_given}
+pub use Rattle.til_parser.specs.ReadTypes.{name, one_more, bracketed, name_at, whole, number, marked, quoted, either_word, sync, Value, field, put, is_given}
 pub use Rattle.til_parser.specs.ReadTypes.{none_given, filled, stream_of, value_of, value, type_after}
 unfoldable pub use Rattle.til_parser.specs.ReadTypes.{bracketed_steps, doc, path, stream, bits, part, type_with, ltype}
 pub use Rattle.til_parser.specs.Reading.{is_kind, expect, is_word, begins_type}
@@ -46,7 +46,7 @@ pub use Rattle.tydi_reading.specs.Lists.{Each, EachIs}
 unfoldable pub use Rattle.tydi_reading.specs.Lists.{separated, repeated, joined, repeated_turn, steps, steps_turn, separator_turn, mark}
 pub use Rattle.tydi_reading.specs.Named.{AreApart, NeverGrows}
 unfoldable pub use Rattle.tydi_reading.specs.Named.{argument, named}
-pub use Rattle.tydi_reading.specs.Reading.{Shrinks, tells, choose, Reader, ◌>>◌, Outcome, took, stopped, and_then, meant, ◌<&>◌, ◌<$>◌, leaf, led, too_deep, Reads}
+pub use Rattle.tydi_reading.specs.Reading.{Shrinks, tells, choose, Reader, ◌>>◌, Outcome, took, stopped, and_then, meant, ◌<&>◌, ◌<$>◌, leaf, led, unfit, Reads}
 unfoldable pub use Rattle.tydi_reading.specs.Reading.{loop}
 pub use Rattle.tydi_reading.specs.Rules.{IsRule}
 pub use Rattle.tydi_reading.specs.Tables.{entry_of}

@@ -18,15 +18,16 @@ use Rattle.til_parser.specs.declared.tree.AstKind.TheVariants as decls
 use Rattle.til_parser.specs.declared.tree.AstPorts.TheVariants as ports
 use Rattle.til_parser.proofs.rules.StreamFields.{S}
 use Rattle.til_parser.proofs.rules.TypeRules.{Fits, ltype-rule}
+use Rattle.til_parser.specs.declared.refusal.TooDeep.{TooDeep}
 
 -- ---- ends
 
-second-rule : IsRule IsFormed second Second (λ _. NoneNext kinds.Point) (λ _. Unit {0}) Never
+second-rule : IsRule TooDeep IsFormed second Second (λ _. NoneNext kinds.Point) (λ _. Unit {0}) Never
 unfolding second
 second-rule = optional-rule (is_kind kinds.Point) (flat_skip (kind_mark kinds.Point _ refl) (as_flat name-rule))
     (λ n. front-marked (kind_mark kinds.Point _ refl) (Name n)) (λ n rest. tt)
 
-end-rule : IsRule IsFormed end SpellsEnd (λ _. NoneNext kinds.Point) (λ _. Unit {0}) Never
+end-rule : IsRule TooDeep IsFormed end SpellsEnd (λ _. NoneNext kinds.Point) (λ _. Unit {0}) Never
 unfolding end
 end-rule =
     viewed (λ (e : AstName × Option AstName). record { first = e.0; second = e.1 }) (λ (e : AstEnd). (e.first, e.second))
@@ -40,7 +41,7 @@ StmtRest called x ts = Made (stmts.Instance called) (λ p. Of kinds.Equals ⋯ (
     ⊎ Made (λ (l : Option AstName × AstEnd). stmts.Link (record { first = called; second = l.0 }) l.1)
     (λ l. Second l.0 ⋯ (Of kinds.DoubleDash ⋯ (SpellsEnd l.1 ⋯ Of kinds.Semicolon))) x ts
 
-rest-rule : (called : AstName) → IsRule IsFormed (choose (is_kind kinds.Equals) false (instance_of called) (link_from called)) (StmtRest called) (λ _. Anything) (λ _. Unit {0}) Never
+rest-rule : (called : AstName) → IsRule TooDeep IsFormed (choose (is_kind kinds.Equals) false (instance_of called) (link_from called)) (StmtRest called) (λ _. Anything) (λ _. Unit {0}) Never
 unfolding link_from instance_of same_kind
 rest-rule called =
     either-rule (is_kind kinds.Equals) _
@@ -54,7 +55,7 @@ rest-rule called =
       one_next = λ p rest next. tt;
       other_next = λ l rest next. tt;
       one_begins = λ p. front-marked equals (Path p.names ⋯ Of kinds.Semicolon);
-      deep_begins = λ front rest d. absurd d;
+      unfit_begins = λ front rest d. absurd d;
       other_begins = λ l front rest s next.
           optional-tells (is_kind kinds.Equals) false _ (λ n. front-not kinds.Point kinds.Equals refl) (front-not kinds.DoubleDash kinds.Equals refl) l.0 front rest s;
       within_one = λ p w. tt;
@@ -66,21 +67,21 @@ stmt_back : (x : AstStmt) (ts : List Lexeme) → SpellsStmt x ts → Chained Nam
 stmt_back (stmts.Instance called p) ts s = (called, with_ends s (inl (p, refl, s.ends)))
 stmt_back (stmts.Link first other) ts s = let t = regroup s in (first.first, with_ends t (inr ((first.second, other), refl, t.ends)))
 
-pub stmt-rule : IsRule IsFormed stmt SpellsStmt (λ _. Anything) (λ _. Unit {0}) Never
+pub stmt-rule : IsRule TooDeep IsFormed stmt SpellsStmt (λ _. Anything) (λ _. Unit {0}) Never
 unfolding stmt
 stmt-rule = (flat (as_rule (respelled (as_rule
     (chain-rule Name StmtRest _ _ _ (λ _. Anything) _ _ _ (λ called x back rest s next. tt) (λ called back rest d. tt) name-rule rest-rule))
     SpellsStmt (λ x ts c. elim c.1.ends [ inl i ↦ rw i.1 (with_ends c.1 i.2) | inr l ↦ rw l.1 (ungroup (with_ends c.1 l.2)) ]) stmt_back)) (λ ts d. d.1.ends) (λ x. tt)).is
 
 stmt-begins : Begins (is_kind kinds.Word) SpellsStmt Never
-stmt-begins = record { item = λ x front rest s. let c = stmt_back x front s in name-begins c.0 _ front rest c.1; deep = λ front rest d. absurd d }
+stmt-begins = record { item = λ x front rest s. let c = stmt_back x front s in name-begins c.0 _ front rest c.1; unfit = λ front rest d. absurd d }
 
 pub Shrinks-stmt : Shrinks stmt
 Shrinks-stmt = shrinks (as_rule stmt-rule) stmt-begins
 
 -- ---- bodies
 
-pub body-rule : IsRule IsFormed body SpellsBody (λ _. Anything) (λ _. Unit {0}) Never
+pub body-rule : IsRule TooDeep IsFormed body SpellsBody (λ _. Anything) (λ _. Unit {0}) Never
 unfolding body same_kind
 body-rule =
     either-rule (is_kind kinds.Quoted) bodies.Linked (of_flat (as_flat quoted-rule)) bodies.Structural
@@ -92,7 +93,7 @@ body-rule =
       one_next = λ text rest next. tt;
       other_next = λ all rest next. tt;
       one_begins = λ text front rest s. rw (s.all) (same_kind-is s.lexeme.kind kinds.Quoted s.is.kind_is);
-      deep_begins = λ front rest d. absurd d;
+      unfit_begins = λ front rest d. absurd d;
       other_begins = λ all front rest s next. front-not kinds.OpenBrace kinds.Quoted refl front rest s;
       within_one = λ text w. tt;
       one_within = λ text w. tt;
@@ -101,7 +102,7 @@ body-rule =
 
 -- ---- keywords
 
-pub keyword-rule : IsRule IsFormed keyword (λ x. Word (keyword_word x)) (λ _. Anything) (λ _. Unit {0}) Never
+pub keyword-rule : IsRule TooDeep IsFormed keyword (λ x. Word (keyword_word x)) (λ _. Anything) (λ _. Unit {0}) Never
 keyword-rule = table-rule keyword_word all_keywords (elim [ keywords.Type ↦ refl | _ ↦ refl ]) keywords.Type refl
 
 -- what follows the keyword and the name of a declaration
@@ -129,31 +130,31 @@ kind_of_parts _ called kind ts s = let m = s.ends.ends in rw m.1 (with_ends s (w
 module _ (n : ℕ) where
   -- ---- ports
 
-  port-rule : IsRule IsFormed (port n) SpellsPort (λ _. PathNext) (λ p. Fits n p.ltype) (PortTo n)
+  port-rule : IsRule TooDeep IsFormed (port n) SpellsPort (λ _. PathNext) (λ p. Fits n p.ltype) (PortTo n)
   unfolding port
   port-rule =
       viewed (λ (p : Option (List ℕ) × (AstName × (Bool × AstType))). record { doc = p.0; name = p.1.0; inward = p.1.1.0; ltype = p.1.1.1 })
       (λ (p : AstPort). (p.doc, (p.name, (p.inward, p.ltype))))
       (documented (parted (as_flat name-rule) colon
       (both (as_flat (either_word-rule way_word refl refl)) (as_rule (ltype-rule n)) (λ b y back rest s next. tt) (λ b back rest d. tt)) (λ x front rest s. tt))
-      (record { item = λ z. name-begins z.0 _; deep = λ front rest d. name-begins d.0 _ front rest d.1 })) (λ x. refl) (λ y. refl)
+      (record { item = λ z. name-begins z.0 _; unfit = λ front rest d. name-begins d.0 _ front rest d.1 })) (λ x. refl) (λ y. refl)
 
   port-begins : Begins begins_item SpellsPort (PortTo n)
   port-begins = record {
     item = λ p. doc-begins _ (name-begins p.name _) p.doc;
-    deep = λ front rest d. doc-begins _ (λ back rest e. name-begins e.0 _ back rest e.1) d.0 front rest d.1;
+    unfit = λ front rest d. doc-begins _ (λ back rest e. name-begins e.0 _ back rest e.1) d.0 front rest d.1;
   }
 
   pub Shrinks-port : (found : List AstPort) → Shrinks (one_more (port n) found)
   Shrinks-port found = mapped-less (λ x. found ++ x ∷ []) (port n) (shrinks (as_rule port-rule) port-begins)
 
-  ports-rule : IsRule IsFormed (bracketed (port n)) SpellsPorts (λ _. Anything) (PortsWithin n) (PortsTo n)
+  ports-rule : IsRule TooDeep IsFormed (bracketed (port n)) SpellsPorts (λ _. Anything) (PortsWithin n) (PortsTo n)
   unfolding same_kind
   ports-rule = bracketed-rule (begins-repeats (item-apart kinds.CloseParen refl refl) port-begins) port-rule
 
   -- ---- a streamlet's ports
 
-  streamlet-rule : IsRule IsFormed (streamlet_ports n) SpellsStreamletPorts (λ _. PathNext) (StreamletWithin n) (PortsTo n)
+  streamlet-rule : IsRule TooDeep IsFormed (streamlet_ports n) SpellsStreamletPorts (λ _. PathNext) (StreamletWithin n) (PortsTo n)
   unfolding streamlet_ports same_kind
   streamlet-rule =
       either-rule (is_kind kinds.OpenParen) ports.Own (as_rule ports-rule) ports.Named (as_flat path-rule) _ _ _
@@ -164,7 +165,7 @@ module _ (n : ℕ) where
         one_next = λ all rest next. tt;
         other_next = λ p rest next. next;
         one_begins = λ all. front-marked open_paren _;
-        deep_begins = front-marked open_paren _;
+        unfit_begins = front-marked open_paren _;
         other_begins = λ p front rest s next. path-front (λ ts. tells (is_kind kinds.OpenParen) false ts ≡ false) (λ x t more is. rw is.kind refl) p.names front rest s;
         within_one = λ all w. w;
         one_within = λ all w. w;
@@ -173,7 +174,7 @@ module _ (n : ℕ) where
 
   -- ---- a declaration, by its keyword
 
-  pub kind-rule_of : (begun : Keyword) → IsRule IsFormed (kind_of n begun) (KindForm begun) (λ _. PathNext) (KindWithin n) (RestTo n begun)
+  pub kind-rule_of : (begun : Keyword) → IsRule TooDeep IsFormed (kind_of n begun) (KindForm begun) (λ _. PathNext) (KindWithin n) (RestTo n begun)
   unfolding impl_kind test_kind same_kind
   kind-rule_of keywords.Type = made-rule decls.Alias (skip equals (as_rule (ltype-rule n))) _ _ (λ x rest next. next) (λ x w. w) (λ x w. w)
   kind-rule_of keywords.Interface = made-rule decls.Interface (skip equals (as_rule ports-rule)) _ _ (λ x rest next. tt) (λ x w. w) (λ x w. w)

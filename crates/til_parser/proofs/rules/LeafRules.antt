@@ -1,15 +1,15 @@
 -- The rules of names, numbers, marked texts, documentation, paths, and lists in brackets and in braces.
-use Rattle.til_parser.proofs.rules.Common.{◌≡◌, ℕ, ◌^◌, ◌≤◌, nat_lt, Bool, true, false, cond, ◌&&◌, List, [], ◌∷◌, ◌++◌, length, Option, Some, None, inl, inr, refl, sym}
+use Rattle.til_parser.proofs.rules.Common.{◌≡◌, ℕ, ◌^◌, ◌≤◌, nat_lt, Bool, true, false, cond, List, [], ◌∷◌, ◌++◌, length, Option, Some, None, inl, inr, refl, sym}
 use Rattle.til_parser.proofs.rules.Common.{ap, subst, bytes_eq, arith, codes, length-append, not, list_all, none-some, same_Some, cond_some, is_name, has_name_form}
 use Rattle.til_parser.proofs.rules.Common.{Place, Never, Anything, ◌⋯◌, Reader, Shrinks, tells, IsRule, bytes_eq-Decides, Each, EachIs, separated, Repeats}
 use Rattle.til_parser.proofs.rules.Common.{repeated-rule, BracketedTo, BracedTo, braced, front-tells, follows-front, as_rule, as_flat, skip, close, viewed, optional-rule}
 use Rattle.til_parser.proofs.rules.Common.{mark-tells, shrinks, HasForm, IsBetween, start, TokenKind, AstName, AstPath, Form, One, Of, Word, Commas}
-use Rattle.til_parser.proofs.rules.Common.{Bracketed, Braced, IsNamed, Name, IsWhole, Whole, IsNumber, Number, IsMarked, Quoted, Doc, Level, Path, sync_word, Lexeme}
-use Rattle.til_parser.proofs.rules.Common.{IsFormed, whole_of, numerator_of, denominator_of, lowest, bracketed, bracketed_steps, name_at, name, whole, number, level_of}
-use Rattle.til_parser.proofs.rules.Common.{level, marked, quoted, doc, path, either_word, sync, same_kind, is_kind, all_syncs, both, fewer, respelled, Begins}
+use Rattle.til_parser.proofs.rules.Common.{Bracketed, Braced, IsNamed, Name, IsWhole, Whole, IsNumber, Number, IsMarked, Quoted, Doc, Path, sync_word, Lexeme}
+use Rattle.til_parser.proofs.rules.Common.{IsFormed, whole_of, numerator_of, denominator_of, lowest, bracketed, bracketed_steps, name_at, name, whole, number}
+use Rattle.til_parser.proofs.rules.Common.{marked, quoted, doc, path, either_word, sync, same_kind, is_kind, all_syncs, both, fewer, Begins}
 use Rattle.std.specs.Char.{is_ascii_digit}
 use Rattle.std.proofs.lemmas.{Bool.Decides.nat_tests, Str.IsUtf8-nil, Str.Parse.digits_value_short}
-use Rattle.tydi_base.specs.{Decimal.read_on, Decimal.below, Level.IsLevel}
+use Rattle.tydi_base.specs.{Decimal.read_on, Decimal.below}
 use Rattle.tydi_base.proofs.DecimalLaws.{own}
 use Rattle.tydi_reading.proofs.{JoinedRule.joined-rule, Rule.Rule, SeparatedRule.separated-rule}
 use Rattle.tydi_reading.specs.Forms.{Optional}
@@ -18,6 +18,7 @@ use Rattle.til_parser.specs.declared.ltype.AstSync.TheVariants as syncs
 use Rattle.til_parser.proofs.numbers.FractionLemmas.{IsReduced-lowest, lowest_from_IsReduced}
 use Rattle.til_parser.proofs.numbers.NumberLemmas.{tens_pos}
 use Rattle.til_parser.proofs.rules.TokenRules.{made, meant_is, same_kind-is, kind_mark, comma, open_paren, close_paren, NoneNext, kind-not, begins_item, token-rule, table-rule}
+use Rattle.til_parser.specs.declared.refusal.TooDeep.{TooDeep}
 
 -- ---- names
 
@@ -26,7 +27,7 @@ named : (place : Place) (spelling : List ℕ) (b : Bool) (x : AstName) → name_
 named place spelling true x same = (refl, sym (same_Some _ x same))
 named place spelling false x same = absurd (none-some x same)
 
-pub name-rule : IsRule IsFormed name Name (λ _. Anything) (λ _. Unit {0}) Never
+pub name-rule : IsRule TooDeep IsFormed name Name (λ _. Anything) (λ _. Unit {0}) Never
 name-rule = token-rule _ _ IsNamed (record {
   there = λ x t is means. let parts = named t.place t.spelling (is_name t.spelling) x means in rw parts.1 (record { kind = is; text = refl; place = refl; named = parts.0 });
   back = λ x t formed is. (is.kind, rw (is.text, is.place, is.named) refl);
@@ -57,38 +58,19 @@ is_whole x lexeme is means =
     record { kind = is; digits = parts.0; value = sym (cond_some (nat_lt number (2 ^ 64)) number x parts.1).1 }
 
 -- the number 1, as a token
-abbrev one_token : Lexeme
+abbrev pub one_token : Lexeme
 one_token = made kinds.Number (codes "1")
 
-one_formed : IsFormed one_token
+pub one_formed : IsFormed one_token
 one_formed = inl (record { digits = record { some = omega arith; each = refl }; few = omega arith })
 
-pub whole-rule : IsRule IsFormed whole Whole (λ _. Anything) (λ _. Unit {0}) Never
+pub whole-rule : IsRule TooDeep IsFormed whole Whole (λ _. Anything) (λ _. Unit {0}) Never
 unfolding whole_of
 whole-rule = token-rule _ _ IsWhole (record { there = is_whole; back = λ x t formed is. (is.kind, means_whole x t formed is) }) one_token 1 one_formed refl refl
 
--- ---- levels
-
-level_within : (found : Option ℕ) (x : ℕ) → level_of found ≡ Some x → (found ≡ Some x) × IsLevel x
-level_within None x same = absurd (none-some x same)
-level_within (Some n) x same =
-    let parts = cond_some (nat_lt 0 n && nat_lt n 9) n x same in
-    (ap Some parts.1, (grind (arith, nat_tests, parts.0, parts.1), grind (arith, nat_tests, parts.0, parts.1)))
-
-pub level-rule : IsRule IsFormed level Level (λ _. Anything) (λ _. Unit {0}) Never
-unfolding whole_of
-level-rule =
-    respelled (as_rule (token-rule kinds.Number (λ place spelling. level_of (whole_of spelling)) (λ x t. IsWhole x t × IsLevel x) (record {
-      there = λ x t is means. let parts = level_within (whole_of t.spelling) x means in (is_whole x t is parts.0, parts.1);
-      back = λ x t formed is.
-          let test : (nat_lt 0 x && nat_lt x 9) ≡ true = grind (arith, nat_tests, is.1.0, is.1.1) in (is.0.kind, rw (means_whole x t formed is.0, test) refl);
-    }) one_token 1 one_formed refl refl)) Level
-    (λ x ts s. record { whole = record { lexeme = s.lexeme; all = s.all; is = s.is.0 }; within = s.is.1 })
-    (λ x ts s. record { lexeme = s.whole.lexeme; all = s.whole.all; is = (s.whole.is, s.within) })
-
 -- ---- fractions
 
-pub number-rule : IsRule IsFormed number Number (λ _. Anything) (λ _. Unit {0}) Never
+pub number-rule : IsRule TooDeep IsFormed number Number (λ _. Anything) (λ _. Unit {0}) Never
 number-rule = token-rule kinds.Number (λ place spelling. Some (lowest (numerator_of spelling) (denominator_of spelling))) IsNumber (record {
   there = λ x t is means. record { kind = is; value = rw (← same_Some _ x means) (IsReduced-lowest _ _ (tens_pos _)) };
   back = λ x t formed is. (is.kind, ap Some (sym (lowest_from_IsReduced _ _ x (tens_pos _) is.value)));
@@ -100,18 +82,18 @@ empty_between : (mark : ℕ) → IsBetween mark (mark ∷ mark ∷ [])
 empty_between mark = record { inside = []; marked = refl; lacks = λ k d less is. absurd (omega arith); utf8 = IsUtf8-nil }
 
 marked-rule : (kind : TokenKind) (mark : ℕ) → HasForm kind (mark ∷ mark ∷ [])
-    → IsRule IsFormed (marked kind) (λ text. One (IsMarked kind text)) (λ _. Anything) (λ _. Unit {0}) Never
+    → IsRule TooDeep IsFormed (marked kind) (λ text. One (IsMarked kind text)) (λ _. Anything) (λ _. Unit {0}) Never
 marked-rule kind mark form = token-rule _ _ (IsMarked kind) (record {
   there = λ x t is means. record { kind_is = is; text_is = sym (same_Some _ x means) };
   back = λ x t formed is. (is.kind_is, ap Some (sym is.text_is));
 }) (made kind (mark ∷ mark ∷ [])) _ form refl refl
 
-pub quoted-rule : IsRule IsFormed quoted Quoted (λ _. Anything) (λ _. Unit {0}) Never
+pub quoted-rule : IsRule TooDeep IsFormed quoted Quoted (λ _. Anything) (λ _. Unit {0}) Never
 quoted-rule = marked-rule kinds.Quoted 34 (empty_between 34)
 
 -- ---- documentation
 
-pub doc-rule : IsRule IsFormed doc Doc (λ _. NoneNext kinds.Doc) (λ _. Unit {0}) Never
+pub doc-rule : IsRule TooDeep IsFormed doc Doc (λ _. NoneNext kinds.Doc) (λ _. Unit {0}) Never
 unfolding doc
 doc-rule =
     optional-rule (is_kind kinds.Doc) (as_flat (marked-rule kinds.Doc 35 (empty_between 35)))
@@ -131,9 +113,9 @@ optional-tells test b Second first second None front rest s = rw (s.all, s.begin
 optional-tells {Spelled = Spelled} test b Second first second (Some x) front rest s = front-tells test b (Spelled x) Second front rest (first x) s
 
 -- documentation, or none, before what begins with a word
-abbrev pub documented : {B : Type 0} (r : Rule IsFormed B) → Begins (is_kind kinds.Word) r.Spelled r.Deep → Rule IsFormed (Option (List ℕ) × B)
+abbrev pub documented : {B : Type 0} (r : Rule TooDeep IsFormed B) → Begins (is_kind kinds.Word) r.Spelled r.Unfit → Rule TooDeep IsFormed (Option (List ℕ) × B)
 documented r begins = both (as_flat doc-rule) r
-    (λ text y back rest s next. no_doc (back ++ rest) (begins.item y back rest s)) (λ text back rest d. no_doc (back ++ rest) (begins.deep back rest d))
+    (λ text y back rest s next. no_doc (back ++ rest) (begins.item y back rest s)) (λ text back rest d. no_doc (back ++ rest) (begins.unfit back rest d))
 
 pub doc-begins : (Second : Form) → ((back rest : List Lexeme) → Second back → tells (is_kind kinds.Word) false (back ++ rest) ≡ true)
     → (text : Option (List ℕ)) (front rest : List Lexeme) → (Doc text ⋯ Second) front → tells begins_item false (front ++ rest) ≡ true
@@ -145,11 +127,11 @@ doc-begins Second second = optional-tells begins_item true Second (λ text front
 -- ---- one of two words, and of some
 
 pub either_word-rule : (word : Bool → List ℕ) → has_name_form (word true) ≡ true → bytes_eq (word false) (word true) ≡ false
-    → IsRule IsFormed (either_word (word true) (word false)) (λ b. Word (word b)) (λ _. Anything) (λ _. Unit {0}) Never
+    → IsRule TooDeep IsFormed (either_word (word true) (word false)) (λ b. Word (word b)) (λ _. Anything) (λ _. Unit {0}) Never
 either_word-rule word form apart = table-rule word (true ∷ false ∷ [])
     (elim [ true ↦ rw ((bytes_eq-Decides (word true) (word true)).1 refl) refl | false ↦ rw (apart, (bytes_eq-Decides (word false) (word false)).1 refl) refl ]) true form
 
-pub sync-rule : IsRule IsFormed sync (λ x. Word (sync_word x)) (λ _. Anything) (λ _. Unit {0}) Never
+pub sync-rule : IsRule TooDeep IsFormed sync (λ x. Word (sync_word x)) (λ _. Anything) (λ _. Unit {0}) Never
 sync-rule = table-rule sync_word all_syncs (elim [ syncs.Sync ↦ refl | _ ↦ refl ]) syncs.Sync refl
 
 -- ---- paths
@@ -162,7 +144,7 @@ not_next : (test : Lexeme → Bool) (rest : List Lexeme) → tells test false re
 not_next test [] is = refl
 not_next test (t ∷ rest) is = ap not is
 
-pub path-rule : IsRule IsFormed path (λ x. Path x.names) (λ _. PathNext) (λ _. Unit {0}) Never
+pub path-rule : IsRule TooDeep IsFormed path (λ x. Path x.names) (λ _. PathNext) (λ _. Unit {0}) Never
 unfolding path
 path-rule =
     viewed (λ (names : List AstName). record { names = names }) (λ (x : AstPath). x.names)
@@ -172,7 +154,7 @@ path-rule =
 -- a name takes a token
 pub Shrinks-name : Shrinks name
 unfolding same_kind
-Shrinks-name = shrinks {lead = is_kind kinds.Word} {Deep = Never} (as_rule name-rule) (record { item = λ x front rest s. rw (s.all, s.is.kind) refl; deep = λ front rest d. absurd d })
+Shrinks-name = shrinks {lead = is_kind kinds.Word} {Unfit = Never} (as_rule name-rule) (record { item = λ x front rest s. rw (s.all, s.is.kind) refl; unfit = λ front rest d. absurd d })
 
 -- a path begins with a name
 pub path-front : (P : List Lexeme → Type 0) → ((x : AstName) (t : Lexeme) (more : List Lexeme) → IsNamed x t → P (t ∷ more)) → (names : List AstName) (front rest : List Lexeme)
@@ -183,14 +165,14 @@ path-front P named (x ∷ next ∷ names) front rest s = follows-front P (Name x
 
 -- ---- lists
 
-module _ {A : Type 0} {item : Reader Lexeme A} {Item : A → Form} {Within : A → Type 0} {Deep : Form} where
+module _ {A : Type 0} {item : Reader TooDeep Lexeme A} {Item : A → Form} {Within : A → Type 0} {Unfit : Form} where
   -- in round brackets, with commas: an item does not begin with a closing bracket
-  pub bracketed-rule : Repeats (is_kind kinds.CloseParen) false Item Deep → IsRule IsFormed item Item (λ _. PathNext) Within Deep
-      → IsRule IsFormed (bracketed item) (λ items. Bracketed (Commas Item items)) (λ _. Anything) (EachIs Within) (BracketedTo Item Deep)
+  pub bracketed-rule : Repeats (is_kind kinds.CloseParen) false Item Unfit → IsRule TooDeep IsFormed item Item (λ _. PathNext) Within Unfit
+      → IsRule TooDeep IsFormed (bracketed item) (λ items. Bracketed (Commas Item items)) (λ _. Anything) (EachIs Within) (BracketedTo Item Unfit)
   unfolding bracketed_steps separated same_kind
   bracketed-rule repeats one =
       (skip open_paren (close
-      (as_rule (separated-rule IsFormed (is_kind kinds.CloseParen) false (is_kind kinds.Comma) (Of kinds.Comma) item Item PathNext Within Deep (record {
+      (as_rule (separated-rule IsFormed (is_kind kinds.CloseParen) false (is_kind kinds.Comma) (Of kinds.Comma) item Item PathNext Within Unfit (record {
         mark = comma.is;
         repeats = repeats;
         before_end = kind-not kinds.CloseParen kinds.DoubleColon refl;
@@ -200,8 +182,8 @@ module _ {A : Type 0} {item : Reader Lexeme A} {Item : A → Form} {Within : A �
       close_paren (λ items. mark-tells close_paren))).is
 
   -- in braces: an item does not begin with a closing brace
-  pub braced-rule : Repeats (is_kind kinds.CloseBrace) false Item Deep → IsRule IsFormed item Item (λ _. Anything) Within Deep
-      → IsRule IsFormed (braced item) (λ items. Braced (Each Item items)) (λ _. Anything) (EachIs Within) (BracedTo Item Deep)
+  pub braced-rule : Repeats (is_kind kinds.CloseBrace) false Item Unfit → IsRule TooDeep IsFormed item Item (λ _. Anything) Within Unfit
+      → IsRule TooDeep IsFormed (braced item) (λ items. Braced (Each Item items)) (λ _. Anything) (EachIs Within) (BracedTo Item Unfit)
   unfolding braced
   braced-rule repeats one =
       (skip (kind_mark kinds.OpenBrace _ refl) (close (as_rule (repeated-rule _ _ _ _ _ _ _ repeats one)) (kind_mark kinds.CloseBrace _ refl)

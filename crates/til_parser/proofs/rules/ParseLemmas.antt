@@ -4,12 +4,13 @@ use Rattle.til_parser.proofs.rules.Common.{repeated, Outcome, took, stopped, and
 use Rattle.til_parser.proofs.rules.Common.{IsFormed, ProjectTo, namespace, project_of, project}
 use Rattle.tydi_reading.specs.declared.fault.Fault.{Fault}
 use Rattle.tydi_reading.specs.declared.fault.Fault.TheVariants as reading
-use Rattle.tydi_reading.specs.Faults.{Stop, refused, cut_off, deep, IsStop, stop_at}
+use Rattle.tydi_reading.specs.Faults.{Stop, refused, cut_off, unfit, IsStop, stop_at}
 use Rattle.tydi_reading.proofs.StopLemmas as all
 use Rattle.til_parser.specs.declared.fault.ParseFault.{ParseFault}
 use Rattle.til_parser.specs.declared.fault.ParseFault.TheVariants as faults
 use Rattle.til_parser.specs.Faults.{NamesToken, fault_at, IsFaultOf, IsTold, TreeOrFault}
 use Rattle.til_parser.proofs.rules.ProjectRules.{project-rule}
+use Rattle.til_parser.specs.declared.refusal.TooDeep.{TooDeep}
 
 -- ---- what is read
 
@@ -17,7 +18,7 @@ project-ends : (n : ℕ) (ts rest : List Lexeme) (ast : Ast) → project n ts �
 unfolding project
 project-ends n ts rest ast is = ends (repeated (λ _. false) true (namespace n) ts) refl is
   where
-    ends : (made : Outcome Lexeme (List AstNamespace)) → repeated (λ _. false) true (namespace n) ts ≡ made
+    ends : (made : Outcome TooDeep Lexeme (List AstNamespace)) → repeated (λ _. false) true (namespace n) ts ≡ made
         → and_then made (λ all. λ us. meant (project_of all) us us) ≡ took ast rest → rest ≡ []
     ends (took (x ∷ all) middle) made is = sym (took-both (record { namespaces = x ∷ all }) ast middle rest is).1 ∙ repeated-all (namespace n) (x ∷ all) ts middle made
     ends _ made is = absurd cc
@@ -33,7 +34,7 @@ project_complete n = all.all-complete _ _ _ _ _ _ (project-rule n) (λ x. refl) 
 abbrev fault_of : Stop → ParseFault
 fault_of (refused k) = faults.Unexpected k
 fault_of cut_off = faults.EndOfText
-fault_of (deep k) = faults.TooDeep k
+fault_of (unfit k) = faults.TooDeep k
 
 fault-is : (ts : List Lexeme) (stop : Stop) → IsStop IsFormed Spells (ProjectTo 64) ts stop → IsFaultOf ts (fault_of stop)
 fault-is ts cut_off s = s
@@ -42,13 +43,13 @@ fault-is ts _ s = s
 stop-is : (ts : List Lexeme) (fault : ParseFault) → IsFaultOf ts fault → (stop : Stop) × (fault ≡ fault_of stop) × IsStop IsFormed Spells (ProjectTo 64) ts stop
 stop-is ts (faults.Unexpected k) f = (refused k, refl, f)
 stop-is ts faults.EndOfText f = (cut_off, refl, f)
-stop-is ts (faults.TooDeep k) f = (deep k, refl, f)
+stop-is ts (faults.TooDeep k) f = (unfit k, refl, f)
 stop-is ts faults.Memory f = absurd f
 
-same_at : (e : Fault) (count left : ℕ) → e ≢ reading.Memory → fault_of (stop_at e count left) ≡ fault_at e count left
+same_at : (e : Fault TooDeep) (count left : ℕ) → e ≢ reading.Memory → fault_of (stop_at e count left) ≡ fault_at e count left
 same_at reading.Refused count zero other = refl
 same_at reading.Refused count (suc left) other = refl
-same_at reading.TooDeep count left other = refl
+same_at (reading.Unfit _) count left other = refl
 same_at reading.Memory count left other = absurd (other refl)
 
 pub tree_or_fault : (ts : List Lexeme) → All IsFormed ts → TreeOrFault ts
@@ -62,7 +63,7 @@ tree_or_fault ts formed = record {
 -- ---- the clauses of `parse`
 
 -- what is said of so many tokens, where so many are left
-pub said : (ts left : List Lexeme) (count some : ℕ) (e : Fault) (fault : ParseFault) → All IsFormed ts → (e ≢ reading.Memory → project 64 ts ≡ stopped e left)
+pub said : (ts left : List Lexeme) (count some : ℕ) (e : Fault TooDeep) (fault : ParseFault) → All IsFormed ts → (e ≢ reading.Memory → project 64 ts ≡ stopped e left)
     → fault ≡ fault_at e count some → count ≡ length ts → some ≡ length left → fault ≢ faults.Memory → IsFaultOf ts fault
 said ts left count some e fault formed reads is every rest other =
     let apart : e ≢ reading.Memory = λ memory. other (is ∙ ap (λ f. fault_at f count some) memory) in

@@ -11,6 +11,7 @@ use Rattle.til_parser.specs.{Grammar.NamespacesWithin, declared.tree.AstDecl.Ast
 use Rattle.til_parser.proofs.rules.DeclRules.{kind_parts, kind_of_parts, KindForm, keyword-rule, kind-rule_of}
 use Rattle.til_parser.proofs.rules.LeafRules.{PathNext, name-rule, path-rule, documented, doc-begins, braced-rule}
 use Rattle.til_parser.proofs.rules.TokenRules.{same_kind-is, word_mark, semicolon, begins_item, item-apart, Of-not, front-not}
+use Rattle.til_parser.specs.declared.refusal.TooDeep.{TooDeep}
 
 word-begins : (word : List ℕ) (Second : Form) (front rest : List Lexeme) → (Word word ⋯ Second) front → tells (is_kind kinds.Word) false (front ++ rest) ≡ true
 word-begins word Second front rest = front-tells (is_kind kinds.Word) true (Word word) Second front rest (λ f r s. rw (s.all) (same_kind-is s.lexeme.kind kinds.Word s.is.kind))
@@ -22,7 +23,7 @@ AtEnd rest = tells {T = Lexeme} (λ _. false) true rest ≡ true
 module _ (n : ℕ) where
   -- ---- a keyword, a name, and what follows
 
-  named-rule : IsRule IsFormed (named_kind n) (λ z. SpellsKind z.0 z.1) (λ _. PathNext) (λ z. KindWithin n z.1) (KindTo n)
+  named-rule : IsRule TooDeep IsFormed (named_kind n) (λ z. SpellsKind z.0 z.1) (λ _. PathNext) (λ z. KindWithin n z.1) (KindTo n)
   unfolding named_kind
   named-rule = respelled (as_rule
       (chain-rule (λ begun. Word (keyword_word begun)) (λ begun z. Name z.0 ⋯ KindForm begun z.1) _ _ _ (λ _. Anything) _ _ _
@@ -34,19 +35,19 @@ module _ (n : ℕ) where
   ended-begins = record {
     item = λ z front rest. front-tells (is_kind kinds.Word) true (SpellsKind z.0 z.1) _ front rest
         (λ front rest s. let p = kind_parts z.0 z.1 front s in word-begins (keyword_word p.0) _ front rest p.1);
-    deep = λ front rest d. word-begins (keyword_word d.0) _ front rest d.1;
+    unfit = λ front rest d. word-begins (keyword_word d.0) _ front rest d.1;
   }
 
   -- ---- declarations
 
-  decl-rule : IsRule IsFormed (decl n) SpellsDecl (λ _. Anything) (λ d. KindWithin n d.kind) (DeclTo n)
+  decl-rule : IsRule TooDeep IsFormed (decl n) SpellsDecl (λ _. Anything) (λ d. KindWithin n d.kind) (DeclTo n)
   unfolding decl same_kind
   decl-rule =
       viewed (λ (d : Option (List ℕ) × (AstName × AstKind)). record { doc = d.0; name = d.1.0; kind = d.1.1 }) (λ (d : AstDecl). (d.doc, (d.name, d.kind)))
       (documented (close (as_rule named-rule) semicolon (λ z. Of-not kinds.Semicolon kinds.DoubleColon refl)) ended-begins) (λ x. refl) (λ y. refl)
 
   decl-begins : Begins begins_item SpellsDecl (DeclTo n)
-  decl-begins = record { item = λ d. doc-begins _ (ended-begins.item (d.name, d.kind)) d.doc; deep = λ front rest d. doc-begins _ ended-begins.deep d.0 front rest d.1 }
+  decl-begins = record { item = λ d. doc-begins _ (ended-begins.item (d.name, d.kind)) d.doc; unfit = λ front rest d. doc-begins _ ended-begins.unfit d.0 front rest d.1 }
 
   pub decl-filled : (d : AstDecl) (ts : List Lexeme) → SpellsDecl d ts → 0 < length ts
   decl-filled d ts s = begins-filled begins_item ts (decl-begins.item d ts [] s)
@@ -56,19 +57,19 @@ module _ (n : ℕ) where
 
   -- ---- namespaces
 
-  namespace-rule : IsRule IsFormed (namespace n) SpellsNamespace (λ _. Anything) (λ x. DeclsWithin n x.decls) (NamespaceTo n)
+  namespace-rule : IsRule TooDeep IsFormed (namespace n) SpellsNamespace (λ _. Anything) (λ x. DeclsWithin n x.decls) (NamespaceTo n)
   unfolding namespace same_kind
   namespace-rule =
       viewed (λ (x : Option (List ℕ) × (AstPath × List AstDecl)). record { doc = x.0; path = x.1.0; decls = x.1.1 }) (λ (x : AstNamespace). (x.doc, (x.path, x.decls)))
       (documented (skip (word_mark (codes "namespace") refl)
       (both (as_flat path-rule) (as_rule (braced-rule (begins-repeats (item-apart kinds.CloseBrace refl refl) decl-begins) decl-rule))
       (λ p all back rest s next. front-not kinds.OpenBrace kinds.DoubleColon refl back rest s) (λ p. front-not kinds.OpenBrace kinds.DoubleColon refl)))
-      (record { item = λ z. word-begins (codes "namespace") _; deep = word-begins (codes "namespace") _ })) (λ x. refl) (λ y. refl)
+      (record { item = λ z. word-begins (codes "namespace") _; unfit = word-begins (codes "namespace") _ })) (λ x. refl) (λ y. refl)
 
   namespace-begins : Begins begins_item SpellsNamespace (NamespaceTo n)
   namespace-begins = record {
     item = λ x. doc-begins _ (word-begins (codes "namespace") _) x.doc;
-    deep = λ front rest d. doc-begins _ (word-begins (codes "namespace") _) d.0 front rest d.1;
+    unfit = λ front rest d. doc-begins _ (word-begins (codes "namespace") _) d.0 front rest d.1;
   }
 
   pub Shrinks-namespace : Shrinks (namespace n)
@@ -90,7 +91,7 @@ module _ (n : ℕ) where
   })
   project_mends (x ∷ all) ts is s = absurd (none-some _ (sym is))
 
-  pub project-rule : IsRule IsFormed (project n) Spells (λ _. AtEnd) (IsWithin n) (ProjectTo n)
+  pub project-rule : IsRule TooDeep IsFormed (project n) Spells (λ _. AtEnd) (IsWithin n) (ProjectTo n)
   unfolding project
   project-rule =
       checked-rule IsFormed project_of _ (Each SpellsNamespace) (λ _. AtEnd) (NamespacesWithin n) (ProjectTo n) Spells (λ _. AtEnd) (IsWithin n)

@@ -14,8 +14,10 @@ use Rattle.tydi_reading.proofs.{NamedRule.Defaults, NamedRule.named-rule, NamedS
 use Rattle.tydi_reading.proofs.NamedSteps as steps
 use Rattle.til_lexer.specs.declared.token.TokenKind.TheVariants as kinds
 use Rattle.til_parser.specs.ReadTypes as read
-use Rattle.til_parser.proofs.rules.LeafRules.{PathNext, number-rule, whole-rule, level-rule, sync-rule, either_word-rule}
-use Rattle.til_parser.proofs.rules.TokenRules.{made, kind-not, colon, open_paren, close_paren, comma, word_at-word, word_at-made, word_at-there, word_at-back}
+use Rattle.til_parser.proofs.rules.LeafRules.{PathNext, number-rule, whole-rule, sync-rule, either_word-rule}
+use Rattle.til_parser.proofs.rules.LevelRules.{level-rule}
+use Rattle.til_parser.proofs.rules.TokenRules.{made, NoneNext, kind-not, colon, open_paren, close_paren, comma, word_at-word, word_at-made, word_at-there, word_at-back}
+use Rattle.til_parser.specs.declared.refusal.TooDeep.{TooDeep}
 
 -- ---- the names
 
@@ -144,7 +146,11 @@ abbrev Spelled : (name : Argument) → Value name → Form
 Spelled name x = let given = put name x none_given in let one = filled (unwrap_or given.element types.Null) given in
     grammar.Held (S one.element) (S one.user) (settings_of one) name
 
-module _ (inner : Reader Lexeme AstType) (W : AstType → Type 0) (D : Form) (rule : IsRule IsFormed inner S (λ _. PathNext) W D)
+-- what may follow the value of an argument: no `::`, with which a path goes on, and no point, with which a level does
+abbrev ValueNext : Form
+ValueNext rest = PathNext rest × NoneNext kinds.Point rest
+
+module _ (inner : Reader TooDeep Lexeme AstType) (W : AstType → Type 0) (D : Form) (rule : IsRule TooDeep IsFormed inner S (λ _. PathNext) W D)
     (null_within : (x : AstType) → W x → W types.Null) where
   -- the types in a value are within their bounds
   abbrev ValueWithin : (name : Argument) → Value name → Type 0
@@ -153,22 +159,22 @@ module _ (inner : Reader Lexeme AstType) (W : AstType → Type 0) (D : Form) (ru
   ValueWithin _ x = Unit {0}
 
   -- a value that holds no type
-  no_type : {A : Type 0} {p : Reader Lexeme A} {P : A → Form} → IsRule IsFormed p P (λ _. Anything) (λ _. Unit {0}) Never
-      → IsRule IsFormed (expect kinds.Colon >> p) (λ x. Of kinds.Colon ⋯ P x) (λ _. PathNext) (λ _. Unit {0}) Never
-  no_type one = fewer (of_flat (flat_skip colon (as_flat one))) (λ _. PathNext) (λ x rest next. tt)
+  no_type : {A : Type 0} {p : Reader TooDeep Lexeme A} {P : A → Form} → IsRule TooDeep IsFormed p P (λ _. Anything) (λ _. Unit {0}) Never
+      → IsRule TooDeep IsFormed (expect kinds.Colon >> p) (λ x. Of kinds.Colon ⋯ P x) (λ _. ValueNext) (λ _. Unit {0}) Never
+  no_type one = fewer (of_flat (flat_skip colon (as_flat one))) (λ _. ValueNext) (λ x rest next. tt)
 
   value-rule : (name : Argument)
-      → IsRule IsFormed (expect kinds.Colon >> value_of inner name) (λ x. Of kinds.Colon ⋯ Spelled name x) (λ _. PathNext) (ValueWithin name) (ValueTo D name)
-  value-rule arguments.Data = (skip colon (as_rule rule)).is
+      → IsRule TooDeep IsFormed (expect kinds.Colon >> value_of inner name) (λ x. Of kinds.Colon ⋯ Spelled name x) (λ _. ValueNext) (ValueWithin name) (ValueTo D name)
+  value-rule arguments.Data = fewer (skip colon (as_rule rule)) (λ _. ValueNext) (λ x rest next. next.0)
   value-rule arguments.Throughput = no_type number-rule
   value-rule arguments.Dimensionality = no_type whole-rule
   value-rule arguments.Synchronicity = no_type sync-rule
-  value-rule arguments.Complexity = no_type level-rule
+  value-rule arguments.Complexity = fewer (of_flat (flat_skip colon (as_flat level-rule))) (λ _. ValueNext) (λ x rest next. next.1)
   value-rule arguments.Direction = no_type (either_word-rule direction_word refl refl)
-  value-rule arguments.User = (skip colon (as_rule rule)).is
+  value-rule arguments.User = fewer (skip colon (as_rule rule)) (λ _. ValueNext) (λ x rest next. next.0)
   value-rule arguments.Keep = no_type (either_word-rule truth_word refl refl)
 
-  abbrev values : steps.Arguments IsFormed fields
+  abbrev values : steps.Arguments TooDeep IsFormed fields
   values = record {
     name = argument_at;
     Name = λ name. Word (argument_word name);
@@ -179,9 +185,9 @@ module _ (inner : Reader Lexeme AstType) (W : AstType → Type 0) (D : Form) (ru
     named = word_at-made argument_word all_arguments each_argument;
     read = λ name. expect kinds.Colon >> value_of inner name;
     Spelled = λ name x. Of kinds.Colon ⋯ Spelled name x;
-    Next = PathNext;
+    Next = ValueNext;
     Within = ValueWithin;
-    Deep = ValueTo D;
+    Unfit = ValueTo D;
     Argument = SpellsArgument;
     to_argument = λ one. elim [ arguments.Data ↦ λ ts s. s | _ ↦ λ ts s. s ];
     of_argument = λ one. elim [ arguments.Data ↦ λ ts s. s | _ ↦ λ ts s. s ];
@@ -190,13 +196,13 @@ module _ (inner : Reader Lexeme AstType) (W : AstType → Type 0) (D : Form) (ru
     rule = value-rule;
   }
 
-  between : Between IsFormed (is_kind kinds.CloseParen) false (is_kind kinds.Comma) (Of kinds.Comma) argument_at PathNext
+  between : Between IsFormed (is_kind kinds.CloseParen) false (is_kind kinds.Comma) (Of kinds.Comma) argument_at ValueNext
   unfolding same_kind
   between = record {
     mark = comma.is;
     starts = λ name t is. rw ((word_at-word argument_word all_arguments each_argument t name is).kind) refl;
-    before_end = λ rest is. kind-not kinds.CloseParen kinds.DoubleColon refl rest is;
-    before_separator = λ t rest is. kind-not kinds.Comma kinds.DoubleColon refl (t ∷ rest) is;
+    before_end = λ rest is. (kind-not kinds.CloseParen kinds.DoubleColon refl rest is, kind-not kinds.CloseParen kinds.Point refl rest is);
+    before_separator = λ t rest is. (kind-not kinds.Comma kinds.DoubleColon refl (t ∷ rest) is, kind-not kinds.Comma kinds.Point refl (t ∷ rest) is);
     apart = λ rest is. kind-not kinds.CloseParen kinds.Comma refl rest is;
   }
 
@@ -209,7 +215,7 @@ module _ (inner : Reader Lexeme AstType) (W : AstType → Type 0) (D : Form) (ru
       (⊎_elim (null_within one.element) (λ none. absurd none) (or arguments.Data))
   defaults one or _ default = tt
 
-  pub stream-rule : IsRule IsFormed (stream inner) (λ one. Bracketed (ArgumentsOf one)) (λ _. Anything)
+  pub stream-rule : IsRule TooDeep IsFormed (stream inner) (λ one. Bracketed (ArgumentsOf one)) (λ _. Anything)
       (λ one. (name : Argument) → ValueWithin name (value one name)) (Of kinds.OpenParen ⋯ ArgumentsTo D)
   unfolding stream
   stream-rule =

@@ -9,6 +9,7 @@ use Rattle.std.proofs.lemmas.Bool.{or_cases, Decides.Decides-and, Decides.Decide
 pub use Rattle.std.proofs.lemmas.Bool.{and_parts as both}
 use Rattle.til_lexer.specs.contracts.token.TokenKind.{the_type}
 use Rattle.til_lexer.specs.declared.token.TokenKind.TheVariants as kinds
+use Rattle.til_parser.specs.declared.refusal.TooDeep.{TooDeep}
 
 -- ---- kinds and words
 
@@ -116,15 +117,15 @@ module _ {A : Type 0} (kind : TokenKind) (meaning : Place → List ℕ → Optio
   same_read : (ts : List Lexeme) → leaf meaning_of ts ≡ token kind meaning ts
   unfolding token
   same_read [] = refl
-  same_read (t ∷ ts) = elim (same_kind t.kind kind) as (λ b. meant (cond b (meaning t.place t.spelling) None) ts (t ∷ ts)
+  same_read (t ∷ ts) = elim (same_kind t.kind kind) as (λ b. meant {E = TooDeep} (cond b (meaning t.place t.spelling) None) ts (t ∷ ts)
       ≡ meant (option_and_then (λ (next : Place × List ℕ). meaning next.0 next.1) (cond b (Some (t.place, t.spelling)) None)) ts (t ∷ ts)) [ true ↦ refl | false ↦ refl ]
 
-  as_token : IsRule IsFormed (leaf meaning_of) (λ x. One (Is x)) (λ _. Anything) (λ _. Unit {0}) Never
-      → IsRule IsFormed (token kind meaning) (λ x. One (Is x)) (λ _. Anything) (λ _. Unit {0}) Never
+  as_token : IsRule TooDeep IsFormed (leaf meaning_of) (λ x. One (Is x)) (λ _. Anything) (λ _. Unit {0}) Never
+      → IsRule TooDeep IsFormed (token kind meaning) (λ x. One (Is x)) (λ _. Anything) (λ _. Unit {0}) Never
   as_token = read-rule _ _ _ _ _ _ _ same_read
 
   pub token-rule : IsToken kind meaning Is → (thing : Lexeme) (x : A) → IsFormed thing → thing.kind ≡ kind → meaning thing.place thing.spelling ≡ Some x
-      → IsRule IsFormed (token kind meaning) (λ x. One (Is x)) (λ _. Anything) (λ _. Unit {0}) Never
+      → IsRule TooDeep IsFormed (token kind meaning) (λ x. One (Is x)) (λ _. Anything) (λ _. Unit {0}) Never
   token-rule is_token thing x formed is means =
       as_token (leaf-rule _ _ _ thing x formed (rw (same_kind-is thing.kind kind is) means) (record {
         there = λ y t made. let parts = meant_is (same_kind t.kind kind) (meaning t.place t.spelling) y made in
@@ -155,9 +156,9 @@ module _ {K : Type 0} (own : K → List ℕ) (all : List K) (each : (x : K) → 
   word_at-made k = word_at-is (made kinds.Word (own k)) k (record { kind = refl; text = refl })
 
   -- a token that is a word of a table
-  pub word_at-rule : (x : K) → has_name_form (own x) ≡ true → IsRule IsFormed (leaf (word_at (entry_of own all))) (λ x. Word (own x)) (λ _. Anything) (λ _. Unit {0}) Never
+  pub word_at-rule : (x : K) → has_name_form (own x) ≡ true → IsRule TooDeep IsFormed (leaf (word_at (entry_of own all))) (λ x. Word (own x)) (λ _. Anything) (λ _. Unit {0}) Never
   word_at-rule x form = leaf-rule _ _ _ (made kinds.Word (own x)) x form (word_at-made x) (record { there = word_at-there; back = λ k ts each s. word_at-back k ts s })
 
   pub table-rule : (x : K) → has_name_form (own x) ≡ true
-      → IsRule IsFormed (token kinds.Word (λ place spelling. entry_of own all spelling)) (λ x. Word (own x)) (λ _. Anything) (λ _. Unit {0}) Never
+      → IsRule TooDeep IsFormed (token kinds.Word (λ place spelling. entry_of own all spelling)) (λ x. Word (own x)) (λ _. Anything) (λ _. Unit {0}) Never
   table-rule x form = as_token _ _ (λ x. IsWord (own x)) (word_at-rule x form)

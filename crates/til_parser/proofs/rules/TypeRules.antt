@@ -7,7 +7,7 @@ use Rattle.til_parser.proofs.rules.Common.{entry-none, AstStream, AstName, AstPa
 use Rattle.til_parser.proofs.rules.Common.{SpellsType, SpellsParts, Lexeme, IsFormed, SpellsPart, BracketedTo, PartTo, AfterTo, InsideTo, TypeTo, same_kind, is_kind, begins_type}
 use Rattle.til_parser.proofs.rules.Common.{type_word, all_type_words, type_word_of, type_word_at, path, bits, part, one_more, bracketed, value, type_after}
 use Rattle.til_parser.proofs.rules.Common.{type_with, ltype, Ltype, null, plain, depth, depth_of_parts}
-use Rattle.tydi_reading.proofs.{ChoiceRules.too_deep-rule, FormLemmas.goes_as, LedRule.led-rule, Rule.Flat, Rule.of_mark}
+use Rattle.tydi_reading.proofs.{ChoiceRules.unfit-rule, FormLemmas.goes_as, LedRule.led-rule, Rule.Flat, Rule.of_mark}
 use Rattle.til_lexer.specs.declared.token.TokenKind.TheVariants as kinds
 use Rattle.til_parser.specs.declared.keyword.Argument.TheVariants as arguments
 use Rattle.til_parser.specs.declared.keyword.TypeWord.{TypeWord}
@@ -19,6 +19,7 @@ use Rattle.til_parser.proofs.PlainLemmas.{plain_parts, plain-Null, plain-Bits, p
 use Rattle.til_parser.proofs.rules.LeafRules.{PathNext, name-rule, name-begins, whole-rule, path-rule, path-front, bracketed-rule}
 use Rattle.til_parser.proofs.rules.StreamFields.{S, ArgumentsOf, least, default-is, stream-rule, value-grows}
 use Rattle.til_parser.proofs.rules.TokenRules.{both, made, one, kind_is, kind-apart, colon, open_paren, close_paren, word_at-word, word_at-back, word_at-rule, word_at-there, word_mark}
+use Rattle.til_parser.specs.declared.refusal.TooDeep.{TooDeep}
 
 -- ---- the word with which a type begins
 
@@ -39,7 +40,7 @@ not_told x t is (Some k) told =
 -- ---- what goes on to something of a form
 
 in_brackets : {A : Type 0} {Within : A → Form} → GoesOn IsFormed Within [] → GoesOn IsFormed (λ x. Bracketed (Within x)) []
-in_brackets g = let opens = (of_mark open_paren).is.example in let closes = (of_mark close_paren).is.example in record {
+in_brackets g = let opens = (of_mark {E = TooDeep} open_paren).is.example in let closes = (of_mark {E = TooDeep} close_paren).is.example in record {
   value = g.value;
   more = opens.more ++ (g.more ++ closes.more);
   good = All-append IsFormed opens.more _ opens.good (All-append IsFormed g.more closes.more g.good closes.good);
@@ -50,7 +51,7 @@ in_brackets g = let opens = (of_mark open_paren).is.example in let closes = (of_
 alone : {A : Type 0} {front : List Lexeme} (P : A → Form) (x : A) → P x (front ++ []) → GoesOn IsFormed P front
 alone P x s = record { value = x; more = []; good = All-nil IsFormed; spelled = s }
 
-abbrev null_word : Flat IsFormed (Unit {0})
+abbrev null_word : Flat TooDeep IsFormed (Unit {0})
 null_word = of_mark (word_mark (codes "Null") refl)
 
 -- a Stream of `data: Null`
@@ -69,7 +70,7 @@ parts-same [] = refl
 parts-same (p ∷ []) = refl
 parts-same (p ∷ next ∷ parts) = ap (λ (More : Form). SpellsPart p ⋯ Of kinds.Comma ⋯ More) (parts-same (next ∷ parts))
 
-bits-rule : IsRule IsFormed bits (λ width. Bracketed (Whole width)) (λ _. Anything) (λ _. Unit {0}) Never
+bits-rule : IsRule TooDeep IsFormed bits (λ width. Bracketed (Whole width)) (λ _. Anything) (λ _. Unit {0}) Never
 unfolding bits
 bits-rule = (flat_skip open_paren (flat_close (as_flat whole-rule) close_paren (λ x front rest s. tt))).is
 
@@ -156,24 +157,24 @@ null_within n x fits = let some = depth-some (plain x) in let is = ap depth plai
 
 -- ---- a type, by the types inside it
 
-module _ (n : ℕ) (inner : Reader Lexeme AstType) (D : Form) (one : IsRule IsFormed inner S (λ _. PathNext) (Fits n) D) where
-  part-rule : IsRule IsFormed (part inner) SpellsPart (λ _. PathNext) (λ p. Fits n p.ltype) (PartTo D)
+module _ (n : ℕ) (inner : Reader TooDeep Lexeme AstType) (D : Form) (one : IsRule TooDeep IsFormed inner S (λ _. PathNext) (Fits n) D) where
+  part-rule : IsRule TooDeep IsFormed (part inner) SpellsPart (λ _. PathNext) (λ p. Fits n p.ltype) (PartTo D)
   unfolding part
   part-rule =
       viewed (λ (p : AstName × AstType). roll-AstPart (record { name = p.0; ltype = p.1 })) (λ p. (p.name, p.ltype))
       (parted (as_flat name-rule) colon (as_rule one) (λ x front rest s. tt)) (λ x. refl) (λ y. refl)
 
   part-begins : Begins (is_kind kinds.Word) SpellsPart (PartTo D)
-  part-begins = record { item = λ p. name-begins p.name _; deep = λ front rest d. name-begins d.0 _ front rest d.1 }
+  part-begins = record { item = λ p. name-begins p.name _; unfit = λ front rest d. name-begins d.0 _ front rest d.1 }
 
   list-rule : (of : List AstPart → AstType) → ((x : List AstPart) → depth (plain (of x)) ≡ suc (depth_of_parts (plain_parts x)))
-      → IsRule IsFormed (of <$> bracketed (part inner)) (Made of (λ x. Bracketed (Commas SpellsPart x))) (λ _. PathNext) (Fits (suc n)) (BracketedTo SpellsPart (PartTo D))
+      → IsRule TooDeep IsFormed (of <$> bracketed (part inner)) (Made of (λ x. Bracketed (Commas SpellsPart x))) (λ _. PathNext) (Fits (suc n)) (BracketedTo SpellsPart (PartTo D))
   unfolding same_kind
   list-rule of is = made-rule of (as_rule (bracketed-rule (begins-repeats (kind-apart kinds.Word kinds.CloseParen refl) part-begins) part-rule))
       (λ _. PathNext) (Fits (suc n)) (λ x rest next. tt)
       (λ x each. omega (arith, is x, (parts-depth n x).0 each)) (λ x w. (parts-depth n x).1 (omega (arith, is x, w)))
 
-  after-rule : (k : TypeWord) → IsRule IsFormed (type_after inner k) (After k) (λ _. PathNext) (Fits (suc n)) (AfterTo D k)
+  after-rule : (k : TypeWord) → IsRule TooDeep IsFormed (type_after inner k) (After k) (λ _. PathNext) (Fits (suc n)) (AfterTo D k)
   after-rule words.Null = made-rule (λ _. types.Null) (as_rule (pure-rule {A = Unit {0}} IsFormed (λ _. Unit {0}) tt tt)) (λ _. PathNext) (Fits (suc n))
       (λ x rest next. tt) (λ x w. rw plain-Null (omega arith)) (λ x w. tt)
   after-rule words.Bits = made-rule types.Bits (as_rule bits-rule) (λ _. PathNext) (Fits (suc n)) (λ x rest next. tt) (λ x w. rw (plain-Bits x) (omega arith)) (λ x w. tt)
@@ -183,7 +184,7 @@ module _ (n : ℕ) (inner : Reader Lexeme AstType) (D : Form) (one : IsRule IsFo
       (λ x rest next. tt) (λ s w. rw (plain-Stream s) (omega (arith, w arguments.Data, w arguments.User)))
       (λ s w. let d = subst (λ t. depth t ≤ suc n) (plain-Stream s) w in elim [ arguments.Data ↦ omega (arith, d) | arguments.User ↦ omega (arith, d) | _ ↦ tt ])
 
-  type-rule : IsRule IsFormed (type_with inner) S (λ _. PathNext) (Fits (suc n)) (InsideTo D)
+  type-rule : IsRule TooDeep IsFormed (type_with inner) S (λ _. PathNext) (Fits (suc n)) (InsideTo D)
   unfolding type_with
   type-rule = respelled (as_rule
       (led-rule IsFormed type_word_at (type_after inner) (types.Path <$> path) Lead After (Made types.Path (λ x. Path x.names)) (λ _. PathNext) (Fits (suc n)) (AfterTo D)
@@ -226,9 +227,9 @@ starts y front good s = subst (λ l. tells begins_type false l ≡ true) (append
     ((spelling y front).1 s))
 
 -- a type of at most so many levels
-pub ltype-rule : (n : ℕ) → IsRule IsFormed (ltype n) S (λ _. PathNext) (Fits n) (TypeTo n)
+pub ltype-rule : (n : ℕ) → IsRule TooDeep IsFormed (ltype n) S (λ _. PathNext) (Fits n) (TypeTo n)
 unfolding ltype TypeTo
-ltype-rule zero = too_deep-rule IsFormed begins_type S (λ _. PathNext) (Fits 0) (λ x fits. let some = depth-some (plain x) in omega arith)
+ltype-rule zero = unfit-rule IsFormed (record {}) begins_type S (λ _. PathNext) (Fits 0) (λ x fits. let some = depth-some (plain x) in omega arith)
     (goes_as (λ _. types.Null) (λ _ ts. (null_spelled ts).1) null_word.is.example) begun starts
 ltype-rule (suc n) = type-rule n (ltype n) (TypeTo n) (ltype-rule n)
 

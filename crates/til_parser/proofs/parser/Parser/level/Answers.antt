@@ -1,5 +1,5 @@
-use Rattle.til_parser.proofs.rules.Common.{rules, level_of, whole_of}
+use Rattle.til_parser.proofs.rules.LevelRules.{first-rule}
 use Rattle.til_parser.proofs.parser.Parser.level.Goals as goal
 
-pub returns : goal.returns
-returns c = c.token.ensures (λ spelling. level_of (whole_of spelling)) (λ t k m. search rules)
+pub level_of-requires : goal.level_of-requires
+level_of-requires c = let found = first-rule.sound _ _ _ c.in_ok-first.ensures in found.spelled.is.1.0
