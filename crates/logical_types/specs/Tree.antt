@@ -1,6 +1,7 @@
 -- A logical type as plain data. This project's own.
 use Rattle.std.specs.Prelude.{ℕ, suc, Bool, false, true, ◌||◌, List, [], ◌∷◌}
 use Rattle.tydi_base.specs.Frac.{Fraction}
+use Rattle.tydi_base.specs.Level.{LevelNumbers}
 use Rattle.logical_types.specs.declared.ltype.LType.{LType}
 use Rattle.logical_types.specs.declared.ltype.LType.TheOpen.{LType-F, Part-F, StreamType-F}
 use Rattle.logical_types.specs.declared.ltype.LType.TheFolds.{fold-LType}
@@ -13,7 +14,7 @@ pub record Settings : Type 0 where
   pub throughput : Fraction
   pub dims : ℕ
   pub sync : Sync
-  pub level : ℕ
+  pub level : LevelNumbers
   pub reverse : Bool
   pub keep : Bool
 

@@ -21,7 +21,7 @@ use crate::widths::{total_width, union_width};
 pub const MOST_BITS: u32 = 4096;
 
 /// The first fault of a type: of the first type in preorder that has one (a type before what it holds, a Stream's data type before
-/// its user type), at one type the first in the order of `TypeFault`. Ok exactly where it has none.
+/// its user type), at one type the first in the order of `TypeFault`. Ok exactly where it has none. The limits are this project's own.
 pub fn check(ltype: &LType) -> Result<(), TypeFault>
     ensures valid { OnOk result (IsValid (plain ltype.now)) }
     ensures first { IfErr result (λ fault. slice_get (faults_of (plain ltype.now)) 0 ≡ Some fault) }

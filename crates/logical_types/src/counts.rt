@@ -6,7 +6,8 @@ ghost use Rattle.logical_types.specs.Tree.{plain, plain_of_stream, plain_parts};
 
 use crate::ltype::{LType, Part, StreamType};
 
-/// The nodes of a type, itself and all types in it, or the greatest number of 64 bits where there are more.
+/// The nodes of a type, itself and all types in it, or the greatest number of 64 bits where there are more. A Stream's user type counts
+/// too. This number is this project's own.
 #[cycle(number_of_nodes)]
 pub fn number_of_nodes(ltype: &LType) -> u64
     ensures { result ≡ min (spec.number_of_nodes (plain ltype.now)) (2 ^ 64 - 1) }

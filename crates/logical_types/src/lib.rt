@@ -1,8 +1,7 @@
-//! Logical types: what a stream carries. `check` finds the first fault of a type, and `width` how many bits an element takes. A
-//! `Summary`, made from those of a type's parts, shows that a type has no fault without a look at its nodes. `specs/Tree.antt` has a
-//! type as plain data, over which all definitions recur; `specs/Width.antt` says how wide a type is, `specs/Size.antt` how many nodes
-//! it has, `specs/Faults.antt` which faults it has, in the order in which they are told, and `specs/Summary.antt` what a summary says.
-//! The crate stands on `tydi_base`. No call takes memory, and each goes as deep as types nest.
+//! Logical types: the form of the data that a stream carries. `check` finds the first error of a type, `width` the bits of an element,
+//! and a `Summary`, made from those of a type's parts, shows that a type is valid without a look at its nodes. `specs/Tree.antt` has a
+//! type as plain data, over which all definitions recur: `Width.antt`, `Size.antt`, `Faults.antt` and `Summary.antt`. The crate stands
+//! on `tydi_base`. No call takes memory, and each goes as deep as types nest.
 #![tactic(auto)]
 
 mod checking;

@@ -23,7 +23,7 @@ pub enum LType {
     Stream(Shared<StreamType>),
 }
 
-/// A field of a Group or a variant of a Union.
+/// A field of a Group or a variant of a Union (Tydi specification, logical types).
 #[cycle(ltype)]
 #[derive(Debug, Drop)]
 pub struct Part {
@@ -31,7 +31,7 @@ pub struct Part {
     pub ltype: LType,
 }
 
-/// A Stream with all its arguments.
+/// A Stream with all its arguments (Tydi specification, logical types).
 #[cycle(ltype)]
 #[derive(Debug, Drop)]
 pub struct StreamType {
@@ -42,6 +42,7 @@ pub struct StreamType {
     /// How deep its elements are nested in sequences of its own.
     pub dims: u64,
     pub sync: Sync,
+    /// The complexity level of its physical stream.
     pub level: Level,
     /// Whether it flows against the Stream around it.
     pub reverse: bool,

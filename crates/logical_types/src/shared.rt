@@ -32,7 +32,7 @@ impl<T> Shared<T> {
 }
 
 impl<T: Drop> Shared<T> {
-    /// A first owner of this value.
+    /// A first owner of this value. Memory comes where there is none for it.
     pub fn new(alloc: Global, value: T) -> Result<Shared<T>, Memory>
         ensures { IfOk result (λ shared. shared ≡ value) }
     {

@@ -17,6 +17,7 @@ pub const MOST_DIMS: u64 = 32;
 /// innermost one.
 #[derive(Clone, Copy, Debug)]
 pub struct Around {
+    /// The product of the throughputs.
     pub product: Frac,
     pub dims: u64,
 }
@@ -31,7 +32,8 @@ pub fn around_outermost() -> Around
     }
 }
 
-/// What is around the types inside a Stream, or the first fault of its throughput, its lanes and its dimensions.
+/// What is around the types inside a Stream, or the first fault of its throughput, its lanes and its dimensions. That dimensions are
+/// taken over, and the limits, are this project's own.
 pub fn inside(stream: &StreamType, around: &Around) -> Result<Around, TypeFault>
     ensures faults { Tells (rate_faults around.now (settings_of stream.now)) result }
     ensures inside { IfOk result (λ inner. inner ≡ inside around.now (settings_of stream.now)) }

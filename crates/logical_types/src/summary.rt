@@ -16,6 +16,7 @@ use tydi_base::{Frac, index_width};
 /// room as that takes the type has no fault.
 #[derive(Clone, Copy, Debug)]
 pub struct Summary {
+    /// The width of an element in bits.
     pub width: u32,
     pub has_stream: bool,
     pub rates: Rates,
@@ -41,7 +42,7 @@ pub fn summary_of_null() -> Summary
     without_stream(0)
 }
 
-/// The summary of a Bits, if it has no fault.
+/// The summary of a Bits of this width in bits. None exactly where it has a fault.
 pub fn summary_of_bits(width: u64) -> Option<Summary>
     ensures { result ≡ spec.of_bits width }
 {

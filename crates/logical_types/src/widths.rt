@@ -9,7 +9,8 @@ use crate::ltype::{LType, Part};
 use tydi_base::index_width;
 
 /// The width in bits of an element of a type that has no fault but of throughputs, lanes and dimensions. So each part of a type
-/// that passed `check` may be asked for its width.
+/// that passed `check` may be asked for its width. Widths are the Tydi specification's (logical types); that of a Union is this
+/// project's own.
 pub fn width(ltype: &LType) -> u32
     requires { IsPlain (plain ltype.now) }
     ensures { result ≡ spec.width_of (plain ltype.now) }
@@ -31,7 +32,7 @@ pub fn saturated_width(ltype: &LType) -> u32
     }
 }
 
-/// The widths of the fields of a Group together, or the greatest number of 32 bits.
+/// The widths in bits of the fields of a Group together, or the greatest number of 32 bits.
 #[cycle(width)]
 pub fn total_width(parts: &[Part]) -> u32
     ensures { result ≡ spec.saturated (spec.total_width (plain_parts parts.now)) }
@@ -43,7 +44,7 @@ pub fn total_width(parts: &[Part]) -> u32
     total
 }
 
-/// The width of a Union of these variants, or the greatest number of 32 bits.
+/// The width in bits of a Union of these variants, its tag included, or the greatest number of 32 bits.
 #[cycle(width)]
 #[tactic(auto, unfolding(crate::specs::Width::tag_width))]
 pub fn union_width(parts: &[Part]) -> u32

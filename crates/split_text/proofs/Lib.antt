@@ -1,2 +1,1 @@
-mod PlainNodes
 mod TextLemmas

@@ -12,13 +12,16 @@ use Rattle.type_split.specs.declared.split.Node.{Node}
 use Rattle.type_split.specs.Nodes.{StreamNode}
 use Rattle.type_split.specs.Streams.{node_view}
 use Rattle.split_text.specs.Text.{IsUpTo, field_lines, signal_lines}
-use Rattle.split_text.proofs.PlainNodes.{HasPlain}
 
 pub append_nil : (l : List ℕ) → l ++ [] ≡ l
 append_nil [] = refl
 append_nil (x ∷ l) = ap (λ (k : List ℕ). x ∷ k) (append_nil l)
 
 -- ---- nodes by their numbers
+
+-- a node's elements are plain
+abbrev pub HasPlain : StreamNode → Type 0
+HasPlain node = IsPlain node.element
 
 pub some-node : (d : Node) (nodes : List Node) (number : ℕ) (node : Node) → true ≡ nat_lt number (length nodes) → node ≡ get_or nodes number d
     → slice_get (map node_view nodes) number ≡ Some (node_view node)

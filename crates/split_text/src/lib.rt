@@ -1,6 +1,6 @@
-//! What a port's type compiles to, as a text that a designer reads: the physical streams of a split, each with its root, its signals
-//! and the fields of its elements. `specs/Text.antt` has the text. The crate stands on `type_split`, `signal_layout` and `physical_stream`,
-//! whose head line each stream begins with.
+//! The text that `split` writes: the physical streams of a port, each with its root, its signals and the fields of its elements.
+//! `specs/Text.antt` defines it. The crate stands on `type_split`, `signal_layout`, and `physical_stream`, whose head line begins each
+//! stream.
 #![tactic(auto)]
 
 mod lines;

@@ -14,7 +14,8 @@ use std::alloc::Global;
 use tydi_base::{List, Memory, emit};
 use type_split::{Node, Phys, Split};
 
-/// The text of the physical streams of a split that `split_type` gave: the whole of it, or a front of more than `limit` bytes.
+/// The text of the physical streams of a split that `split_type` gave: the whole of it, or a front of more than `limit` bytes. Memory
+/// comes where there is none for the text. The text is this project's own.
 pub fn split_text(alloc: Global, split: &Split<'_>, limit: u64) -> Result<List<u8>, Memory>
     requires { IsPortSplit (plain_split split.now) }
     ensures { IfOk result (λ front. IsUpTo limit (spec.split_text (plain_split split.now)) front) }

@@ -1,6 +1,8 @@
 -- How many nodes and physical streams a type has.
 use Rattle.std.proofs.Common.{◌≡◌, ℕ, suc, ◌+◌, ◌≤◌, Bool, true, false, cond, List, [], ◌∷◌, ◌++◌, map, length, refl, sym, ap, ◌∙◌, arith}
 use Rattle.std.proofs.lemmas.List.{length-append, length-map}
+use Rattle.logical_types.specs.Size.{number_of_nodes}
+use Rattle.logical_types.specs.Size as size
 use Rattle.logical_types.specs.Tree.{Ltype, null, bits, group, union, stream, Parts, no_parts, part}
 use Rattle.type_split.specs.Nodes.{nodes_in, nodes_in_parts, number_of_streams, streams_in_parts, number_of_physical, physical_in_parts, is_physical, place_inside, nodes_of, outermost_place}
 use Rattle.type_split.specs.Streams.{node_view}
@@ -45,3 +47,16 @@ pub nodes-few : (t : Ltype) (nodes : List Node) → map node_view nodes ≡ node
 nodes-few t nodes is few =
     let all = sym (length-map nodes node_view) ∙ ap length is ∙ nodes_in-length [] outermost_place 0 0 t in
     omega (arith, all, few)
+
+-- a type has no more Streams than nodes
+mutual
+  pub streams-few : (ltype : Ltype) → number_of_streams ltype ≤ number_of_nodes ltype
+  streams-few null = omega arith
+  streams-few (bits width) = omega arith
+  streams-few (group parts) = omega (arith, streams_in_parts-few parts)
+  streams-few (union parts) = omega (arith, streams_in_parts-few parts)
+  streams-few (stream element user settings) = omega (arith, streams-few element)
+
+  streams_in_parts-few : (parts : Parts) → streams_in_parts parts ≤ size.nodes_in_parts parts
+  streams_in_parts-few no_parts = omega arith
+  streams_in_parts-few (part name ltype more) = omega (arith, streams-few ltype, streams_in_parts-few more)

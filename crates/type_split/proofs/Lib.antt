@@ -1,5 +1,8 @@
 mod RateLemmas
 mod ValidLemmas
-mod CountLemmas
+pub mod CountLemmas
 mod SplitLemmas
 mod KeyLemmas
+pub mod ElementLemmas
+pub mod StandingLemmas
+pub mod EndLemmas

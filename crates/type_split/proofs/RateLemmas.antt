@@ -4,6 +4,7 @@ use Rattle.std.proofs.Math.Nat.{add-mul, one-mul, mul-le-mul_right, mod-lt}
 use Rattle.std.proofs.lemmas.Nat.{div-add-mod'}
 use Rattle.std.proofs.lemmas.Bool.{cases_lt}
 use Rattle.tydi_base.specs.Frac.{Fraction, IsCeiling}
+use Rattle.tydi_base.specs.Level.{LevelNumbers}
 use Rattle.physical_stream.specs.Params.{Parameters, AreInRange}
 use Rattle.logical_types.specs.Tree.{Ltype, Settings}
 use Rattle.logical_types.specs.Width.{width_of, saturated}
@@ -32,7 +33,7 @@ same_params : (one other : Parameters) → one.lanes ≡ other.lanes → one.dim
 same_params one other lanes dims level element user =
     let by_lanes : ℕ → Parameters = λ n. record { lanes = n; dims = one.dims; level = one.level; element = one.element; user = one.user } in
     let by_dims : ℕ → Parameters = λ n. record { lanes = other.lanes; dims = n; level = one.level; element = one.element; user = one.user } in
-    let by_level : ℕ → Parameters = λ n. record { lanes = other.lanes; dims = other.dims; level = n; element = one.element; user = one.user } in
+    let by_level : LevelNumbers → Parameters = λ n. record { lanes = other.lanes; dims = other.dims; level = n; element = one.element; user = one.user } in
     let by_element : ℕ → Parameters = λ n. record { lanes = other.lanes; dims = other.dims; level = other.level; element = n; user = one.user } in
     let by_user : ℕ → Parameters = λ n. record { lanes = other.lanes; dims = other.dims; level = other.level; element = other.element; user = n } in
     ap by_lanes lanes ∙ ap by_dims dims ∙ ap by_level level ∙ ap by_element element ∙ ap by_user user

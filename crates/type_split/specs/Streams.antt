@@ -5,8 +5,9 @@ use Rattle.std.specs.Cmp.Lexicographic.{pointwise}
 use Rattle.std.specs.List.{list_any}
 use Rattle.std.specs.Str.{bytes_eq}
 use Rattle.logical_types.specs.Faults.{IsValid}
-use Rattle.logical_types.specs.Tree.{Ltype, plain}
-use Rattle.type_split.specs.Nodes.{StreamNode, nodes_of, number_of_streams}
+use Rattle.logical_types.specs.Size.{number_of_nodes}
+use Rattle.logical_types.specs.Tree.{Ltype, Settings, plain, stream}
+use Rattle.type_split.specs.Nodes.{StreamNode, nodes_of}
 use Rattle.type_split.specs.declared.split.Node.{Node}
 use Rattle.type_split.specs.declared.split.Phys.{Phys}
 use Rattle.type_split.specs.declared.split.Split.{Split}
@@ -90,10 +91,19 @@ plain_split split = record { nodes = map node_view split.nodes; streams = split.
 abbrev pub split_of : Ltype → PlainSplit
 split_of ltype = record { nodes = nodes_of ltype; streams = streams_of ltype; roots = roots_of ltype }
 
--- a split as `split_type` gives it: that of a valid type of at most 65,536 Streams, of which no two physical streams clash
+-- a type that is a Stream
+pub record IsStream (ltype : Ltype) : Type 0 where
+  pub element : Ltype
+  pub user : Ltype
+  pub settings : Settings
+  pub is : ltype ≡ stream element user settings
+
+-- a split as `split_type` gives it: that of a Stream that is a valid type of at most 65,536 nodes, of which no two physical
+-- streams clash
 pub record IsPortSplit (split : PlainSplit) : Type 0 where
   pub ltype : Ltype
+  pub port : IsStream ltype
   pub valid : IsValid ltype
-  pub few : number_of_streams ltype ≤ 65536
+  pub few : number_of_nodes ltype ≤ 65536
   pub apart : clash_of ltype ≡ None
   pub is : split ≡ split_of ltype

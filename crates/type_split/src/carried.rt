@@ -1,97 +1,34 @@
 //! Nodes that no physical stream tells of.
 
-ghost use Rattle.std.specs.Prelude.{◌≡◌, ◌∷◌, [], ◌++◌, IfOk, OnOk};
-ghost use Rattle.logical_types.specs.Tree.{Ltype, Settings, plain, plain_parts, plain_of_stream, settings_of, stream};
+ghost use Rattle.std.specs.Prelude.{◌≡◌};
+ghost use Rattle.std.specs.Option.{option_copied};
+ghost use Rattle.logical_types.specs.Tree.{plain, plain_parts, plain_of_stream, settings_of};
 ghost use Rattle.type_split.specs.Carried as spec;
 ghost use Rattle.type_split.specs.Nodes.{is_physical};
-ghost use Rattle.type_split.specs.Streams.{plain_split, split_of};
+ghost use Rattle.type_split.specs.Streams.{node_view, plain_split};
 
-use crate::split::Split;
+use crate::split::{Node, Split};
 use logical_types::{LType, Part, StreamType, Sync, saturated_width};
-use std::alloc::Global;
-use tydi_base::{List, Memory, Name, Path, TryClone};
+use tydi_base::Path;
 
 /// The path of the first node that is not carried: it has no physical stream, and no Sync Stream in its elements is carried. None
-/// exactly where all nodes are carried.
-pub fn uncarried(alloc: Global, split: &Split<'_>) -> Result<Option<Path>, Memory>
-    ensures { (element user : Ltype) (settings : Settings) → plain_split split.now ≡ split_of (stream element user settings)
-        → IfOk result (λ found. found ≡ spec.uncarried_of (stream element user settings)) }
+/// exactly where all nodes are carried. It takes no memory. Which nodes are carried is this project's own.
+pub fn uncarried<'a>(split: &'a Split<'_>) -> Option<&'a Path>
+    ensures { option_copied result ≡ spec.uncarried_of (plain_split split.now) }
 {
-    let [outermost, ..] = split.nodes.as_slice() else {
-        return Ok(None);
-    };
-    if outermost.phys.is_none() && !has_carried(outermost.element) {
-        return Ok(Some(Path::new(alloc)));
-    }
-    let found = first_in_type(alloc, &mut List::new(alloc), outermost.element)?;
-    Ok(found)
-}
-
-/// The path of the first node of a type under these names that is not carried.
-#[cycle(uncarried)]
-fn first_in_type(
-    alloc: Global,
-    names: &mut List<Name>,
-    ltype: &LType,
-) -> Result<Option<Path>, Memory>
-    ensures found { IfOk result (λ found. found ≡ spec.first_path (spec.uncarried_in names.old (plain ltype.now))) }
-    ensures names { OnOk result (names.new ≡ names.old) }
-{
-    match ltype {
-        LType::Null => Ok(None),
-        LType::Bits(_) => Ok(None),
-        LType::Group(parts) => first_in_parts(alloc, names, parts.as_slice()),
-        LType::Union(parts) => first_in_parts(alloc, names, parts.as_slice()),
-        LType::Stream(stream) => first_in_stream(alloc, names, stream.get()),
-    }
-}
-
-/// The path of the first node of parts that is not carried.
-#[cycle(uncarried)]
-fn first_in_parts(
-    alloc: Global,
-    names: &mut List<Name>,
-    parts: &[Part],
-) -> Result<Option<Path>, Memory>
-    ensures found { IfOk result (λ found. found ≡ spec.first_path (spec.uncarried_in_parts names.old (plain_parts parts.now))) }
-    ensures names { OnOk result (names.new ≡ names.old) }
-{
-    'parts: for part in parts {
-        if let Some(path) = first_in_part(alloc, names, part)? {
-            return Ok(Some(path));
+    'nodes: for node in split.nodes.as_slice() {
+        if !is_carried(node) {
+            return Some(&node.path);
         }
     }
-    Ok(None)
+    None
 }
 
-/// The path of the first node of a part that is not carried.
-#[cycle(uncarried)]
-fn first_in_part(alloc: Global, names: &mut List<Name>, part: &Part) -> Result<Option<Path>, Memory>
-    ensures found { IfOk result (λ found. found ≡ spec.first_path (spec.uncarried_in (names.old ++ part.now.name ∷ []) (plain part.now.ltype))) }
-    ensures names { OnOk result (names.new ≡ names.old) }
+/// Whether a node is carried.
+fn is_carried(node: &Node<'_>) -> bool
+    ensures { result ≡ spec.is_carried (node_view node.now) }
 {
-    names.push(part.name.try_clone(alloc)?)?;
-    let found = first_in_type(alloc, names, &part.ltype)?;
-    names.pop();
-    Ok(found)
-}
-
-/// The path of the first node that is not carried, of a Stream and those inside it.
-#[cycle(uncarried)]
-fn first_in_stream(
-    alloc: Global,
-    names: &mut List<Name>,
-    stream: &StreamType,
-) -> Result<Option<Path>, Memory>
-    ensures found { IfOk result (λ found. found ≡ spec.first_path (spec.uncarried_in names.old (plain_of_stream stream.now))) }
-    ensures names { OnOk result (names.new ≡ names.old) }
-{
-    if !is_physical(stream) && !has_carried(&stream.element) {
-        let path = Path::from_names(names.try_clone(alloc)?);
-        return Ok(Some(path));
-    }
-    let found = first_in_type(alloc, names, &stream.element)?;
-    Ok(found)
+    node.phys.is_some() || has_carried(node.element)
 }
 
 /// Whether some Sync Stream of a type, in no other Stream of it, is carried.

@@ -16,7 +16,7 @@ use std::alloc::Global;
 use tydi_base::TryClone;
 
 /// Splits a port's type that passed `logical_types::check` into its nodes, its physical streams and its roots. NameClash comes
-/// exactly where two physical streams have one path.
+/// exactly where two physical streams have one path, Memory where there is none for the split.
 pub fn split_type(alloc: Global, ltype: &StreamType) -> Result<Split<'_>, SplitFault>
     requires valid { IsValid (plain_of_stream ltype.now) }
     requires few { number_of_streams (plain_of_stream ltype.now) ≤ 65536 }
