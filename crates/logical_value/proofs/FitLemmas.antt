@@ -1,18 +1,22 @@
 -- Values that fit a type, part after part, and how far a walk over type and value has to go.
-use Rattle.std.proofs.Common.{◌≡◌, ◌∙◌, ℕ, zero, suc, ◌+◌, ◌-◌, ◌<◌, ◌≤◌, Bool, true, false, ◌&&◌, ◌==◌, List, [], ◌∷◌, length, get_or, drop, refl, sym, ap, arith}
+use Rattle.std.proofs.Common.{◌≡◌, ◌∙◌, ℕ, zero, suc, ◌+◌, ◌-◌, ◌<◌, ◌≤◌, Bool, true, false, ◌&&◌, ◌==◌, List, [], ◌∷◌, length, map, get_or, drop, slice_get, Option, Some, None, option_map, refl, sym, ap, arith}
 use Rattle.std.proofs.lemmas.Bool.Decides.{nat_tests}
 use Rattle.std.proofs.lemmas.List.{drop_more}
+use Rattle.std.proofs.lemmas.Option.{slice_get-map}
 use Rattle.logical_types.specs.declared.ltype.Part.{Part}
 use Rattle.logical_types.specs.Tree.{Ltype, Parts, plain, plain_parts}
 use Rattle.logical_types.specs.Tree as types
 use Rattle.logical_types.proofs.PlainLemmas.{plain_parts-at, plain_parts-past}
 use Rattle.type_split.specs.Nodes.{StreamNode}
+use Rattle.type_split.specs.Streams.{node_view}
+use Rattle.type_split.specs.declared.split.Node.{Node}
 use Rattle.logical_value.specs.Laws.{FitsAreElements}
 use Rattle.logical_value.specs.Element.{IsElement, AreElements, IsVariant}
-use Rattle.logical_value.specs.Fits.{fits_element, fit_fields, fits_variant, fit_roots}
+use Rattle.logical_value.specs.Fits.{all_pass, is_nest, fits_element, fit_fields, fits_variant, fits_series, fit_roots}
 use Rattle.logical_value.specs.Tree.{Tree, null, word, group, union, list, apart, Trees, no_trees, tree}
 use Rattle.logical_value.specs.Tree.{plain as plain_value, plain_values}
 use Rattle.logical_value.specs.declared.value.Value.{Value}
+use Rattle.logical_value.proofs.PlainLemmas.{trees_of-map}
 
 -- ---- values of a list from an index on
 
@@ -114,10 +118,24 @@ variant-step parts at one left value all within is some same =
     next zero none = absurd (none refl)
     next (suc n) none = (let less : n ≡ suc n - 1 = omega arith in ap (λ (k : ℕ). fits_variant (plain_parts (drop (at + 1) parts)) k value) less)
 
+-- ---- the series of a node
+
+pub fits-root : (nodes : List Node) (number : ℕ) (node made : Node) (series : List Value) (depth : ℕ) (result : Bool) → made ≡ node → Some node ≡ slice_get nodes number
+    → depth ≡ made.params.dims → result ≡ all_pass (is_nest (fits_element (plain made.element.now)) depth) (plain_values series)
+    → result ≡ fits_series (slice_get (map node_view nodes) number) (map plain_value series)
+fits-root nodes number node made series depth result same found deep is =
+    is ∙ ap (λ (d : ℕ). all_pass (is_nest (fits_element (plain made.element.now)) d) (plain_values series)) deep
+    ∙ ap (λ (n : Node). all_pass (is_nest (fits_element (plain n.element.now)) n.params.dims) (plain_values series)) same
+    ∙ ap (all_pass (is_nest (fits_element (plain node.element.now)) node.params.dims)) (sym (trees_of-map series))
+    ∙ ap (λ o. fits_series o (map plain_value series)) (ap (option_map node_view) found ∙ sym (slice_get-map node_view nodes number))
+
+pub fits-no_root : (nodes : List Node) (number : ℕ) (series : List Tree) → None ≡ slice_get nodes number → false ≡ fits_series (slice_get (map node_view nodes) number) series
+fits-no_root nodes number series found = ap (λ o. fits_series o series) (ap (option_map node_view) found ∙ sym (slice_get-map node_view nodes number))
+
 -- ---- the series of roots, from a root on
 
 pub roots-few : (nodes : List StreamNode) (roots : List ℕ) (at : ℕ) (left : List (List Value)) (all : Bool) → at < length roots → length left ≡ 0
-    → all ≡ fit_roots nodes (drop at roots) left → false ≡ all
+    → all ≡ fit_roots nodes (drop at roots) (map (map plain_value) left) → false ≡ all
 roots-few nodes roots at [] all within none same =
     sym (same ∙ ap (λ (rs : List ℕ). fit_roots nodes rs []) (drop_more roots at 0 within))
 roots-few nodes roots at (series ∷ more) all within none same = absurd (omega (arith, none))

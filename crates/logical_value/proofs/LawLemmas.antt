@@ -64,7 +64,7 @@ mutual
 
 -- what was set apart stays so
 mutual
-  set_apart-again : (ltype : Ltype) (value : Tree) → set_apart ltype (set_apart ltype value) ≡ set_apart ltype value
+  pub set_apart-again : (ltype : Ltype) (value : Tree) → set_apart ltype (set_apart ltype value) ≡ set_apart ltype value
   set_apart-again types.null value = refl
   set_apart-again (types.bits width) value = refl
   set_apart-again (types.group parts) (group values) = ap group (set_all_apart-again parts values)
@@ -81,13 +81,13 @@ mutual
   set_apart-again (types.union parts) apart = refl
   set_apart-again (types.stream element user settings) value = refl
 
-  set_all_apart-again : (parts : Parts) (values : Trees) → set_all_apart parts (set_all_apart parts values) ≡ set_all_apart parts values
+  pub set_all_apart-again : (parts : Parts) (values : Trees) → set_all_apart parts (set_all_apart parts values) ≡ set_all_apart parts values
   set_all_apart-again types.no_parts values = refl
   set_all_apart-again (types.part name ltype more) no_trees = refl
   set_all_apart-again (types.part name ltype more) (tree value others) =
       ap (λ v. tree v (set_all_apart more (set_all_apart more others))) (set_apart-again ltype value) ∙ ap (tree (set_apart ltype value)) (set_all_apart-again more others)
 
-  set_variant_apart-again : (parts : Parts) (tag : ℕ) (value : Tree) → set_variant_apart parts tag (set_variant_apart parts tag value) ≡ set_variant_apart parts tag value
+  pub set_variant_apart-again : (parts : Parts) (tag : ℕ) (value : Tree) → set_variant_apart parts tag (set_variant_apart parts tag value) ≡ set_variant_apart parts tag value
   set_variant_apart-again types.no_parts tag value = refl
   set_variant_apart-again (types.part name ltype more) zero value = set_apart-again ltype value
   set_variant_apart-again (types.part name ltype more) (suc tag) value = set_variant_apart-again more tag value

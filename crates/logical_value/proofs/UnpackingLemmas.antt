@@ -32,13 +32,13 @@ use Rattle.logical_value.proofs.LawLemmas.{no_bad_tag}
 
 -- ---- fronts of bits
 
-take-less : (few many : ℕ) (bits : List Bool) → few ≤ many → take few (take many bits) ≡ take few bits
+pub take-less : (few many : ℕ) (bits : List Bool) → few ≤ many → take few (take many bits) ≡ take few bits
 take-less zero many bits less = refl
 take-less (suc few) zero bits less = absurd (omega (arith, less))
 take-less (suc few) (suc many) [] less = refl
 take-less (suc few) (suc many) (bit ∷ bits) less = ap (λ (l : List Bool). bit ∷ l) (take-less few many bits (omega (arith, less)))
 
-drop-less : (few many : ℕ) (bits : List Bool) → few ≤ many → drop few (take many bits) ≡ take (many - few) (drop few bits)
+pub drop-less : (few many : ℕ) (bits : List Bool) → few ≤ many → drop few (take many bits) ≡ take (many - few) (drop few bits)
 drop-less few many bits less =
     let same : many ≡ few + (many - few) = omega (arith, less) in ap (λ (n : ℕ). drop few (take n bits)) same ∙ drop-take few (many - few) bits
 

@@ -1,5 +1,5 @@
 -- Which word stands for which value (Tydi specification, logical types; the layout of a Union is this project's own).
-use Rattle.std.specs.Prelude.{◌≡◌, ℕ, zero, suc, ◌-◌, Bool, List, [], ◌∷◌, ◌++◌, take, drop, Option, Some, None}
+use Rattle.std.specs.Prelude.{◌≡◌, ℕ, zero, suc, ◌-◌, Bool, true, false, ◌&&◌, List, [], ◌∷◌, ◌++◌, take, drop, Option, Some, None}
 use Rattle.tydi_base.specs.Bits.{number_of_bits, zero_bits}
 use Rattle.logical_types.specs.Tree.{Ltype, Parts, number_of_parts}
 use Rattle.logical_types.specs.Tree as types
@@ -60,6 +60,26 @@ abbrev mutual
   bad_tag_of_variant path names (types.part name ltype more) zero bits = bad_tag (names ++ name ∷ []) ltype (take (width_of ltype) bits)
   bad_tag_of_variant path names (types.part name ltype more) (suc tag) bits = bad_tag_of_variant path names more tag bits
 
+-- each tag that is read names a variant, of those in no variant that is not selected
+abbrev mutual
+  pub names_variants : Ltype → List Bool → Bool
+  names_variants types.null bits = true
+  names_variants (types.bits width) bits = true
+  names_variants (types.group parts) bits = name_variants parts bits
+  names_variants (types.union parts) bits =
+      names_in_variant parts (number_of_bits (take (tag_width (number_of_parts parts)) bits)) (drop (tag_width (number_of_parts parts)) bits)
+  names_variants (types.stream element user settings) bits = true
+
+  pub name_variants : Parts → List Bool → Bool
+  name_variants types.no_parts bits = true
+  name_variants (types.part name ltype more) bits = names_variants ltype (take (width_of ltype) bits) && name_variants more (drop (width_of ltype) bits)
+
+  -- there is a variant of this number, and each tag in it names a variant
+  pub names_in_variant : Parts → ℕ → List Bool → Bool
+  names_in_variant types.no_parts tag bits = false
+  names_in_variant (types.part name ltype more) zero bits = names_variants ltype (take (width_of ltype) bits)
+  names_in_variant (types.part name ltype more) (suc tag) bits = names_in_variant more tag bits
+
 -- a word of an element with zeros in all bits that are ignored: those of a Union above the variant that its tag names
 abbrev mutual
   pub cleared : Ltype → List Bool → List Bool
@@ -84,6 +104,10 @@ abbrev mutual
 pub record IsUnpacked (ltype : Ltype) (bits : List Bool) (value : Tree) : Type 0 where
   pub agrees : Agrees ltype bits value
   pub streams : set_apart ltype value ≡ value
+
+-- the word stands for some value
+abbrev pub StandsForSome : Ltype → List Bool → Type 0
+StandsForSome ltype bits = (value : Tree) × IsUnpacked ltype bits value
 
 -- the fault tells this path; want of memory says nothing
 abbrev pub Tells : Option (List (List ℕ)) → UnpackFault → Type 0

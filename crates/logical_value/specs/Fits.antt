@@ -1,14 +1,11 @@
 -- Which values are values of a port's type (this project's own, after the nested streams of the Tydi specification).
-use Rattle.std.specs.Prelude.{ℕ, zero, suc, Bool, true, false, ◌&&◌, ◌==◌, if◌then◌else◌, List, [], ◌∷◌, length, map, Option, Some, None, slice_get}
+use Rattle.std.specs.Prelude.{ℕ, zero, suc, Bool, true, false, ◌&&◌, ◌==◌, if◌then◌else◌, List, [], ◌∷◌, length, Option, Some, None, slice_get}
 use Rattle.logical_types.specs.Synchronicity.{is_apart}
 use Rattle.logical_types.specs.Tree.{Ltype, Parts}
 use Rattle.logical_types.specs.Tree as types
 use Rattle.type_split.specs.Nodes.{StreamNode}
-use Rattle.type_split.specs.Streams.{node_view}
-use Rattle.type_split.specs.declared.split.Split.{Split}
-use Rattle.logical_value.specs.Tree.{Tree, null, word, group, union, list, apart, Trees, no_trees, tree, plain_values}
-use Rattle.logical_value.specs.declared.value.PortValue.{PortValue}
-use Rattle.logical_value.specs.declared.value.Value.{Value}
+use Rattle.type_split.specs.Streams.{PlainSplit}
+use Rattle.logical_value.specs.Tree.{Tree, null, word, group, union, list, apart, Trees, no_trees, tree, trees_of}
 
 -- all of these values pass a test
 abbrev pub all_pass : (Tree → Bool) → Trees → Bool
@@ -52,16 +49,16 @@ abbrev mutual
   fits_variant (types.part name ltype more) (suc tag) value = fits_variant more tag value
 
 -- a series of a node: each member is a nest of the node's effective dimensionality, whose leaves are values of its elements
-abbrev pub fits_series : Option StreamNode → List Value → Bool
+abbrev pub fits_series : Option StreamNode → List Tree → Bool
 fits_series None series = false
-fits_series (Some node) series = all_pass (is_nest (fits_element node.element) node.params.dims) (plain_values series)
+fits_series (Some node) series = all_pass (is_nest (fits_element node.element) node.params.dims) (trees_of series)
 
 -- a series for each of these roots, and no more
-abbrev pub fit_roots : List StreamNode → List ℕ → List (List Value) → Bool
+abbrev pub fit_roots : List StreamNode → List ℕ → List (List Tree) → Bool
 fit_roots nodes [] [] = true
 fit_roots nodes (root ∷ roots) (series ∷ more) = fits_series (slice_get nodes root) series && fit_roots nodes roots more
 fit_roots nodes roots series = false
 
 -- a value of the port's type that was split: a series for each of its roots
-abbrev pub fits_split : Split → PortValue → Bool
-fits_split split value = fit_roots (map node_view split.nodes) split.roots value.roots
+abbrev pub fits_split : PlainSplit → List (List Tree) → Bool
+fits_split split value = fit_roots split.nodes split.roots value

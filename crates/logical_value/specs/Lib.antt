@@ -4,5 +4,6 @@ pub mod Packed
 pub mod Agreement
 pub mod Packing
 pub mod Unpacking
+pub mod Naming
 pub mod Fits
 pub mod Laws

@@ -2,7 +2,7 @@
 
 ghost use Rattle.std.specs.Prelude.{◌≡◌, map, slice_get};
 ghost use Rattle.logical_types.specs.Tree.{bits, group, plain, plain_of_stream, plain_parts, union};
-ghost use Rattle.type_split.specs.Streams.{node_view};
+ghost use Rattle.type_split.specs.Streams.{node_view, plain_split};
 ghost use Rattle.logical_value.specs.Fits as spec;
 ghost use Rattle.logical_value.specs.Tree as values;
 
@@ -11,9 +11,10 @@ use logical_types::{LType, Part, StreamType};
 use type_split::Split;
 
 /// Whether this is a value of the port's type that was split: a series for each of its roots, whose members are nests of the root's
-/// dimensionality, with values of its elements as their leaves.
+/// effective dimensionality, with values of its elements as their leaves. It takes no memory. Which values a port has is this
+/// project's own, after the nested streams of the Tydi specification.
 pub fn fits(value: &PortValue, split: &Split<'_>) -> bool
-    ensures { result ≡ spec.fits_split split.now value.now }
+    ensures { result ≡ spec.fits_split (plain_split split.now) (values.plain_port value.now) }
 {
     let mut left = value.roots.as_slice();
     'roots: for root in split.roots.as_slice() {
@@ -30,7 +31,7 @@ pub fn fits(value: &PortValue, split: &Split<'_>) -> bool
 
 /// Whether this is a series of the node of this number.
 fn fits_root(series: &[Value], split: &Split<'_>, root: u32) -> bool
-    ensures { result ≡ spec.fits_series (slice_get (map node_view split.now.nodes) root) series.now }
+    ensures { result ≡ spec.fits_series (slice_get (map node_view split.now.nodes) root) (map values.plain series.now) }
 {
     match split.nodes.get(root as usize) {
         Some(node) => fit_nests(node.element, u64::from(node.params.dims), series),

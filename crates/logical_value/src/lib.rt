@@ -1,12 +1,14 @@
-//! Values of types, and the words that stand for them. `pack` gives the word of a value, `unpack` the value that a word stands for, and
-//! `fits` tells whether a value is one of a port's type. `specs/Element.antt` says which values an element has, `specs/Packed.antt` what
-//! the word of a value is, `specs/Agreement.antt` which word stands for which value, and `specs/Fits.antt` which values a port has. The
-//! crate stands on `logical_types` and `type_split`. Each call goes as deep as the type and its sequences nest.
+//! Values of types, and the words of bits that stand for them. `pack` makes the word of a value, `unpack` the value of a word,
+//! `names_variants` tests whether a word stands for some value, and `fits` whether a value is one of a port's type.
+//! `specs/Element.antt` says which values an element has, `Packed.antt` which word a value has, `Agreement.antt` which word stands for
+//! which value, and `Fits.antt` which values a port has. The crate stands on `logical_types` and `type_split`. Each call goes as deep
+//! as the type and its sequences nest.
 #![tactic(auto)]
 
 mod fault;
 mod fitting;
 mod laws;
+mod naming;
 mod packing;
 mod place;
 mod unpacking;
@@ -15,9 +17,11 @@ mod value;
 pub use fault::UnpackFault;
 pub use fitting::fits;
 pub use laws::{
-    bad_tags_stand_for_nothing, values_that_fit_are_elements, words_and_values_are_tied,
-    words_have_one_value,
+    bad_tags_stand_for_nothing, packed_words_have_their_width, plain_forms_are_one_to_one,
+    tags_name_variants_where_words_stand, values_that_fit_are_elements, words_agree_with_one_value,
+    words_and_values_are_tied, words_have_one_value,
 };
+pub use naming::names_variants;
 pub use packing::pack;
 pub use unpacking::unpack;
-pub use value::{PortValue, Value};
+pub use value::{PortValue, Value, Variant};

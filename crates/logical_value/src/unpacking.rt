@@ -18,7 +18,8 @@ use std::alloc::Global;
 use tydi_base::{Bits, Boxed, List, Memory, Name, Path, TryClone, index_width};
 
 /// The value of an element of this type that this word stands for, with what stands for its Streams apart. BadTag comes exactly where
-/// the word stands for no value.
+/// the word stands for no value, Memory where there is none for the value. The layout is the Tydi specification's (logical types); that
+/// of a Union is this project's own.
 pub fn unpack(alloc: Global, ltype: &LType, word: &Bits) -> Result<Value, UnpackFault>
     requires plain { IsPlain (plain ltype.now) }
     requires few { number_of_nodes (plain ltype.now) ≤ 65536 }

@@ -7,7 +7,8 @@ ghost use Rattle.logical_value.specs.Tree.{Tree, Trees, group, list, plain, plai
 
 use tydi_base::{Bits, Boxed, List};
 
-/// A value of a port's type, or of a part of it.
+/// A value of a port's type, or of a part of it. Which values a type has is the Tydi specification's (logical types); how they are
+/// kept is this project's own.
 #[derive(Debug, Drop)]
 pub enum Value {
     /// The value of a Null.
@@ -16,7 +17,7 @@ pub enum Value {
     Word(Bits),
     /// A value for each field of a Group.
     Group(List<Value>),
-    /// A value of one variant of a Union, numbered from 0.
+    /// A value of one variant of a Union, and the variant's number from 0.
     Union { tag: u32, part: Boxed<Value> },
     /// A sequence.
     List(List<Value>),
@@ -24,15 +25,17 @@ pub enum Value {
     Apart,
 }
 
-/// A value of a port's type: a series for each of its roots.
+/// A value of a port's type: a series for each of its roots. Its plain form is `plain_port` of `specs/Tree.antt`.
 #[derive(Debug, Drop)]
 pub struct PortValue {
+    /// The series of the roots, in the order of the roots of the split; the members of each are nests of the root's effective
+    /// dimensionality.
     pub roots: List<List<Value>>,
 }
 
 impl Value {
     /// Whether it is the value of a Null.
-    pub(crate) fn is_null(&self) -> bool
+    pub fn is_null(&self) -> bool
         ensures { result ≡ fits_element types.null (plain self.now) }
     {
         match self {
@@ -46,7 +49,7 @@ impl Value {
     }
 
     /// Whether it stands for a Stream that is told elsewhere.
-    pub(crate) fn is_apart(&self) -> bool
+    pub fn is_apart(&self) -> bool
         ensures { result ≡ stands_apart (plain self.now) }
     {
         match self {
@@ -60,7 +63,7 @@ impl Value {
     }
 
     /// Its members. None where it is no sequence.
-    pub(crate) fn members(&self) -> Option<&[Value]>
+    pub fn members(&self) -> Option<&[Value]>
         ensures { MatchOption result ((parts : Trees) → plain self.now ≡ list parts → ⊥) (λ parts. plain self.now ≡ list (plain_values parts.now)) }
     {
         match self {
@@ -73,8 +76,8 @@ impl Value {
         }
     }
 
-    /// Its word. None where it is no value of a Bits.
-    pub(crate) fn word(&self) -> Option<&Bits>
+    /// Its word, as wide as the Bits. None where it is no value of a Bits.
+    pub fn word(&self) -> Option<&Bits>
         ensures { MatchOption result ((bits : List Bool) → plain self.now ≡ word bits → ⊥) (λ bits. plain self.now ≡ word bits.now) }
     {
         match self {
@@ -87,8 +90,8 @@ impl Value {
         }
     }
 
-    /// Its fields. None where it is no value of a Group.
-    pub(crate) fn fields(&self) -> Option<&[Value]>
+    /// Its fields, in their order. None where it is no value of a Group.
+    pub fn fields(&self) -> Option<&[Value]>
         ensures { MatchOption result ((parts : Trees) → plain self.now ≡ group parts → ⊥) (λ parts. plain self.now ≡ group (plain_values parts.now)) }
     {
         match self {
@@ -101,8 +104,8 @@ impl Value {
         }
     }
 
-    /// The number of its variant, and its value. None where it is no value of a Union.
-    pub(crate) fn variant(&self) -> Option<Variant<'_>>
+    /// The number of its variant, from 0, and its value. None where it is no value of a Union.
+    pub fn variant(&self) -> Option<Variant<'_>>
         ensures { MatchOption result ((tag : ℕ) (part : Tree) → plain self.now ≡ union tag part → ⊥) (λ one. plain self.now ≡ union one.tag (plain one.part.now)) }
     {
         match self {
@@ -121,7 +124,8 @@ impl Value {
 
 /// A value of one variant of a Union, numbered from 0.
 #[derive(Clone, Copy)]
-pub(crate) struct Variant<'v> {
-    pub(crate) tag: u32,
-    pub(crate) part: &'v Value,
+pub struct Variant<'v> {
+    /// The number of the variant, which its tag spells.
+    pub tag: u32,
+    pub part: &'v Value,
 }

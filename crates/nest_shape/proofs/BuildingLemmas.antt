@@ -18,7 +18,8 @@ use Rattle.physical_stream.proofs.ShapeLemmas.{tail_of-over_none, tail_of-over, 
 use Rattle.nest_shape.specs.declared.nest.Nest.{Nest}
 use Rattle.nest_shape.specs.declared.nest.Nest.TheVariants as nests
 use Rattle.nest_shape.specs.declared.builder.Open.{Open}
-use Rattle.nest_shape.specs.Building.{items_of_open, Descends, level_after, Takes, AddsTo, Keeps}
+use Rattle.nest_shape.specs.declared.builder.Builder.{Builder}
+use Rattle.nest_shape.specs.Building.{items_of_open, Descends, level_after, MayTakeClose, StandsFor, Takes, AddsTo, Keeps, dims_of}
 use Rattle.nest_shape.specs.Tree.{plain}
 use Rattle.nest_shape.specs.Flat.{flat, HasDepth, IsSeries, flat_form}
 use Rattle.nest_shape.specs.Shape.{BreaksNesting, LeavesOpen, IsSeriesOf}
@@ -225,6 +226,27 @@ ending-unclosed dims level (Some (tails.Close i)) is within begun =
 pub LeavesOpen-level : (dims level : ℕ) (begun : List Open) (done : List Item) → Keeps dims level begun done → (level ≡ dims → ⊥) → LeavesOpen dims done level
 LeavesOpen-level dims level begun done keeps below =
     record { nested = IsNested-placed done keeps.placed; open_at = ending-unclosed dims level (tail_of done) keeps.tail keeps.within below }
+
+-- ---- what is said of a builder
+
+-- a builder was given one list of items
+pub StandsFor-once : (builder : Builder) (one other : List Item) → StandsFor builder one → StandsFor builder other → one ≡ other
+StandsFor-once builder one other stands stands' = sym stands.spelled ∙ stands'.spelled
+
+-- it may take a Close exactly where this may follow the items so far
+pub MayTakeClose-told : (builder : Builder) (done : List Item) (dim : ℕ) → StandsFor builder done → dim < dims_of builder → may_close (tail_of done) dim ≡ true → MayTakeClose builder dim
+MayTakeClose-told builder done dim stands within may =
+    by_test dim builder.level (may_close-level builder.dims (tail_of done) builder.level dim within stands.tail ∙ may)
+  where
+    by_test : (a b : ℕ) → nat_le a b ≡ true → a ≤ b
+    by_test a b test = grind (arith, nat_tests)
+
+pub may_close-MayTakeClose : (builder : Builder) (done : List Item) (dim : ℕ) → StandsFor builder done → dim < dims_of builder → MayTakeClose builder dim → may_close (tail_of done) dim ≡ true
+may_close-MayTakeClose builder done dim stands within may =
+    sym (may_close-level builder.dims (tail_of done) builder.level dim within stands.tail) ∙ at_most dim builder.level may
+  where
+    at_most : (a b : ℕ) → a ≤ b → nat_le a b ≡ true
+    at_most a b less = grind (arith, nat_tests)
 
 -- ---- the innermost of what is open
 

@@ -29,7 +29,7 @@ placed_by tail (items.Close i ∷ more) may =
     ap (λ (b : Bool). not b || has_misplaced (Some (tails.Close i)) more) (may [] more i refl)
     ∙ placed_by (Some (tails.Close i)) more (λ front rest dim is. may (items.Close i ∷ front) rest dim (ap (λ (l : List Item). items.Close i ∷ l) is))
 
-placed-IsNested : (done : List Item) → IsNested done → has_misplaced None done ≡ false
+pub placed-IsNested : (done : List Item) → IsNested done → has_misplaced None done ≡ false
 placed-IsNested done nested =
     placed_by None done (λ front rest dim is. ap (λ (tail : Option Tail). may_close tail dim) (sym (tail_of-over_none front)) ∙ nested front rest dim is)
 

@@ -5,11 +5,21 @@ use Rattle.nest_shape.specs.declared.nest.Nest.{Nest, roll-Nest, map-Nest}
 use Rattle.nest_shape.specs.declared.nest.Nest.TheVariants as nests
 use Rattle.nest_shape.specs.declared.nest.Nest.TheOpen.{Nest-F}
 use Rattle.nest_shape.specs.declared.nest.Nest.TheFolds.{fold-roll-Nest, ind-Nest}
-use Rattle.nest_shape.specs.Tree.{Tree, leaf, list, Trees, no_trees, tree, trees_of, plain_layer, plain, plain_nests}
+use Rattle.nest_shape.specs.Tree.{Tree, leaf, list, Trees, no_trees, tree, trees_of, list_of, plain_layer, plain, plain_nests}
+
+-- ---- lists of plain data
+
+pub trees_of-list_of : (some : Trees) → trees_of (list_of some) ≡ some
+trees_of-list_of no_trees = refl
+trees_of-list_of (tree first more) = ap (tree first) (trees_of-list_of more)
+
+pub list_of-trees_of : (some : List Tree) → list_of (trees_of some) ≡ some
+list_of-trees_of [] = refl
+list_of-trees_of (first ∷ more) = ap (λ (l : List Tree). first ∷ l) (list_of-trees_of more)
 
 -- ---- the plain data of a made value
 
-trees_of-map : (nests : List Nest) → trees_of (map plain nests) ≡ plain_nests nests
+pub trees_of-map : (nests : List Nest) → trees_of (map plain nests) ≡ plain_nests nests
 trees_of-map [] = refl
 trees_of-map (first ∷ more) = ap (tree (plain first)) (trees_of-map more)
 

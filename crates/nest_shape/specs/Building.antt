@@ -1,4 +1,4 @@
--- A series as it is built. It serves the builder, and nothing that is said of a series has it.
+-- A series as it is built (this project's own). What is said of a builder is in the last lines; the rest serves its proofs alone.
 use Rattle.std.specs.Prelude.{◌≡◌, ℕ, suc, ◌≤◌, ◌<◌, false, List, [], ◌∷◌, ◌++◌, Option, Some, None}
 use Rattle.physical_stream.specs.Shape.{tail_of, has_misplaced}
 use Rattle.physical_stream.specs.declared.item.Item.{Item}
@@ -45,6 +45,16 @@ pub record Keeps (dims level : ℕ) (begun : List Open) (done : List Item) : Typ
   pub within : level ≤ dims
   pub placed : has_misplaced None done ≡ false
 
+-- ---- what is said of a builder
+
 -- the builder was given these items
 abbrev pub StandsFor : Builder → List Item → Type 0
 StandsFor builder done = Keeps builder.dims builder.level builder.begun done
+
+-- the dimensionality of the series that is built
+abbrev pub dims_of : Builder → ℕ
+dims_of builder = builder.dims
+
+-- a Close of this dimension may be taken next
+abbrev pub MayTakeClose : Builder → ℕ → Type 0
+MayTakeClose builder dim = dim ≤ builder.level

@@ -19,6 +19,11 @@ abbrev pub trees_of : List Tree → Trees
 trees_of [] = no_trees
 trees_of (first ∷ more) = tree first (trees_of more)
 
+-- plain data of nests as a list
+abbrev pub list_of : Trees → List Tree
+list_of no_trees = []
+list_of (tree first more) = first ∷ list_of more
+
 -- one layer of a nest, with plain data in place of what it holds
 abbrev pub plain_layer : Nest-F Tree → Tree
 plain_layer (Nest-F.Leaf word) = leaf word

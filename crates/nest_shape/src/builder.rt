@@ -4,7 +4,7 @@ ghost use Rattle.std.specs.Prelude.{◌≡◌, ◌==◌, ◌≤◌, ◌<◌, ◌
 ghost use Rattle.physical_stream.specs.Shape.{is_misplaced, may_close, tail_of};
 ghost use Rattle.physical_stream.specs.declared.item.Item.{Item};
 ghost use Rattle.physical_stream.specs.declared.item.Item.TheVariants.{Close, Elem};
-ghost use Rattle.nest_shape.specs.Building.{AddsTo, Descends, StandsFor, Takes};
+ghost use Rattle.nest_shape.specs.Building.{AddsTo, Descends, MayTakeClose, StandsFor, Takes, dims_of};
 ghost use Rattle.nest_shape.specs.Flat.{HasDepth};
 ghost use Rattle.nest_shape.specs.Shape.{ClosesBelow, IsSeriesOf, LeavesOpen};
 ghost use Rattle.nest_shape.specs.Tree.{plain};
@@ -22,7 +22,9 @@ pub(crate) struct Open {
     pub(crate) members: List<Nest>,
 }
 
-/// A series that is built of its items, one at a time. After `Memory` it is of no more use.
+/// A series that is built of its items, one at a time. Contracts say of it which items it was given (`StandsFor`), the dimensionality of
+/// its series (`dims_of`), and which Close it may take next (`MayTakeClose`). It keeps nests and no items, so who keeps one needs no
+/// items either. After `Memory` it is of no more use. Which items may follow is this project's own.
 #[derive(Debug, Drop)]
 pub struct Builder {
     pub(crate) alloc: Global,
@@ -33,9 +35,10 @@ pub struct Builder {
     pub(crate) begun: List<Open>,
 }
 
-/// Sequences of this level are open: 0 after an element, and one more than its dimension after a Close.
+/// What items leave open.
 #[derive(Clone, Copy, Debug, PartialEq, Eq)]
 pub struct Unclosed {
+    /// Sequences of this level are open: 0 after an element, and one more than its dimension after a Close.
     pub level: u8,
 }
 
@@ -43,7 +46,7 @@ impl Builder {
     /// A builder of a series of this dimensionality that was given no items. It takes no memory.
     pub fn new(alloc: Global, dims: u8) -> Builder
         ensures stands { StandsFor result [] }
-        ensures dims { result.dims ≡ dims }
+        ensures dims { dims_of result ≡ dims }
     {
         Builder {
             alloc,
@@ -53,22 +56,23 @@ impl Builder {
         }
     }
 
-    /// Whether a Close of this dimension may come next.
+    /// Whether a Close of this dimension may come next. It takes no memory.
     pub fn may_close(&self, dim: u8) -> bool
-        requires { dim < self.now.dims }
+        requires { dim < dims_of self.now }
         ensures told { (done : List Item) → StandsFor self.now done → result ≡ may_close (tail_of done) dim }
-        ensures low { result ≡ true → dim ≤ self.now.level }
+        ensures takes { result ≡ true → MayTakeClose self.now dim }
     {
         dim <= self.level
     }
 
-    /// Takes this item. False exactly where it is a Close that may not come next; then the builder is as before.
+    /// Takes a copy of this item. False exactly where it is a Close that may not come next; then the builder is as before. Memory comes
+    /// where there is none for it.
     pub fn add(&mut self, item: &Item) -> Result<bool, Memory>
-        requires { ClosesBelow self.old.dims item.now }
+        requires { ClosesBelow (dims_of self.old) item.now }
         ensures stands { (done : List Item) → StandsFor self.old done → IfOk result (λ placed. MatchBool placed
             ((is_misplaced (tail_of done) item.now ≡ false) × StandsFor self.new (done ++ item.now ∷ []))
             ((is_misplaced (tail_of done) item.now ≡ true) × StandsFor self.new done)) }
-        ensures dims { self.new.dims ≡ self.old.dims }
+        ensures dims { dims_of self.new ≡ dims_of self.old }
     {
         match item {
             Item::Elem(word) => {
@@ -82,11 +86,11 @@ impl Builder {
 
     /// Closes a sequence where it may be closed, and answers whether it did.
     fn close_where_allowed(&mut self, dim: u8) -> Result<bool, Memory>
-        requires { dim < self.old.dims }
+        requires { dim < dims_of self.old }
         ensures stands { (done : List Item) → StandsFor self.old done → IfOk result (λ placed. MatchBool placed
             ((may_close (tail_of done) dim ≡ true) × StandsFor self.new (done ++ Close dim ∷ []))
             ((may_close (tail_of done) dim ≡ false) × StandsFor self.new done)) }
-        ensures dims { self.new.dims ≡ self.old.dims }
+        ensures dims { dims_of self.new ≡ dims_of self.old }
     {
         if self.may_close(dim) {
             self.close(dim)?;
@@ -96,30 +100,30 @@ impl Builder {
         }
     }
 
-    /// Takes an element of this word.
+    /// Takes an element of this word. Memory comes where there is none for it.
     pub fn element(&mut self, word: Bits) -> Result<(), Memory>
         ensures stands { (done : List Item) → StandsFor self.old done → OnOk result (StandsFor self.new (done ++ Elem word ∷ [])) }
-        ensures dims { self.new.dims ≡ self.old.dims }
+        ensures dims { dims_of self.new ≡ dims_of self.old }
     {
         self.level = 0;
         self.add_member(0, Nest::Leaf(word))
     }
 
-    /// Takes a Close of this dimension, which may come next.
+    /// Takes a Close of this dimension, which may come next. Memory comes where there is none for it.
     pub fn close(&mut self, dim: u8) -> Result<(), Memory>
-        requires within { dim < self.old.dims }
-        requires placed { dim ≤ self.old.level }
+        requires within { dim < dims_of self.old }
+        requires placed { MayTakeClose self.old dim }
         ensures stands { (done : List Item) → StandsFor self.old done → OnOk result (StandsFor self.new (done ++ Close dim ∷ [])) }
-        ensures dims { self.new.dims ≡ self.old.dims }
+        ensures dims { dims_of self.new ≡ dims_of self.old }
     {
         let parts = self.take_members(dim);
         self.level = dim + 1;
         self.add_member(dim + 1, Nest::List(parts))
     }
 
-    /// The series of all items that were given, or what they leave open.
+    /// The series of all items that were given, or what they leave open. It takes no memory.
     pub fn finish(mut self) -> Result<List<Nest>, Unclosed>
-        ensures { (done : List Item) → StandsFor self done → MatchResult result (IsSeriesOf self.dims done) (λ fault. LeavesOpen self.dims done fault.level) }
+        ensures { (done : List Item) → StandsFor self done → MatchResult result (IsSeriesOf (dims_of self) done) (λ fault. LeavesOpen (dims_of self) done fault.level) }
     {
         let level = self.level;
         let dims = self.dims;
@@ -134,7 +138,7 @@ impl Builder {
     fn add_member(&mut self, depth: u8, nest: Nest) -> Result<(), Memory>
         ensures added { OnOk result ((dims : ℕ) → depth ≤ dims → Descends (suc dims) self.old.begun depth → HasDepth depth (plain nest)
             → AddsTo dims depth self.old.begun self.new.begun nest) }
-        ensures dims { self.new.dims ≡ self.old.dims }
+        ensures dims { dims_of self.new ≡ dims_of self.old }
         ensures level { self.new.level ≡ self.old.level }
     {
         let mut members = self.take_members(depth);
@@ -145,7 +149,7 @@ impl Builder {
     /// Takes out the nests of this depth that are open, where nothing of a lower one is.
     fn take_members(&mut self, depth: u8) -> List<Nest>
         ensures taken { (dims : ℕ) → depth ≤ dims → Descends (suc dims) self.old.begun depth → Takes dims depth self.old.begun self.new.begun result }
-        ensures dims { self.new.dims ≡ self.old.dims }
+        ensures dims { dims_of self.new ≡ dims_of self.old }
         ensures level { self.new.level ≡ self.old.level }
     {
         if !self.has_open(depth) {

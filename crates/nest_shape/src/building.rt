@@ -11,7 +11,8 @@ use physical_stream::Item;
 use std::alloc::Global;
 use tydi_base::List;
 
-/// The series of this dimensionality whose flat form these items are, or why there is none.
+/// The series of this dimensionality whose flat form these items are, or why there is none. Memory comes where there is none for the
+/// series. The flat form is this project's own.
 pub fn build(alloc: Global, dims: u8, items: &[Item]) -> Result<List<Nest>, NestFault>
     requires { All (ClosesBelow dims) items.now }
     ensures { MatchResult result (IsSeriesOf dims items.now) (IsFaultOf dims items.now) }

@@ -10,7 +10,8 @@ use physical_stream::Item;
 use std::alloc::Global;
 use tydi_base::{List, Memory, TryClone};
 
-/// The items of a series of this dimensionality: a leaf is an element, and a list is its parts and then a Close.
+/// The items of a series of this dimensionality: a leaf is an element, and a list is its parts and then a Close. Memory comes where there
+/// is none for the items. The flat form is this project's own.
 pub fn flatten(alloc: Global, dims: u8, series: &[Nest]) -> Result<List<Item>, Memory>
     requires { IsSeries dims series.now }
     ensures { IfOk result (λ items. items ≡ spec.flat_form dims series.now) }

@@ -1,7 +1,7 @@
-//! Nests, and the items that stand for them in a stream. `flatten` gives the flat form of a series, and `build` the series with
-//! a given flat form, or the first item that breaks the nesting. `specs/Flat.antt` has flat forms, `specs/Shape.antt` which items
-//! are one. A `Builder` takes the items one at a time. The crate stands on `physical_stream`, whose definitions say which items
-//! are nested and whole. Each call is linear in the items and goes as deep as a nest.
+//! Nested lists, and the items of a stream that stand for them. `flatten` makes items from lists, `build` lists from items, and a
+//! `Builder` takes the items one at a time. `specs/Flat.antt` has flat forms, and `specs/Shape.antt` says which items are one. The crate
+//! stands on `physical_stream`, whose definitions say which items are nested and whole. Each call is linear in the items and goes as
+//! deep as the lists nest.
 #![tactic(auto)]
 
 mod builder;

@@ -2,7 +2,8 @@
 
 use tydi_base::{Bits, List};
 
-/// Lists inside lists, with words in the innermost.
+/// Lists inside lists, with words in the innermost: what a stream of some dimensionality carries (after the Tydi specification's
+/// dimensions).
 #[derive(Debug, Drop)]
 pub enum Nest {
     /// A word, of depth 0.
