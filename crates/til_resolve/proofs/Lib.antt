@@ -21,6 +21,7 @@ mod ContainmentLemmas
 mod CycleLemmas
 mod BelowLemmas
 mod MeaningLemmas
+pub mod SoundProjectLemmas
 pub mod StableLemmas
 mod ShapeLemmas
 mod ChainLemmas

@@ -4,7 +4,7 @@ use Rattle.til_parser.specs.declared.tree.Ast.{Ast}
 use Rattle.til_resolve.specs.Declarations.{Declaration, PortOf, declaration, declarations, ports_of}
 use Rattle.til_resolve.specs.Lookups.{or_else, port_at, port_in}
 use Rattle.til_resolve.specs.Paths.{is_same_path}
-use Rattle.til_resolve.specs.PlainProject.{PlainPort, plain_port, plain_port_at, plain_port_in, plain_project, plain_streamlet, port_from, project_of, streamlet_from}
+use Rattle.til_resolve.specs.PlainProject.{PlainPort, plain_port, plain_port_at, plain_port_in, plain_project, plain_streamlet, plain_streamlet_at, port_from, project_of, streamlet_from}
 use Rattle.til_resolve.specs.Project.{IsPortOf, IsProjectOf, IsStreamletOf, Pairwise, streamlet_numbers}
 use Rattle.til_resolve.specs.declared.project.Port.{Port}
 use Rattle.til_resolve.specs.declared.project.Project.{Project}
@@ -65,3 +65,16 @@ module _ (path : List (List ℕ)) where
 
 pub port-plain_at : (project : Project) (path : List (List ℕ)) → option_map plain_port (port_at project.streamlets path) ≡ plain_port_at (plain_project project).streamlets path
 port-plain_at project path = at-plain path project.streamlets
+
+-- ---- its streamlets
+
+pub streamlet-plain_at : (streamlets : List Streamlet) (path : List (List ℕ))
+    → option_map plain_streamlet (find (λ (one : Streamlet). is_same_path one.path path) streamlets) ≡ plain_streamlet_at (map plain_streamlet streamlets) path
+streamlet-plain_at [] path = refl
+streamlet-plain_at (streamlet ∷ more) path = by (is_same_path streamlet.path path) (streamlet-plain_at more path)
+  where
+    by : (b : Bool) → option_map plain_streamlet (find (λ (one : Streamlet). is_same_path one.path path) more) ≡ plain_streamlet_at (map plain_streamlet more) path
+        → option_map plain_streamlet (cond b (Some streamlet) (find (λ (one : Streamlet). is_same_path one.path path) more))
+        ≡ cond b (Some (plain_streamlet streamlet)) (plain_streamlet_at (map plain_streamlet more) path)
+    by true rest = refl
+    by false rest = rest

@@ -34,13 +34,13 @@ module _ {A B : Type 0} where
   mapped-at f (first ∷ xs) x zero within same = (0, omega arith, ap f same)
   mapped-at f (first ∷ xs) x (suc n) within same = let rest = mapped-at f xs x n (omega (arith, within)) same in (suc rest.0, omega (arith, rest.1), rest.2)
 
-  Contains-map : (f : A → B) (xs : List A) (x : A) → Contains xs x → Contains (map f xs) (f x)
+  pub Contains-map : (f : A → B) (xs : List A) (x : A) → Contains xs x → Contains (map f xs) (f x)
   Contains-map f xs x there = mapped-at f xs x there.0 there.1 there.2
 
-  record IsMapped (f : A → B) (xs : List A) (y : B) : Type 0 where
-    one : A
-    inside : Contains xs one
-    same : f one ≡ y
+  pub record IsMapped (f : A → B) (xs : List A) (y : B) : Type 0 where
+    pub one : A
+    pub inside : Contains xs one
+    pub same : f one ≡ y
 
   unmapped-at : (f : A → B) (xs : List A) (y : B) (n : ℕ) → n < length (map f xs) → get_or (map f xs) n y ≡ y → IsMapped f xs y
   unmapped-at f [] y n within same = absurd (omega (arith, within))
@@ -49,7 +49,7 @@ module _ {A B : Type 0} where
       let rest = unmapped-at f xs y n (omega (arith, within)) same in
       record { one = rest.one; inside = (suc rest.inside.0, omega (arith, rest.inside.1), rest.inside.2); same = rest.same }
 
-  Contains-mapped : (f : A → B) (xs : List A) (y : B) → Contains (map f xs) y → IsMapped f xs y
+  pub Contains-mapped : (f : A → B) (xs : List A) (y : B) → Contains (map f xs) y → IsMapped f xs y
   Contains-mapped f xs y there = unmapped-at f xs y there.0 there.1 there.2
 
   flat-at : (of : A → List B) (xs : List A) (x : A) (y : B) (n : ℕ) → n < length xs → get_or xs n x ≡ x → Contains (of x) y → Contains (flat_map of xs) y
@@ -74,7 +74,7 @@ module _ {A B : Type 0} where
       by (inr later) rest =
           let more = rest later in record { one = more.one; inside = (suc more.inside.0, omega (arith, more.inside.1), more.inside.2); of_it = more.of_it }
 
-Contains-found : {A : Type 0} (test : A → Bool) (xs : List A) (x : A) → find test xs ≡ Some x → Contains xs x
+pub Contains-found : {A : Type 0} (test : A → Bool) (xs : List A) (x : A) → find test xs ≡ Some x → Contains xs x
 Contains-found test [] x is = absurd cc
 Contains-found {A} test (first ∷ xs) x is = by (test first) is (Contains-found test xs x)
   where
@@ -103,7 +103,7 @@ in-interface all space name (decls.Impl target body) one is there = absurd cc
 in-interface all space name (decls.Test target port value plan) one is there = absurd cc
 
 -- a name of a kind is that of a declaration of the kind
-named-is : (is : Declaration → Bool) (all : List Declaration) (found : Option ℕ) (number : ℕ) → kept_as is all found ≡ Some number
+pub named-is : (is : Declaration → Bool) (all : List Declaration) (found : Option ℕ) (number : ℕ) → kept_as is all found ≡ Some number
     → is (declaration all number) ≡ true
 named-is is all None number same = absurd cc
 named-is is all (Some other) number same = by (is (declaration all other)) refl same
@@ -113,7 +113,7 @@ named-is is all (Some other) number same = by (is (declaration all other)) refl 
     by false holds same = absurd cc
 
 -- the declaration of a number is one of all
-one-of : (all : List Declaration) (number : ℕ) → number < length all → Contains all (declaration all number)
+pub one-of : (all : List Declaration) (number : ℕ) → number < length all → Contains all (declaration all number)
 one-of all number within = (number, within, get_or_default all number (declaration all number) (record { space = []; name = record { name = []; place = nowhere }; kind = decls.Interface [] }) within)
 
 by-owner : (all : List Declaration) (found : Option ℕ) (one : PortOf) → ((number : ℕ) → found ≡ Some number → (number < length all) × (is_interface (declaration all number) ≡ true))

@@ -1,14 +1,18 @@
 -- What holds of the faults of trees, of their projects, and of the types of ports.
-use Rattle.std.specs.Prelude.{◌≡◌, ℕ, List, Some, option_map}
+use Rattle.std.specs.Prelude.{◌≡◌, ℕ, List, Some, find, option_map}
 use Rattle.til_parser.specs.declared.tree.Ast.{Ast}
 use Rattle.til_parser.specs.Laws.{IsTreeOf}
 use Rattle.til_resolve.specs.declared.fault.ResolveFault.{ResolveFault}
 use Rattle.til_resolve.specs.declared.project.Project.{Project}
+use Rattle.til_resolve.specs.declared.project.Streamlet.{Streamlet}
+use Rattle.til_resolve.specs.declared.project.Test.{Test}
 use Rattle.til_resolve.specs.Faults.{IsToldOf, IsSound}
 use Rattle.til_resolve.specs.Lookups.{port_at}
-use Rattle.til_resolve.specs.PlainProject.{HasPortTypes, PlainPort, PlainProject, plain_port, plain_port_at, plain_project, project_of}
+use Rattle.til_resolve.specs.Paths.{is_same_path}
+use Rattle.til_resolve.specs.PlainProject.{HasPortTypes, PlainPort, PlainProject, plain_port, plain_port_at, plain_project, plain_streamlet, plain_streamlet_at, plain_test_at, project_of}
 use Rattle.til_resolve.specs.PortTypes.{IsPortType}
 use Rattle.til_resolve.specs.Project.{IsProjectOf}
+use Rattle.til_resolve.specs.SoundProject.{IsSoundProject}
 
 -- of the tree of a text one fault is told
 abbrev pub OneFaultIsTold : Type 0
@@ -25,6 +29,18 @@ ProjectsAreOfTrees = (ast : Ast) (project : Project) → IsProjectOf ast project
 -- and a port is found in a project exactly where it is found in the plain data, as the same port
 abbrev pub PortsAreFound : Type 0
 PortsAreFound = (project : Project) (path : List (List ℕ)) → option_map plain_port (port_at project.streamlets path) ≡ plain_port_at (plain_project project).streamlets path
+
+-- and so are streamlets and tests by their paths
+abbrev pub StreamletsAreFound : Type 0
+StreamletsAreFound = (project : Project) (path : List (List ℕ)) →
+    option_map plain_streamlet (find (λ (one : Streamlet). is_same_path one.path path) project.streamlets) ≡ plain_streamlet_at (plain_project project).streamlets path
+
+abbrev pub TestsAreFound : Type 0
+TestsAreFound = (project : Project) (path : List (List ℕ)) → find (λ (one : Test). is_same_path one.path path) project.tests ≡ plain_test_at (plain_project project).tests path
+
+-- the project of a tree without faults stands
+abbrev pub SoundProjects : Type 0
+SoundProjects = (ast : Ast) → IsSound ast → IsSoundProject (project_of ast)
 
 -- the types of ports in a tree without faults are valid, and of 65,536 nodes at most
 abbrev pub PortTypesAreValid : Type 0

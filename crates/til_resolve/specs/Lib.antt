@@ -12,6 +12,7 @@ pub mod Kinds
 pub mod Ports
 pub mod Twice
 pub mod PathsWritten
+pub mod SoundProject
 pub mod Sought
 pub mod Graph
 pub mod Suspects

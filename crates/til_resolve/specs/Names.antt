@@ -177,20 +177,21 @@ is_unknown all one = not (is_some (named all one.space one.path))
 abbrev pub is_wrong_kind : List Declaration → Use → Bool
 is_wrong_kind all one = is_some (named all one.space one.path) && not (is_some (named_as one.asks all one.space one.path))
 
+-- the port of a test, where the streamlet of a number lacks it
+abbrev pub port_unknown_in : List Declaration → AstName → Option ℕ → List Place
+port_unknown_in all port None = []
+port_unknown_in all port (Some streamlet) = if has_port (ports_of all (declaration all streamlet)) port.name then [] else port.place ∷ []
+
 -- the port of a test, where its streamlet lacks it
 abbrev pub port_unknown : List Declaration → Declaration → List Place
 port_unknown all one = of_kind one.kind
   where
-    in_streamlet : AstName → Option ℕ → List Place
-    in_streamlet port None = []
-    in_streamlet port (Some streamlet) = if has_port (ports_of all (declaration all streamlet)) port.name then [] else port.place ∷ []
-
     of_kind : AstKind → List Place
     of_kind (decls.Alias ltype) = []
     of_kind (decls.Interface listed) = []
     of_kind (decls.Streamlet listed) = []
     of_kind (decls.Impl target body) = []
-    of_kind (decls.Test target port value plan) = in_streamlet port (named_as is_streamlet all one.space target)
+    of_kind (decls.Test target port value plan) = port_unknown_in all port (named_as is_streamlet all one.space target)
 
 -- the places of the paths that are refused
 abbrev pub refused : (Use → Bool) → List Use → List Place

@@ -72,6 +72,13 @@ abbrev pub plain_port_at : List PlainStreamlet → List (List ℕ) → Option Pl
 plain_port_at [] path = None
 plain_port_at (streamlet ∷ more) path = or_else (plain_port_in streamlet path) (plain_port_at more path)
 
+-- the first streamlet, and the first test, of a path
+abbrev pub plain_streamlet_at : List PlainStreamlet → List (List ℕ) → Option PlainStreamlet
+plain_streamlet_at streamlets path = find (λ one. is_same_path one.path path) streamlets
+
+abbrev pub plain_test_at : List Test → List (List ℕ) → Option Test
+plain_test_at tests path = find (λ one. is_same_path one.path path) tests
+
 -- all ports have types as trees without faults give them
 pub record HasPortTypes (project : PlainProject) : Type 0 where
   pub each : (streamlet : PlainStreamlet) (port : PlainPort) → Contains project.streamlets streamlet → Contains streamlet.ports port → IsPortType port.ltype

@@ -1,6 +1,16 @@
 //! The laws of the faults of trees, of their projects, and of the types of ports.
 
-ghost use Rattle.til_resolve.specs.Laws.{FoundPortsAreValid, OneFaultIsTold, PortTypesAreValid, PortsAreFound, ProjectsAreOfTrees, SomeFaultIsTold};
+ghost use Rattle.til_resolve.specs.Laws.{
+  FoundPortsAreValid,
+  OneFaultIsTold,
+  PortTypesAreValid,
+  PortsAreFound,
+  ProjectsAreOfTrees,
+  SomeFaultIsTold,
+  SoundProjects,
+  StreamletsAreFound,
+  TestsAreFound,
+};
 
 /// The law of faults: of the tree of a text one fault is told, and of each tree that has any.
 pub fn faults_are_told()
@@ -8,10 +18,19 @@ pub fn faults_are_told()
     ensures some { SomeFaultIsTold }
 {}
 
-/// The law of projects: the plain data of a project is that of its tree, and has the ports that the project has.
+/// The law of projects: the plain data of a project is that of its tree, and has the ports, the streamlets and the tests that the
+/// project has.
 pub fn projects_are_plain()
     ensures tree { ProjectsAreOfTrees }
     ensures ports { PortsAreFound }
+    ensures streamlets { StreamletsAreFound }
+    ensures tests { TestsAreFound }
+{}
+
+/// The law of projects of trees without faults: types of ports are valid, tests drive ports that are there, instances are of
+/// streamlets that are there, containment ends, and paths are distinct.
+pub fn projects_are_sound()
+    ensures { SoundProjects }
 {}
 
 /// The law of ports: in a tree without faults the types of ports are valid, and have at most 65,536 nodes.

@@ -1,7 +1,7 @@
-//! A project with its names looked up: streamlets with their ports, bodies and instances, and tests. `specs/Project.antt` says
-//! which project a tree stands for, and `specs/Faults.antt` what is wrong with a tree that stands for none, each fault with its
-//! place, over the list of all declarations in text order and without a table. `resolve` gives the one or the other; three look-ups
-//! find ports, streamlets and tests by their paths. The crate stands on `til_parser` and `logical_types`.
+//! A project with its names looked up: streamlets with their ports, bodies and instances, and tests. `resolve` makes the project of a
+//! tree, or names its first error; three look-ups find ports, streamlets and tests by their paths. `specs/Project.antt` says which
+//! project a tree stands for, and `specs/Faults.antt` which errors it has, over the list of all declarations in text order and without
+//! a table. The crate stands on `til_parser` and `logical_types`.
 #![tactic(auto)]
 
 mod bad_types;
@@ -48,6 +48,6 @@ mod written;
 mod written_tests;
 
 pub use fault::ResolveFault;
-pub use laws::{faults_are_told, port_types_are_valid, projects_are_plain};
+pub use laws::{faults_are_told, port_types_are_valid, projects_are_plain, projects_are_sound};
 pub use project::{Impl, Instance, Link, LinkEnd, Port, Project, Streamlet, Test};
 pub use resolving::resolve;
