@@ -1,13 +1,15 @@
-//! The program: the words, the system's files and the standard streams, handed to `run`; its status is the exit status.
+//! The program: the words, the system's files and the standard streams, handed to `run`; the exit status is that of the run.
 #![tactic(auto)]
 
 ghost use Rattle.std.specs.Prelude.{◌≡◌, drop, map, string_bytes, IfOk, IfErr};
 ghost use Rattle.std.specs.IoError.{error_kind};
 ghost use Rattle.std.specs.Process.{exit_status};
 ghost use Rattle.std.specs.Vec.Iter.{into_iter_items};
-ghost use Rattle.tydi.specs.Exit.{EndsByWords, IsWithoutWords};
+ghost use Rattle.tydi.specs.Exit.{EndsAsRun, EndsByWords, IsWithoutWords};
+ghost use Rattle.tydi_io.specs.Faults.{Rose};
 ghost use Rattle.tydi_tool.specs.Outcome.{exit_code};
-ghost use Rattle.tydi_tool.specs.Words.{request_of};
+ghost use Rattle.tydi_tool.specs.Run.{Runs};
+ghost use Rattle.tydi_tool.specs.Words.{Allows, request_of};
 ghost use Rattle.tydi_tool.specs.declared.status.Status.TheVariants as statuses;
 
 use std::alloc::Global;
@@ -16,12 +18,12 @@ use std::io::{Error, ErrorKind};
 use std::process::ExitCode;
 use std::rt::Env;
 use tydi_base::{List, Text};
-use tydi_io::{FileStore, StreamSink};
+use tydi_io::{FileStore, Sink, Store, StreamSink};
 use tydi_tool::{Status, run};
 
 fn main(rt: HostRuntime) -> ExitCode {
     match words_after_name(&rt) {
-        Ok(words) => exit_of(run_with(&rt, words.as_slice())),
+        Ok(words) => run_with(&rt, words.as_slice()),
         Err(status) => exit_of(status),
     }
 }
@@ -33,14 +35,33 @@ fn exit_of(status: Status) -> ExitCode
     ExitCode::from(status.number())
 }
 
-/// Runs the tool over the system's files and the standard streams.
-fn run_with(rt: &HostRuntime, words: &[Text]) -> Status
-    ensures { EndsByWords (request_of words.now) result }
+/// Runs the tool over the system's files and the standard streams, and answers the exit status. It is 2 only where the words spell
+/// no command; there it is 2, or 4 where the line could not be written.
+fn run_with(rt: &HostRuntime, words: &[Text]) -> ExitCode
+    ensures { EndsByWords (request_of words.now) (exit_status result) }
 {
     let mut store = FileStore::new(rt);
     let mut out = StreamSink::new(rt.stdout());
     let mut err = StreamSink::new(rt.stderr());
-    run(rt.alloc(), words, &mut store, &mut out, &mut err)
+    exit_of_run(rt.alloc(), words, &mut store, &mut out, &mut err)
+}
+
+/// Runs the tool over this store and these sinks, and answers the exit status: that of the run, which reads from the store, writes
+/// its answer to out, and the line of a fault to err.
+fn exit_of_run<S: Store, O: Sink, E: Sink>(
+    alloc: Global,
+    words: &[Text],
+    store: &mut S,
+    out: &mut O,
+    err: &mut E,
+) -> ExitCode
+    requires { Allows (S.allowed store.old) (request_of words.now) }
+    ensures run { EndsAsRun (λ status. Runs (Rose (S.faults store.old) (S.faults store.new)) (Rose (O.faults out.old) (O.faults out.new))
+        (Rose (E.faults err.old) (E.faults err.new)) (request_of words.now) (S.files store.old) (S.started store.old) (S.started store.new)
+        status (O.taken out.old) (O.taken out.new) (E.taken err.old) (E.taken err.new)) (exit_status result) }
+    ensures words { EndsByWords (request_of words.now) (exit_status result) }
+{
+    exit_of(run(alloc, words, store, out, err))
 }
 
 /// The words after the program's name. A word that is no text ends the program as Usage.

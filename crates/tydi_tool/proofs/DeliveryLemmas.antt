@@ -5,7 +5,7 @@ use Rattle.std.proofs.lemmas.List.{take_all, append-nil}
 use Rattle.tydi_io.specs.Faults.{Rose}
 use Rattle.tydi_tool.specs.declared.delivery.WriteError.{WriteError}
 use Rattle.tydi_tool.specs.declared.delivery.WriteError.TheVariants as errors
-use Rattle.tydi_tool.specs.Delivery.{Adds, AddsFront, Writes, WritesPiece}
+use Rattle.tydi_tool.specs.Delivery.{Adds, AddsFront, AddsPart, Writes, WritesPiece}
 
 -- the bytes from one place on, as the code's slice reads them
 rest_of : (bytes : List ℕ) (at : ℕ) → take (length bytes - at) (drop at bytes) ≡ drop at bytes
@@ -37,6 +37,14 @@ AddsFront-all old new whole adds = record {
   within = omega arith;
   added = subst (λ (bytes : List ℕ). Adds old new bytes) (sym (take_all (length whole) whole (omega arith))) adds;
 }
+
+-- what is not all is a front
+pub AddsFront-part : (old new : Option (List ℕ)) (whole : List ℕ) → AddsPart old new whole → AddsFront old new whole
+AddsFront-part old new whole part = record { count = part.count; within = omega (arith, part.shorter); added = part.added }
+
+-- and what it is a front of is not empty
+pub AddsPart-some : (old new : Option (List ℕ)) (whole : List ℕ) → AddsPart old new whole → 0 < length whole
+AddsPart-some old new whole part = omega (arith, part.shorter)
 
 take_past : (done text : List ℕ) (n : ℕ) → take (length done + n) (done ++ text) ≡ done ++ take n text
 take_past [] text n = let e : 0 + n ≡ n = omega arith in ap (λ k. take k text) e
@@ -82,11 +90,13 @@ Rose-since a b c le (inr most) = inr most
 
 pub Writes-error : (T U : Type 0) (a b c : ℕ) (old mid new : Option (List ℕ)) (text left rest : List ℕ) (error : WriteError) → a ≤ b → 0 < length left → WrittenFrom old mid text left →
     WritesPiece {T = T} (Rose b c) (Err error) mid new left rest → Writes {T = U} (Rose a c) (Err error) old new text
+unfolding AddsFront-then
 Writes-error T U a b c old mid new text left rest errors.Failed le some w p = (
   Rose-since a b c le p.0,
   (omega (arith, some, ap length w.is, length-append w.done left), AddsFront-then old mid new text w.done left w.is w.added p.1),
 )
-Writes-error T U a b c old mid new text left rest errors.Memory le some w p = (
-  omega (arith, some, ap length w.is, length-append w.done left),
-  AddsFront-then old mid new text w.done left w.is w.added (record { count = 0; within = omega arith; added = p }),
-)
+Writes-error T U a b c old mid new text left rest errors.Memory le some w p = record {
+  count = length w.done + 0;
+  shorter = omega (arith, some, ap length w.is, length-append w.done left);
+  added = (AddsFront-then old mid new text w.done left w.is w.added (record { count = 0; within = omega arith; added = p })).added;
+}

@@ -1,5 +1,6 @@
 pub mod AnswerLemmas
 pub mod AskLemmas
+pub mod CauseLemmas
 pub mod CommandLemmas
 pub mod DeliveryLemmas
 pub mod FileLemmas

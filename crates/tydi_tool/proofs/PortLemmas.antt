@@ -6,8 +6,7 @@ use Rattle.tydi_base.proofs.PieceLaws.{join-pieces_of}
 use Rattle.tydi_base.specs.Name.{is_name, name_of}
 use Rattle.tydi_base.specs.Path.{path_at}
 use Rattle.tydi_base.specs.Pieces.{pieces_of}
-use Rattle.logical_types.specs.Size.{number_of_nodes, nodes_in_parts}
-use Rattle.logical_types.specs.Tree.{Ltype, null, bits, group, union, stream, Parts, no_parts, part}
+use Rattle.logical_types.specs.Tree.{Ltype}
 use Rattle.til_resolve.specs.declared.project.Port.{Port}
 use Rattle.til_resolve.specs.declared.project.Project.{Project}
 use Rattle.til_resolve.specs.Lookups.{port_at}
@@ -15,8 +14,9 @@ use Rattle.til_resolve.specs.PlainProject.{HasPortTypes, PlainPort, PlainProject
 use Rattle.til_resolve.specs.PortTypes.{IsPortType}
 use Rattle.til_resolve.proofs.PlainProjectLemmas.{port-plain_at}
 use Rattle.til_resolve.proofs.PortTypeLemmas.{found-valid}
-use Rattle.type_split.specs.Nodes.{number_of_streams, streams_in_parts}
+use Rattle.type_split.specs.Nodes.{number_of_streams}
 use Rattle.type_split.specs.Streams.{PlainSplit, clash_of, split_of}
+use Rattle.type_split.proofs.CountLemmas.{streams-few}
 use Rattle.split_text.specs.Text.{IsUpTo}
 use Rattle.tydi_tool.specs.declared.answer.Answer.TheVariants as answers
 use Rattle.tydi_tool.specs.Outcome.{output_answer, output_limit, output_too_long_line}
@@ -74,20 +74,8 @@ some-name found names new text name is some grown =
 
 -- ---- the type of a port
 
-mutual
-  few-streams : (ltype : Ltype) → number_of_streams ltype ≤ number_of_nodes ltype
-  few-streams null = omega arith
-  few-streams (bits width) = omega arith
-  few-streams (group parts) = omega (arith, few-in_parts parts)
-  few-streams (union parts) = omega (arith, few-in_parts parts)
-  few-streams (stream element user settings) = omega (arith, few-streams element)
-
-  few-in_parts : (parts : Parts) → streams_in_parts parts ≤ nodes_in_parts parts
-  few-in_parts no_parts = omega arith
-  few-in_parts (part name ltype more) = omega (arith, few-streams ltype, few-in_parts more)
-
 pub few-of : (ltype : Ltype) → IsPortType ltype → number_of_streams ltype ≤ 65536
-few-of ltype is = omega (arith, few-streams ltype, is.few)
+few-of ltype is = omega (arith, streams-few ltype, is.few)
 
 -- ---- the port of a project
 

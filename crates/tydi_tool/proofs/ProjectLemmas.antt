@@ -14,8 +14,9 @@ use Rattle.til_resolve.specs.declared.fault.ResolveFault.{ResolveFault}
 use Rattle.til_resolve.specs.declared.fault.ResolveFault.TheVariants as resolving
 use Rattle.til_resolve.specs.declared.project.Project.{Project}
 use Rattle.til_resolve.specs.Faults.{IsToldOf}
-use Rattle.til_resolve.specs.PlainProject.{HasPortTypes, PlainProject, plain_project, project_of}
-use Rattle.til_resolve.proofs.PortTypeLemmas.{ports-valid}
+use Rattle.til_resolve.specs.PlainProject.{PlainProject, plain_project, project_of}
+use Rattle.til_resolve.specs.SoundProject.{IsSoundProject}
+use Rattle.til_resolve.proofs.SoundProjectLemmas.{sound-project}
 use Rattle.til_resolve.proofs.ToldLemmas.{one-told, some-told}
 use Rattle.tydi_tool.specs.declared.answer.Answer.TheVariants as answers
 use Rattle.tydi_tool.specs.declared.answer.Reply.{Reply}
@@ -132,15 +133,15 @@ ReadsProject-once word = ReadsBy-once (ReadsTree word) (Resolves word) (ReadsTre
 pub ReadsProject-some : (word bytes : List ℕ) → HasSome (Result PlainProject (List ℕ)) (ReadsProject word bytes)
 ReadsProject-some word bytes = ReadsBy-some (ReadsTree word) (Resolves word) bytes (ReadsCoded-some word bytes (is_utf8 bytes) refl) (λ ast reads. Resolves-some word ast)
 
--- the ports of a project that is read have valid types
-pub ReadsProject-types : (word bytes : List ℕ) (project : PlainProject) → ReadsProject word bytes (Ok project) → HasPortTypes project
-ReadsProject-types word bytes project reads = subst HasPortTypes (sym reads.1.1.1) (ports-valid reads.0 reads.1.1.0)
+-- a project that is read stands
+pub ReadsProject-sound : (word bytes : List ℕ) (project : PlainProject) → ReadsProject word bytes (Ok project) → IsSoundProject project
+ReadsProject-sound word bytes project reads = subst IsSoundProject (sym reads.1.1.1) (sound-project reads.0 reads.1.1.0)
 
--- and so have those of one that was asked for
-pub IsAsked-types : (told : Option Files) (file : FileWord) (word : List ℕ) (old new : Option (List ℕ × ℕ)) (rose : Type 0) (result : Result Project Reply)
-    → IsAsked told file (λ bytes. Seen plain_project (ReadsProject word bytes)) old new rose result → IfOk result (λ project. HasPortTypes (plain_project project))
-IsAsked-types told file word old new rose (Ok project) asked = ReadsProject-types word asked.0 (plain_project project) asked.1.1.0
-IsAsked-types told file word old new rose (Err reply) asked = tt
+-- and so does one that was asked for
+pub IsAsked-sound : (told : Option Files) (file : FileWord) (word : List ℕ) (old new : Option (List ℕ × ℕ)) (rose : Type 0) (result : Result Project Reply)
+    → IsAsked told file (λ bytes. Seen plain_project (ReadsProject word bytes)) old new rose result → IfOk result (λ project. IsSoundProject (plain_project project))
+IsAsked-sound told file word old new rose (Ok project) asked = ReadsProject-sound word asked.0 (plain_project project) asked.1.1.0
+IsAsked-sound told file word old new rose (Err reply) asked = tt
 
 -- ---- a tree with a fault
 

@@ -1,5 +1,5 @@
 -- From the one contract of a run to its clauses.
-use Rattle.std.proofs.Common.{◌≡◌, ℕ, ◌<◌, ◌⊎◌, inl, inr, List, [], length, Option, None, Some, IfSome, refl, sym, ap, ◌∙◌, subst, arith, ⊎_elim}
+use Rattle.std.proofs.Common.{◌≡◌, ℕ, ◌<◌, ◌⊎◌, inl, inr, List, [], length, Option, None, Some, IfSome, codes, refl, sym, ap, ◌∙◌, subst, arith, ⊎_elim}
 use Rattle.tydi_io.specs.Store.{Files}
 use Rattle.tydi_tool.specs.declared.answer.Answer.{Answer}
 use Rattle.tydi_tool.specs.declared.answer.Answer.TheVariants as answers
@@ -10,14 +10,15 @@ use Rattle.tydi_tool.specs.declared.status.Status.TheVariants as statuses
 use Rattle.tydi_tool.specs.Words.{Request, Check, Read, Split, FileWord, file_words}
 use Rattle.split_text.specs.Text.{split_text}
 use Rattle.tydi_tool.specs.Outcome.{out_of_answer, output_answer, out_of, err_of, status_of, usage_line, memory_line, write_fault_line}
-use Rattle.tydi_tool.specs.Delivery.{Adds, AddsFront, TakesLine, IsLined, IsCut, IsWritten, OutFails, OutWants, Delivers}
+use Rattle.tydi_tool.specs.Delivery.{Adds, AddsFront, AddsPart, TakesLine, IsLined, IsCut, IsWritten, OutFails, OutWants, Delivers}
 use Rattle.tydi_tool.specs.Ask.{AsksFor, AsksSome, Decides, Ends}
 use Rattle.tydi_tool.specs.Commands.{ask_of, Says}
 use Rattle.tydi_tool.specs.Started.{IsPulledOut, IsGivenOne, NamesStarted, StartsWithin, Leaves}
-use Rattle.tydi_tool.specs.Run.{Runs, EndsAsked, EndsUnasked, EndsInAnswer, IsAnswered, IsComplete, ReportsRead, OutFront, IsRefusal, IsLine, ErrFront, LeavesOut, LeavesErr, StartedAtEnd}
+use Rattle.tydi_tool.specs.Run.{Runs, EndsAsked, EndsUnasked, EndsInAnswer, IsAnswered, IsComplete, IsCaused, ReportsRead, OutFront, OutPart, IsRefusal, IsLine, ErrFront, LeavesOut, LeavesErr, StartedAtEnd}
+use Rattle.tydi_tool.proofs.CauseLemmas.{one_word, told}
 use Rattle.tydi_tool.proofs.CommandLemmas.{SaysBy-request}
 use Rattle.tydi_tool.proofs.AskLemmas.{SaysBy-decided}
-use Rattle.tydi_tool.proofs.DeliveryLemmas.{AddsFront-all}
+use Rattle.tydi_tool.proofs.DeliveryLemmas.{AddsFront-all, AddsFront-part, AddsPart-some}
 use Rattle.tydi_tool.proofs.FileLemmas.{IsGiven-pulled_out}
 use Rattle.tydi_tool.proofs.StartedLemmas.{Leaves-decided}
 use Rattle.tydi_tool.proofs.StepLemmas.{port-for}
@@ -107,7 +108,7 @@ module _ (request : Request) (told : Option Files) (old new : Option (List ℕ �
         named = failed.named;
         starts = starts told failed.file failed.starts;
         out = out;
-        err = subst (λ (l : List ℕ). Adds err_old err_new l) failed.says err;
+        err = subst (λ (l : List ℕ). Adds err_old err_new l) (failed.says ∙ one_word (codes "tydi: ") (codes "ReadFault") (codes " ") failed.file.word (codes "\n")) err;
       }
     where
       starts : (told : Option Files) (file : FileWord) → IfSome told (λ known. IsGivenOne known (file_words request) new × NamesStarted known (file_words request) new file.word) →
@@ -158,7 +159,34 @@ module _ (request : Request) (told : Option Files) (old new : Option (List ℕ �
   front_from : (reply : Reply) → Decides told old new rose (ask_of request) reply → Delivers out_rose err_rose reply status out_old out_new err_old err_new → OutFront told (Some request) out_old out_new
   front_from reply d (inl w) = front_all reply d w.out
   front_from reply d (inr (inl f)) = front_by reply d f.some f.out
-  front_from reply d (inr (inr m)) = front_by reply d m.some m.out
+  front_from reply d (inr (inr m)) = front_by reply d (AddsPart-some out_old out_new (out_of reply) m.out) (AddsFront-part out_old out_new (out_of reply) m.out)
+
+  -- where memory was wanted
+  part_by : (reply : Reply) → Decides told old new rose (ask_of request) reply → AddsPart out_old out_new (out_of reply) → OutPart told (Some request) out_old out_new
+  part_by (replies.Says a) d part = inr (record { answer = a; says = says_of a d; part = part })
+  part_by (replies.ReadFault line) d part = absurd (omega (arith, part.shorter))
+  part_by replies.Memory d part = absurd (omega (arith, part.shorter))
+
+  none_by : (reply : Reply) → status_of reply ≡ statuses.Memory → Adds out_old out_new (out_of reply) → Adds out_old out_new []
+  none_by (replies.Says (answers.Refused line)) e out = cc
+  none_by (replies.Says (answers.Verdict line)) e out = cc
+  none_by (replies.Says (answers.Done text)) e out = cc
+  none_by (replies.ReadFault line) e out = cc
+  none_by replies.Memory e out = out
+
+  part_from : (reply : Reply) → Decides told old new rose (ask_of request) reply → Delivers out_rose err_rose reply status out_old out_new err_old err_new → status ≡ statuses.Memory
+      → OutPart told (Some request) out_old out_new
+  part_from reply d (inl w) e =
+      ⊎_elim (λ (l : IsLined status (status_of reply) err_old err_new (err_of reply)). inl (none_by reply (sym l.ends ∙ e) w.out))
+      (λ (c : IsCut err_rose status err_old err_new (err_of reply)). absurd (no_write (other_status statuses.WriteFault statuses.Memory c.ends e))) w.err
+    where
+      no_write : statuses.WriteFault ≡ statuses.Memory → ⊥
+      no_write x = cc
+  part_from reply d (inr (inl f)) e = absurd (no_write (other_status statuses.WriteFault statuses.Memory f.ends e))
+    where
+      no_write : statuses.WriteFault ≡ statuses.Memory → ⊥
+      no_write x = cc
+  part_from reply d (inr (inr m)) e = part_by reply d m.out
 
   -- the line of a reply is one that err may take
   line_of : (reply : Reply) → Decides told old new rose (ask_of request) reply → IsLine told (Some request) rose out_rose (err_of reply)
@@ -216,6 +244,10 @@ module _ (told : Option Files) (old new : Option (List ℕ × ℕ)) (rose out_ro
   OutFront-run None r = inl r.out
   OutFront-run (Some request) r = front_from request told old new rose out_rose err_rose status out_old out_new err_old err_new r.reply r.decided r.delivered
 
+  pub OutPart-run : (request : Option Request) → RunsOn request → status ≡ statuses.Memory → OutPart told request out_old out_new
+  OutPart-run None r e = inl r.out
+  OutPart-run (Some request) r e = part_from request told old new rose out_rose err_rose status out_old out_new err_old err_new r.reply r.decided r.delivered e
+
   pub ErrFront-run : (request : Option Request) → RunsOn request → ErrFront told request rose out_rose err_old err_new
   ErrFront-run None r = record {
     line = usage_line;
@@ -223,6 +255,15 @@ module _ (told : Option Files) (old new : Option (List ℕ × ℕ)) (rose out_ro
     front = ⊎_elim (λ (l : IsLined status statuses.Usage err_old err_new usage_line). AddsFront-all err_old err_new usage_line l.err) (λ (c : IsCut err_rose status err_old err_new usage_line). c.err) r.err;
   }
   ErrFront-run (Some request) r = err_from request told old new rose out_rose err_rose status out_old out_new err_old err_new r.reply r.decided r.delivered
+
+-- an answer to files that are told has its cause in them
+pub IsCaused-answered : (files : Option Files) (request : Option Request) (status : Status) (out_old out_new err_old err_new : Option (List ℕ)) →
+    IsAnswered files request status out_old out_new err_old err_new → IfSome files (λ known. IsCaused known request status out_old out_new err_old err_new)
+IsCaused-answered None request status out_old out_new err_old err_new a = tt
+IsCaused-answered (Some known) None status out_old out_new err_old err_new a = absurd a.says
+IsCaused-answered (Some known) (Some request) status out_old out_new err_old err_new a =
+    let cause = told known request a.answer a.says in
+    record { asked = request; is = refl; row = cause.0; answer = a.answer; cause = cause.1; ends = a.ends; out = a.out; err = a.err }
 
 -- where the answer is a refusal, nothing goes to out
 no_out : (a : Answer) → IsRefusal a → out_of_answer a ≡ []
@@ -249,7 +290,7 @@ Refusal-run (Some known) (Some request) old new rose out_rose err_rose status ou
     let none = nothing_out known request old new rose r.reply a r.decided says refusal in
     ⊎_elim (λ (w : IsWritten err_rose r.reply status out_old out_new err_old err_new). subst (λ (bytes : List ℕ). Adds out_old out_new bytes) none w.out)
     (⊎_elim (λ (f : OutFails out_rose err_rose (out_of r.reply) status out_old out_new err_old err_new). absurd (empty (out_of r.reply) none f.some))
-    (λ (m : OutWants err_rose (out_of r.reply) status out_old out_new err_old err_new). absurd (empty (out_of r.reply) none m.some))) r.delivered
+    (λ (m : OutWants err_rose (out_of r.reply) status out_old out_new err_old err_new). absurd (empty (out_of r.reply) none (AddsPart-some out_old out_new (out_of r.reply) m.out)))) r.delivered
 
 -- ---- the file that is started at the end
 

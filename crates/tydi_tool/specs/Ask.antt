@@ -17,7 +17,14 @@ pub data Ask : Type 1 where
   Ends : (Answer → Type 0) → Ask
   Asks : FileWord → (X : Type 0) → (List ℕ → Result X (List ℕ) → Type 0) → (X → Ask) → Ask
 
--- with what a step gives of what was read, a command goes on; or it ends with the refusal
+-- With what a step gives of what was read, a command goes on; or it ends with the refusal. A step that reads without a file is of
+-- this kind, as of a text that stands in another: the value and the plan that a declared test holds, or the links of a body. It asks
+-- for nothing, so the file that decides is the one before it, and the store stays where it stood; and what it gives is a function of
+-- what was read, so there is one refusal, with its name and its details. A command on a declared test is then
+--   project_ask project (λ read. goes_on (test_at read test) (λ found. goes_on (value_in found) (λ value.
+--     goes_on (plan_in found) (λ plan. Ends (λ a. a ≡ output_answer (text found value plan))))))
+-- and a check of links is `goes_on (linked read) next`, whose `linked` gives the links or the refusal at the first bad place. Only a
+-- reading that is a relation, of which no function says what it gives, would need a constructor of its own.
 abbrev pub goes_on : {V : Type 0} → Result V Refusal → (V → Ask) → Ask
 goes_on (Ok v) next = next v
 goes_on (Err refusal) next = Ends (λ a. a ≡ answers.Refused (refusal_line refusal))

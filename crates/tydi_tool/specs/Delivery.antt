@@ -17,11 +17,18 @@ pub record AddsFront (old new : Option (List ℕ)) (whole : List ℕ) : Type 0 w
   pub within : count ≤ length whole
   pub added : Adds old new (take count whole)
 
--- a text that is made as it is written: all of it, or a front where the sink failed or there was no memory for the rest
+-- it has a front of these more that is not all of them
+pub record AddsPart (old new : Option (List ℕ)) (whole : List ℕ) : Type 0 where
+  pub count : ℕ
+  pub shorter : count < length whole
+  pub added : Adds old new (take count whole)
+
+-- a text that is made as it is written: all of it, or a front where the sink failed, or one that is not all where there was no
+-- memory for the rest
 abbrev pub Writes : {T : Type 0} → Type 0 → Result T WriteError → (old new : Option (List ℕ)) → List ℕ → Type 0
 Writes rose (Ok _) old new text = Adds old new text
 Writes rose (Err errors.Failed) old new text = rose × ((0 < length text) × AddsFront old new text)
-Writes rose (Err errors.Memory) old new text = (0 < length text) × AddsFront old new text
+Writes rose (Err errors.Memory) old new text = AddsPart old new text
 
 -- the next piece of a text: it was made and written, or a front of it where the sink failed, or it was not made
 abbrev pub WritesPiece : {T : Type 0} → Type 0 → Result T WriteError → (old new : Option (List ℕ)) → (text left : List ℕ) → Type 0
@@ -57,10 +64,9 @@ pub record OutFails (out_rose err_rose : Type 0) (text : List ℕ) (status : Sta
   pub out : AddsFront out_old out_new text
   pub err : Adds err_old err_new write_fault_line ⊎ (err_rose × AddsFront err_old err_new write_fault_line)
 
--- there was no memory for the rest of a text that is not empty: out has a front of it, and err the line of want of memory
+-- there was no memory for the rest of a text: out has a front of it that is not all, and err the line of want of memory
 pub record OutWants (err_rose : Type 0) (text : List ℕ) (status : Status) (out_old out_new err_old err_new : Option (List ℕ)) : Type 0 where
-  pub some : 0 < length text
-  pub out : AddsFront out_old out_new text
+  pub out : AddsPart out_old out_new text
   pub err : TakesLine err_rose status statuses.Memory err_old err_new memory_line
 
 -- a text for out, with the status that it is to end with: all was written and err is as before; or out failed; or memory was

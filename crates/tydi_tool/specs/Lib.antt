@@ -1,4 +1,5 @@
 pub mod Ask
+pub mod Causes
 pub mod Commands
 pub mod Delivery
 pub mod Files

@@ -1,6 +1,6 @@
 -- What a run promises, clause by clause (this project's own). `request` is the command that the words spell, `told` the
 -- files of the store where it tells them; a sink's bytes stand for themselves where the sink tells them.
-use Rattle.std.specs.Prelude.{◌≡◌, ℕ, ◌⊎◌, List, [], Option, Some, None, IfSome}
+use Rattle.std.specs.Prelude.{◌≡◌, ℕ, ◌⊎◌, List, [], ◌++◌, Option, Some, None, IfSome, codes}
 use Rattle.tydi_io.specs.Store.{Files}
 use Rattle.tydi_tool.specs.declared.answer.Answer.{Answer}
 use Rattle.tydi_tool.specs.declared.answer.Answer.TheVariants as answers
@@ -9,8 +9,9 @@ use Rattle.tydi_tool.specs.declared.status.Status.{Status}
 use Rattle.tydi_tool.specs.declared.status.Status.TheVariants as statuses
 use Rattle.tydi_tool.specs.Words.{Request, FileWord, file_words}
 use Rattle.tydi_tool.specs.Outcome.{read_fault_line, out_of_answer, err_of_answer, status_of_answer, usage_line, memory_line, write_fault_line}
-use Rattle.tydi_tool.specs.Delivery.{Adds, AddsFront, TakesLine, Delivers}
+use Rattle.tydi_tool.specs.Delivery.{Adds, AddsFront, AddsPart, TakesLine, Delivers}
 use Rattle.tydi_tool.specs.Ask.{Decides}
+use Rattle.tydi_tool.specs.Causes.{Row, CausedBy}
 use Rattle.tydi_tool.specs.Commands.{ask_of, Says}
 use Rattle.tydi_tool.specs.Started.{IsOneOf, IsPulledOut, StartsWithin, NamesStarted}
 
@@ -64,7 +65,19 @@ pub record IsAnswered (told : Option Files) (request : Option Request) (status :
   pub out : Adds out_old out_new (out_of_answer answer)
   pub err : Adds err_old err_new (err_of_answer answer)
 
--- a run over which no call failed: it ends with that answer, as Usage, or for want of memory
+-- where the store tells its files: the answer's cause stands in the words and the files, by a row of the table of causes, and out has
+-- exactly the text or verdict of that row, err exactly its line
+pub record IsCaused (known : Files) (request : Option Request) (status : Status) (out_old out_new err_old err_new : Option (List ℕ)) : Type 0 where
+  pub asked : Request
+  pub is : request ≡ Some asked
+  pub row : Row
+  pub answer : Answer
+  pub cause : CausedBy row known asked answer
+  pub ends : status ≡ status_of_answer answer
+  pub out : Adds out_old out_new (out_of_answer answer)
+  pub err : Adds err_old err_new (err_of_answer answer)
+
+-- a run over which no count of faults rose: it ends with that answer, as Usage, or for want of memory
 abbrev pub IsComplete : Option Files → Option Request → Status → (out_old out_new err_old err_new : Option (List ℕ)) → Type 0
 IsComplete told None status out_old out_new err_old err_new = status ≡ statuses.Usage
 IsComplete told (Some request) status out_old out_new err_old err_new =
@@ -77,7 +90,7 @@ pub record ReportsRead (told : Option Files) (request : Option Request) (started
   pub named : IsOneOf (files_of request) file
   pub starts : IfSome told (λ known. NamesStarted known (files_of request) started file.word)
   pub out : Adds out_old out_new []
-  pub err : Adds err_old err_new (read_fault_line file.word)
+  pub err : Adds err_old err_new (codes "tydi: ReadFault " ++ file.word ++ codes "\n")
 
 -- out has its old bytes, and then a front of what the answer gives to it
 pub record HasFront (told : Option Files) (request : Option Request) (out_old out_new : Option (List ℕ)) : Type 0 where
@@ -88,6 +101,16 @@ pub record HasFront (told : Option Files) (request : Option Request) (out_old ou
 -- in every case: out is as before, or has such a front
 abbrev pub OutFront : Option Files → Option Request → (out_old out_new : Option (List ℕ)) → Type 0
 OutFront told request out_old out_new = Adds out_old out_new [] ⊎ HasFront told request out_old out_new
+
+-- out has its old bytes, and then a front of what the answer gives to it that is not all
+pub record HasPart (told : Option Files) (request : Option Request) (out_old out_new : Option (List ℕ)) : Type 0 where
+  pub answer : Answer
+  pub says : Says told request answer
+  pub part : AddsPart out_old out_new (out_of_answer answer)
+
+-- where memory was wanted: out is as before, or has such a front; it never has all of a text
+abbrev pub OutPart : Option Files → Option Request → (out_old out_new : Option (List ℕ)) → Type 0
+OutPart told request out_old out_new = Adds out_old out_new [] ⊎ HasPart told request out_old out_new
 
 -- the statuses with which out is as before
 abbrev pub LeavesOut : Status → Type 0

@@ -5,7 +5,8 @@ ghost use Rattle.std.specs.List.{AllByRecursion};
 ghost use Rattle.til_parser.specs.Canonical.{canonical};
 ghost use Rattle.tydi_io.specs.Faults.{Rose};
 ghost use Rattle.split_text.specs.Text.{split_text};
-ghost use Rattle.til_resolve.specs.PlainProject.{HasPortTypes, plain_project};
+ghost use Rattle.til_resolve.specs.PlainProject.{plain_project};
+ghost use Rattle.til_resolve.specs.SoundProject.{IsSoundProject};
 ghost use Rattle.type_split.specs.Streams.{IsPortSplit, plain_split};
 ghost use Rattle.tydi_tool.specs.Ask.{Decides, IsAsked, Judges, TellsOf};
 ghost use Rattle.tydi_tool.specs.Commands.{ask_of, check_ask, read_ask, split_ask};
@@ -97,8 +98,8 @@ fn canonical_text(alloc: Global, ast: &Ast) -> Reply
     answered(alloc, print(alloc, ast))
 }
 
-/// The project of this word, with which a command begins. The error is the reply where its file is lacking, a call fails or its text
-/// is refused.
+/// The project of this word, with which a command begins; it stands. The error is the reply where its file is lacking, a call fails
+/// or its text is refused.
 fn ask_project<S: Store>(alloc: Global, project: &Text, store: &mut S) -> Result<Project, Reply>
     requires { IsTrue (S.allowed store.old project.now) }
     ensures allowed { S.allowed store.new ≡ S.allowed store.old }
@@ -106,7 +107,7 @@ fn ask_project<S: Store>(alloc: Global, project: &Text, store: &mut S) -> Result
     ensures asked { IsAsked (S.files store.old) (project_file project.now) (λ bytes. Seen plain_project (ReadsProject project.now bytes))
         (S.started store.old) (S.started store.new) (Rose (S.faults store.old) (S.faults store.new)) result }
     ensures later { S.faults store.old ≤ S.faults store.new }
-    ensures types { IfOk result (λ read. HasPortTypes (plain_project read)) }
+    ensures sound { IfOk result (λ read. IsSoundProject (plain_project read)) }
 {
     let text = ProjectText { word: project };
     ask_text(alloc, store, project, PROJECT_LIMIT, text)
@@ -126,7 +127,7 @@ fn split<S: Store>(alloc: Global, project: &Text, port: &Text, store: &mut S) ->
 
 /// The physical streams of the port of this word in a project.
 fn split_in(alloc: Global, project: &Project, port: &Text) -> Reply
-    requires { HasPortTypes (plain_project project.now) }
+    requires { IsSoundProject (plain_project project.now) }
     ensures { Judges (TellsOf (split_at (plain_project project.now) port.now) (λ split a. a ≡ output_answer (split_text split))) result }
 {
     match split_of_port(alloc, project, port) {

@@ -1,7 +1,43 @@
+ghost use Rattle.tydi_tool.specs.Causes.{
+  EachIsOfARow,
+  ExactlyWhere,
+  LexerCause,
+  NameClashCause,
+  NoFileCause,
+  NoPortCause,
+  NotUtf8Cause,
+  OffenceCause,
+  OutputTooLongCause,
+  ParserCause,
+  ResolverCause,
+  TextCause,
+  TextFaultCause,
+  TooLongCause,
+  UnfinishedCause,
+};
+ghost use Rattle.tydi_tool.specs.Causes as rows;
 ghost use Rattle.tydi_tool.specs.Laws.{OneAnswer, SomeAnswer};
 
 /// The laws of answers: to given words and files there is an answer, and one.
 pub fn answers_are_one()
     ensures one { OneAnswer }
     ensures some { SomeAnswer }
+{}
+
+/// The table of causes: each row is told exactly where its cause stands in the words and the files, and each answer is of a row.
+pub fn causes_are_told()
+    ensures no_file { ExactlyWhere rows.NoFile NoFileCause }
+    ensures too_long { ExactlyWhere rows.TooLong TooLongCause }
+    ensures not_utf8 { ExactlyWhere rows.NotUtf8 NotUtf8Cause }
+    ensures lexer { ExactlyWhere rows.LexerFault LexerCause }
+    ensures parser { ExactlyWhere rows.ParserFault ParserCause }
+    ensures resolver { ExactlyWhere rows.ResolverFault ResolverCause }
+    ensures no_port { ExactlyWhere rows.NoPort NoPortCause }
+    ensures name_clash { ExactlyWhere rows.NameClash NameClashCause }
+    ensures trace_text { ExactlyWhere rows.TextFault TextFaultCause }
+    ensures output_too_long { ExactlyWhere rows.OutputTooLong OutputTooLongCause }
+    ensures offence { ExactlyWhere rows.AnOffence OffenceCause }
+    ensures unfinished { ExactlyWhere rows.AnUnfinished UnfinishedCause }
+    ensures text { ExactlyWhere rows.AText TextCause }
+    ensures each { EachIsOfARow }
 {}

@@ -1,5 +1,6 @@
-//! The tool: `run` reads the words, starts the files, and answers. Its contract says what every answer rests on. Each command is
-//! one value of `specs/Ask.antt`: the files that it asks for, how each is read, and what is said at the end.
+//! The tool. `run` reads the words, asks for the files, and writes the answer. Each command is one value of `specs/Ask.antt`: the files
+//! that it asks for, how each is read, and its end. `specs/Run.antt` has the clauses of `run`. The crate stands on those that read and
+//! write traces, projects and splits, and on `tydi_io`.
 #![tactic(auto)]
 
 mod answer;
@@ -23,7 +24,7 @@ mod trees;
 mod words;
 
 pub use answer::{Answer, Reply};
-pub use laws::answers_are_one;
+pub use laws::{answers_are_one, causes_are_told};
 pub use output::Output;
 pub use running::run;
 pub use status::Status;

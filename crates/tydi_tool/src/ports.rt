@@ -2,8 +2,9 @@
 
 ghost use Rattle.std.specs.Prelude.{◌≡◌, true, IfOk, Some};
 ghost use Rattle.logical_types.specs.Tree.{plain_of_stream};
-ghost use Rattle.til_resolve.specs.PlainProject.{HasPortTypes, plain_project};
+ghost use Rattle.til_resolve.specs.PlainProject.{plain_project};
 ghost use Rattle.til_resolve.specs.PortTypes.{IsPortType};
+ghost use Rattle.til_resolve.specs.SoundProject.{IsSoundProject};
 ghost use Rattle.type_split.specs.Streams.{IsPortSplit, clash_of, plain_split};
 ghost use Rattle.tydi_base.specs.Path.{path_at};
 ghost use Rattle.tydi_tool.specs.Ports as spec;
@@ -26,7 +27,7 @@ pub(crate) fn split_of_port<'p>(
     project: &'p Project,
     port: &Text,
 ) -> Result<Split<'p>, Reply>
-    requires { HasPortTypes (plain_project project.now) }
+    requires { IsSoundProject (plain_project project.now) }
     ensures split { Gives plain_split (spec.split_at (plain_project project.now) port.now) result }
     ensures whole { IfOk result (λ split. IsPortSplit (plain_split split)) }
 {
@@ -44,7 +45,7 @@ fn split_at<'p>(
     port: &Text,
     path: &Path,
 ) -> Result<Split<'p>, Reply>
-    requires types { HasPortTypes (plain_project project.now) }
+    requires sound { IsSoundProject (plain_project project.now) }
     requires path { port_path port.now ≡ Some path.now }
     ensures split { Gives plain_split (spec.split_at (plain_project project.now) port.now) result }
     ensures whole { IfOk result (λ split. IsPortSplit (plain_split split)) }

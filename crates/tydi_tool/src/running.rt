@@ -1,7 +1,6 @@
-ghost use Rattle.std.specs.Prelude.{◌≡◌, ◌⊎◌, [], Some, IfSome};
+ghost use Rattle.std.specs.Prelude.{◌≡◌, ◌⊎◌, [], Some, IfSome, codes};
 ghost use Rattle.tydi_io.specs.Faults.{Rose};
 ghost use Rattle.tydi_tool.specs.Words.{request_of, Allows};
-ghost use Rattle.tydi_tool.specs.Outcome.{usage_line, memory_line, write_fault_line};
 ghost use Rattle.tydi_tool.specs.Delivery.{Adds};
 ghost use Rattle.tydi_tool.specs.Commands.{Says};
 ghost use Rattle.tydi_tool.specs.Run.{
@@ -9,9 +8,11 @@ ghost use Rattle.tydi_tool.specs.Run.{
   UsageExactly,
   EndsInAnswer,
   IsAnswered,
+  IsCaused,
   IsComplete,
   ReportsRead,
   OutFront,
+  OutPart,
   LeavesOut,
   LeavesErr,
   IsRefusal,
@@ -47,7 +48,7 @@ pub fn run<S: Store, O: Sink, E: Sink>(
     // Usage comes exactly where the words spell no command, a fault of err aside.
     ensures usage { UsageExactly (request_of words.now) (Rose (E.faults err.old) (E.faults err.new)) result }
     ensures usage_line { result ≡ statuses.Usage →
-        Adds (O.taken out.old) (O.taken out.new) [] × Adds (E.taken err.old) (E.taken err.new) usage_line }
+        Adds (O.taken out.old) (O.taken out.new) [] × Adds (E.taken err.old) (E.taken err.new) (codes "tydi: Usage\n") }
     // ReadFault comes only where the store's faults rose.
     ensures read_fault { result ≡ statuses.ReadFault → Rose (S.faults store.old) (S.faults store.new) }
     ensures read_fault_line { result ≡ statuses.ReadFault → ReportsRead (S.files store.old) (request_of words.now) (S.started store.new)
@@ -55,18 +56,23 @@ pub fn run<S: Store, O: Sink, E: Sink>(
     // WriteFault comes only where out's faults rose, or err's while it took a line.
     ensures write_fault { result ≡ statuses.WriteFault → Rose (O.faults out.old) (O.faults out.new) ⊎ Rose (E.faults err.old) (E.faults err.new) }
     ensures write_fault_line { result ≡ statuses.WriteFault → (Rose (E.faults err.old) (E.faults err.new) → ⊥) →
-        Adds (E.taken err.old) (E.taken err.new) write_fault_line }
+        Adds (E.taken err.old) (E.taken err.new) (codes "tydi: WriteFault\n") }
     // Want of memory comes with its line alone.
-    ensures memory_line { result ≡ statuses.Memory → Adds (E.taken err.old) (E.taken err.new) memory_line }
+    ensures memory_line { result ≡ statuses.Memory → Adds (E.taken err.old) (E.taken err.new) (codes "tydi: Memory\n") }
     // Done, Verdict and Refused come only as the answer to the words and to files that the store may have, written to the byte.
     ensures answered { EndsInAnswer result → IsAnswered (S.files store.old) (request_of words.now) result
         (O.taken out.old) (O.taken out.new) (E.taken err.old) (E.taken err.new) }
-    // Where no call failed, the run ends with that answer, as Usage, or for want of memory.
+    // Where the store tells its files, such an answer comes only where its cause stands in them, by a row of the table of causes.
+    ensures caused { EndsInAnswer result → IfSome (S.files store.old) (λ known. IsCaused known (request_of words.now) result
+        (O.taken out.old) (O.taken out.new) (E.taken err.old) (E.taken err.new)) }
+    // Where no count of faults rose, the run ends with that answer, as Usage, or for want of memory.
     ensures complete { (Rose (S.faults store.old) (S.faults store.new) → ⊥) →
         (Rose (O.faults out.old) (O.faults out.new) → ⊥) → (Rose (E.faults err.old) (E.faults err.new) → ⊥) →
         IsComplete (S.files store.old) (request_of words.now) result (O.taken out.old) (O.taken out.new) (E.taken err.old) (E.taken err.new) }
     // Out keeps its bytes, and is never given more than a front of the answer's text or verdict.
     ensures out_front { OutFront (S.files store.old) (request_of words.now) (O.taken out.old) (O.taken out.new) }
+    // Where memory was wanted, out has not got the whole of a text.
+    ensures out_part { result ≡ statuses.Memory → OutPart (S.files store.old) (request_of words.now) (O.taken out.old) (O.taken out.new) }
     ensures out_left { LeavesOut result → Adds (O.taken out.old) (O.taken out.new) [] }
     // Where the answer to the store's files is a refusal, nothing is given to out.
     ensures refusal_left { IfSome (S.files store.old) (λ known. (answer : Answer) → Says (Some known) (request_of words.now) answer →

@@ -1,5 +1,5 @@
-use Rattle.std.proofs.Common.{Result, sym, subst}
-use Rattle.logical_types.specs.Tree.{plain_of_stream}
+use Rattle.std.proofs.Common.{Result, refl, sym, subst}
+use Rattle.logical_types.specs.Tree.{plain, plain_of_stream, settings_of}
 use Rattle.type_split.specs.declared.fault.SplitFault.{SplitFault}
 use Rattle.type_split.specs.Streams.{Blames, PlainSplit, clash_of, plain_split}
 use Rattle.tydi_tool.specs.Reading.{IsRefusedBy, refusal_in}
@@ -16,8 +16,9 @@ returns-in-Ok-clause-split c = split_unless-none (plain_of_stream c.args.ltype.n
 pub returns-in-Ok-clause-whole : goal.returns-in-Ok-clause-whole
 returns-in-Ok-clause-whole c = record {
   ltype = plain_of_stream c.args.ltype.now;
+  port = record { element = plain c.args.ltype.now.element; user = plain c.args.ltype.now.user; settings = settings_of c.args.ltype.now; is = refl };
   valid = c.requires.valid;
-  few = few-of (plain_of_stream c.args.ltype.now) c.requires;
+  few = c.requires.few;
   apart = c.in-Ok.ensures.apart;
   is = c.in-Ok.ensures.split;
 }

@@ -14,7 +14,7 @@ pub split_apart-requires : goal.split_apart-requires
 split_apart-requires c =
     let named = port_named-at c.args.project.now c.args.port.now c.args.path.now (Some c.in-Some.found.now) c.requires.path (sym (ap option_copied c.in-Some.is) ∙ c.port.ensures) in
     subst (λ (ltype : StreamType). IsPortType (plain_of_stream ltype)) (sym c.deref.ensures)
-    (port_named-type (plain_project c.args.project.now) c.args.port.now c.args.path.now (plain_port c.in-Some.found.now) c.requires.types c.requires.path named)
+    (port_named-type (plain_project c.args.project.now) c.args.port.now c.args.path.now (plain_port c.in-Some.found.now) c.requires.sound.types c.requires.path named)
 
 pub returns-in-Some-clause-split : goal.returns-in-Some-clause-split
 returns-in-Some-clause-split c =

@@ -1,4 +1,4 @@
-use Rattle.tydi_tool.proofs.RunLemmas.{IsAnswered-run, IsComplete-run, ReportsRead-run, OutFront-run, LeavesOut-run, Refusal-run, ErrFront-run, LeavesErr-run, StartedAtEnd-run}
+use Rattle.tydi_tool.proofs.RunLemmas.{IsAnswered-run, IsCaused-answered, IsComplete-run, ReportsRead-run, OutFront-run, OutPart-run, LeavesOut-run, Refusal-run, ErrFront-run, LeavesErr-run, StartedAtEnd-run}
 use Rattle.tydi_tool.proofs.running.run.Goals as goal
 
 pub returns-clause-read_fault_line : goal.returns-clause-read_fault_line
@@ -7,11 +7,17 @@ returns-clause-read_fault_line g c = ReportsRead-run _ _ _ _ _ _ _ _ _ _ _ _ c.r
 pub returns-clause-answered : goal.returns-clause-answered
 returns-clause-answered g c = IsAnswered-run _ _ _ _ _ _ _ _ _ _ _ _ c.run_words.ensures
 
+pub returns-clause-caused : goal.returns-clause-caused
+returns-clause-caused g c = λ ends. IsCaused-answered _ _ _ _ _ _ _ (IsAnswered-run _ _ _ _ _ _ _ _ _ _ _ _ c.run_words.ensures ends)
+
 pub returns-clause-complete : goal.returns-clause-complete
 returns-clause-complete g c = IsComplete-run _ _ _ _ _ _ _ _ _ _ _ _ c.run_words.ensures
 
 pub returns-clause-out_front : goal.returns-clause-out_front
 returns-clause-out_front g c = OutFront-run _ _ _ _ _ _ _ _ _ _ _ _ c.run_words.ensures
+
+pub returns-clause-out_part : goal.returns-clause-out_part
+returns-clause-out_part g c = OutPart-run _ _ _ _ _ _ _ _ _ _ _ _ c.run_words.ensures
 
 pub returns-clause-out_left : goal.returns-clause-out_left
 returns-clause-out_left g c = LeavesOut-run _ _ _ _ _ _ _ _ _ _ _ _ c.run_words.ensures

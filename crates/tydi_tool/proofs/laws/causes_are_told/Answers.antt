@@ -1,0 +1,45 @@
+use Rattle.tydi_tool.specs.Causes as rows
+use Rattle.tydi_tool.proofs.CauseLemmas.{each, exactly}
+use Rattle.tydi_tool.proofs.laws.causes_are_told.Goals as goal
+
+pub returns-clause-no_file : goal.returns-clause-no_file
+returns-clause-no_file c = exactly rows.NoFile
+
+pub returns-clause-too_long : goal.returns-clause-too_long
+returns-clause-too_long c = exactly rows.TooLong
+
+pub returns-clause-not_utf8 : goal.returns-clause-not_utf8
+returns-clause-not_utf8 c = exactly rows.NotUtf8
+
+pub returns-clause-lexer : goal.returns-clause-lexer
+returns-clause-lexer c = exactly rows.LexerFault
+
+pub returns-clause-parser : goal.returns-clause-parser
+returns-clause-parser c = exactly rows.ParserFault
+
+pub returns-clause-resolver : goal.returns-clause-resolver
+returns-clause-resolver c = exactly rows.ResolverFault
+
+pub returns-clause-no_port : goal.returns-clause-no_port
+returns-clause-no_port c = exactly rows.NoPort
+
+pub returns-clause-name_clash : goal.returns-clause-name_clash
+returns-clause-name_clash c = exactly rows.NameClash
+
+pub returns-clause-trace_text : goal.returns-clause-trace_text
+returns-clause-trace_text c = exactly rows.TextFault
+
+pub returns-clause-output_too_long : goal.returns-clause-output_too_long
+returns-clause-output_too_long c = exactly rows.OutputTooLong
+
+pub returns-clause-offence : goal.returns-clause-offence
+returns-clause-offence c = exactly rows.AnOffence
+
+pub returns-clause-unfinished : goal.returns-clause-unfinished
+returns-clause-unfinished c = exactly rows.AnUnfinished
+
+pub returns-clause-text : goal.returns-clause-text
+returns-clause-text c = exactly rows.AText
+
+pub returns-clause-each : goal.returns-clause-each
+returns-clause-each c = λ known request a says. each known request a says
