@@ -1,0 +1,13 @@
+pub mod Examples
+pub mod RunExamples
+pub mod PartLemmas
+pub mod CarryLemmas
+pub mod LoadLemmas
+pub mod PlanLemmas
+pub mod ObeyLemmas
+pub mod KeepLemmas
+pub mod LawLemmas
+pub mod FillLemmas
+pub mod ShowLemmas
+pub mod MarkLemmas
+pub mod LaneLemmas

@@ -1,0 +1,4 @@
+pub mod Lanes
+pub mod Planned
+pub mod Laws
+pub mod Filling
