@@ -2,7 +2,7 @@
 //! handed in, and the text of what is told. A call that should not come to this ends in `Memory`, which no row expects.
 
 use crate::{
-    checkers, fractions, nests, projects, readings, splits, streams, tokens, traces,
+    checkers, fractions, levels, nests, projects, readings, splits, streams, tokens, traces,
     traces_written, values, words,
 };
 use std::alloc::Global;
@@ -40,6 +40,9 @@ pub(crate) enum Call {
     Split,
     Unpacked,
     Fitting,
+    Level,
+    WideNumber,
+    Binary,
 }
 
 /// The first word of a text, and what comes after the space.
@@ -113,6 +116,9 @@ fn tell(
         Call::Project => projects::project(alloc, first, out),
         Call::Unpacked => values::unpacked(alloc, first, second, out),
         Call::Fitting => values::fitting(alloc, first, second, out),
+        Call::Level => levels::level(alloc, first, second, out),
+        Call::WideNumber => levels::wide_numbers(first, out),
+        Call::Binary => levels::binary(alloc, first, second, out),
         Call::Split => splits::split(alloc, first, second, out),
     }
 }

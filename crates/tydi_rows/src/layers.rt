@@ -2,16 +2,20 @@
 
 use crate::calls::{Call, check_calls};
 use crate::{
-    checkers, fractions, nests, projects, readings, splits, streams, tokens, traces,
+    checkers, fractions, levels, nests, projects, readings, splits, streams, tokens, traces,
     traces_written, values, words,
 };
-use complexity_rules::{items_are_nested, levels_are_kept, table_is_monotone};
+use complexity_rules::{
+    items_are_nested, levels_are_kept, pauses_are_as_tested, table_is_monotone,
+    table_says_what_binds,
+};
 use physical_stream::shown_at_greater_levels;
 use signal_layout::{Signal, SignalDefault, default_of};
 use til_lexer::{spelled_tokens_are_read, tokens_are_of_the_text, tokens_have_their_form};
 use til_parser::{trees_are_apart, trees_are_read_as_printed};
 use tydi_base::{
-    decimals_are_read_as_spelled, hexadecimal_is_read_as_spelled, index_width_is_least,
+    binary_is_read_as_spelled, decimals_are_read_as_spelled, hexadecimal_is_read_as_spelled,
+    index_width_is_least, levels_are_ordered, levels_are_read_as_spelled,
     paths_are_read_as_spelled, pieces_are_parts,
 };
 
@@ -25,6 +29,8 @@ fn texts_and_numbers(rt: HostRuntime) {
     check_calls(&rt, &Call::Path, readings::PATHS);
     check_calls(&rt, &Call::Compared, readings::COMPARED);
     check_calls(&rt, &Call::Written, readings::WRITTEN);
+    check_calls(&rt, &Call::Level, levels::LEVELS);
+    check_calls(&rt, &Call::WideNumber, levels::WIDE_NUMBERS);
 }
 
 #[test]
@@ -35,6 +41,7 @@ fn words_of_bits(rt: HostRuntime) {
     check_calls(&rt, &Call::Numbered, words::NUMBERS);
     check_calls(&rt, &Call::Joined, words::JOINED);
     check_calls(&rt, &Call::Overwritten, words::OVERWRITTEN);
+    check_calls(&rt, &Call::Binary, levels::BINARY);
 }
 
 #[test]
@@ -83,9 +90,14 @@ fn laws() {
     pieces_are_parts();
     paths_are_read_as_spelled();
     hexadecimal_is_read_as_spelled();
+    binary_is_read_as_spelled();
+    levels_are_ordered();
+    levels_are_read_as_spelled();
     index_width_is_least();
     shown_at_greater_levels();
     table_is_monotone();
+    table_says_what_binds();
+    pauses_are_as_tested();
     levels_are_kept();
     items_are_nested();
     tokens_are_of_the_text();

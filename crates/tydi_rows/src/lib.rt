@@ -1,6 +1,6 @@
-//! Tests. Worked rows of the tool, as tables: words and a file on one side, the status and what the two sinks hold on the other, each
-//! run over the store and the sinks in memory; and rows of the layers below the tool. They stand in one crate, so that no crate is
-//! proved a second time for its tests.
+//! Tests. One part is rows of the tool: words and files on one side, the status and the bytes of both sinks on the other, each run over
+//! the store and the sinks in memory. The other part is tables of calls of the crates below the tool. They stand in one crate, so that
+//! no crate is proved a second time for its tests.
 #![tactic(auto)]
 
 #[cfg(test)]
@@ -13,6 +13,8 @@ mod edge;
 mod fractions;
 #[cfg(test)]
 mod layers;
+#[cfg(test)]
+mod levels;
 #[cfg(test)]
 mod nests;
 #[cfg(test)]

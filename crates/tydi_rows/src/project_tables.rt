@@ -51,6 +51,27 @@ $ read t
 >   type u = Union(p: Null, q: Stream(data: Group(), throughput: 1.5, dimensionality: 0, synchronicity: Sync, complexity: 4, direction: Reverse, user: Bits(1), keep: true));
 > }
 = again
+# levels: a number is its digits by value, and numbers at the end that are 0 are left out
+$ read t
+< namespace n {
+< type a = Stream(data: Null, complexity: 4.0);
+< type b = Stream(data: Null, complexity: 4.1.2.3);
+< type c = Stream(data: Null, complexity: 04.010);
+< type d = Stream(data: Null, complexity: 8 . 0.0255);
+< type e = Stream(data: Null, complexity: 1.0.0.0);
+< type g = Stream(data: Null, complexity: 5.0.7);
+< type h = Stream(data: Null, complexity: 2.0.0.9);
+~ }
+> namespace n {
+>   type a = Stream(data: Null, throughput: 1, dimensionality: 0, synchronicity: Sync, complexity: 4, direction: Forward, user: Null, keep: false);
+>   type b = Stream(data: Null, throughput: 1, dimensionality: 0, synchronicity: Sync, complexity: 4.1.2.3, direction: Forward, user: Null, keep: false);
+>   type c = Stream(data: Null, throughput: 1, dimensionality: 0, synchronicity: Sync, complexity: 4.10, direction: Forward, user: Null, keep: false);
+>   type d = Stream(data: Null, throughput: 1, dimensionality: 0, synchronicity: Sync, complexity: 8.0.255, direction: Forward, user: Null, keep: false);
+>   type e = Stream(data: Null, throughput: 1, dimensionality: 0, synchronicity: Sync, complexity: 1, direction: Forward, user: Null, keep: false);
+>   type g = Stream(data: Null, throughput: 1, dimensionality: 0, synchronicity: Sync, complexity: 5.0.7, direction: Forward, user: Null, keep: false);
+>   type h = Stream(data: Null, throughput: 1, dimensionality: 0, synchronicity: Sync, complexity: 2.0.0.9, direction: Forward, user: Null, keep: false);
+> }
+= again
 ";
 
 /// Texts that are no project.
@@ -99,6 +120,40 @@ $ read t
 = 1
 $ read t
 ! tydi: EndOfText t
+= 1
+# a level has four numbers at most: the fourth point is the second that is a token
+$ read t
+~ namespace n { type a = Stream(complexity: 4.1.2.3.4, data: Null); }
+! tydi: Unexpected t 1:50
+= 1
+$ read t
+~ namespace n { type a = Stream(complexity: 4.1.2.256, data: Null); }
+! tydi: Unexpected t 1:47
+= 1
+$ read t
+~ namespace n { type a = Stream(complexity: 4.256, data: Null); }
+! tydi: Unexpected t 1:43
+= 1
+$ read t
+~ namespace n { type a = Stream(complexity: 0.1, data: Null); }
+! tydi: Unexpected t 1:43
+= 1
+$ read t
+~ namespace n { type a = Stream(complexity: 9, data: Null); }
+! tydi: Unexpected t 1:43
+= 1
+$ read t
+~ namespace n { type a = Stream(complexity: 8.1.300, data: Null); }
+! tydi: Unexpected t 1:47
+= 1
+# a point wants a number after it
+$ read t
+~ namespace n { type a = Stream(complexity: 4., data: Null); }
+! tydi: Unexpected t 1:45
+= 1
+$ read t
+~ namespace n { type a = Stream(complexity: 4.1.2.3., data: Null); }
+! tydi: Unexpected t 1:50
 = 1
 # a fault of the tokens comes before one of the tree
 $ read t

@@ -2,7 +2,7 @@
 
 use crate::calls::number;
 use crate::types::{project_around, type_in};
-use logical_types::{LType, check};
+use logical_types::{LType, check, number_of_nodes};
 use split_text::split_text;
 use std::alloc::Global;
 use tydi_base::{List, Memory};
@@ -34,6 +34,9 @@ fn write_split(alloc: Global, ltype: &LType, limit: u64, out: &mut List<u8>) -> 
         return Err(Memory);
     };
     if check(ltype).is_err() || number_of_streams(ltype) > 65536 {
+        return Err(Memory);
+    }
+    if number_of_nodes(ltype) > 65536 {
         return Err(Memory);
     }
     match split_type(alloc, stream.get()) {

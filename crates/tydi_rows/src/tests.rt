@@ -5,7 +5,7 @@ use crate::refusal_tables::{HEADERS, ROWS, WORDS};
 use crate::row::{NO_FAULTS, check_rows, expect, words_of};
 use crate::running::{Faults, Outcome, run_on};
 use crate::split_tables::SPLITS;
-use crate::trace_tables::{KINDS, LONG, ONE_STREAM, PIECES, SEVERAL_STREAMS};
+use crate::trace_tables::{KINDS, LONG, ONE_STREAM, PIECES, SEVERAL_STREAMS, VERSIONS};
 use std::alloc::Global;
 use std::process::Abort;
 use std::test::Fail;
@@ -26,8 +26,9 @@ fn tables(rt: HostRuntime) -> Result<(), Fail> {
         (ROWS, 29),
         (ONE_STREAM, 21),
         (SEVERAL_STREAMS, 9),
-        (CANONICAL, 3),
-        (FAULTS, 12),
+        (VERSIONS, 12),
+        (CANONICAL, 4),
+        (FAULTS, 20),
         (SPLITS, 27),
     ] {
         assert!(rt; check_rows(&rt, table, u16::MAX)? == *count);

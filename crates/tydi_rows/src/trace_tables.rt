@@ -440,3 +440,113 @@ $ check t
 /// A text with a row that is longer than any of its stream, and one that follows the last.
 pub(crate) const LONG: &[u8] =
     b"tydi-trace 1\ncycles 1\nstream a lanes 1 dims 0 level 1 element 4 user 0 forward\n1 1 d=0000000000000000000000000000000000000000 s=1 \n0 1 -\n";
+
+/// Traces of the second version, and levels that a version has not.
+pub(crate) const VERSIONS: &str = "\
+# a level of two numbers
+$ check t
+< tydi-trace 2
+< cycles 2
+< stream - lanes 2 dims 0 level 4.1 element 8 user 0 forward
+< 1 1 d=0201
+< 1 1 d=0403
+> legal
+> stream - transfers 2 packets 4
+= 0
+# levels of one number
+$ check t
+< tydi-trace 2
+< cycles 1
+< stream - lanes 1 dims 1 level 4 element 8 user 0 forward
+< stream b lanes 1 dims 1 level 7 element 8 user 0 forward
+< 1 1 d=48 l=1 b=1
+< 0 1 -
+> legal
+> stream - transfers 1 packets 1
+> stream b transfers 0 packets 0
+= 0
+# levels of one, three and four numbers
+$ check t
+< tydi-trace 2
+< cycles 1
+< stream a lanes 1 dims 1 level 8 element 8 user 0 forward
+< stream b lanes 1 dims 1 level 1.0.255 element 8 user 0 reverse
+< stream c lanes 1 dims 1 level 4.10.0.1 element 8 user 0 forward
+< 0 1 -
+< 1 1 d=48 l=1 b=1
+< 0 1 -
+> legal
+> stream a transfers 0 packets 0
+> stream b transfers 1 packets 1
+> stream c transfers 0 packets 0
+= 0
+# a rule binds by the first number
+$ check t
+< tydi-trace 2
+< cycles 2
+< stream - lanes 1 dims 1 level 2.255.255.255 element 8 user 0 forward
+< 1 1 d=48 l=0 b=1
+< 0 1 -
+> offence cycle 1 stream - rule 8 InnerPause
+= 6
+# and does not at a greater one
+$ check t
+< tydi-trace 2
+< cycles 3
+< stream - lanes 1 dims 1 level 3.0.0.1 element 8 user 0 forward
+< 1 1 d=48 l=0 b=1
+< 0 1 -
+< 1 1 d=49 l=1 b=1
+> legal
+> stream - transfers 2 packets 1
+= 0
+# a number at the end that is 0
+$ check t
+< tydi-trace 2
+< cycles 0
+< stream - lanes 1 dims 1 level 4.0 element 8 user 0 forward
+! tydi: BadHeader t 3
+= 1
+# a leading zero
+$ check t
+< tydi-trace 2
+< cycles 0
+< stream - lanes 1 dims 1 level 4.01 element 8 user 0 forward
+! tydi: BadHeader t 3
+= 1
+# a fifth number
+$ check t
+< tydi-trace 2
+< cycles 0
+< stream - lanes 1 dims 1 level 4.1.2.3.4 element 8 user 0 forward
+! tydi: BadHeader t 3
+= 1
+# a number over 255
+$ check t
+< tydi-trace 2
+< cycles 0
+< stream - lanes 1 dims 1 level 4.1.2.256 element 8 user 0 forward
+! tydi: BadHeader t 3
+= 1
+# a first number over 8
+$ check t
+< tydi-trace 2
+< cycles 0
+< stream - lanes 1 dims 1 level 9.1 element 8 user 0 forward
+! tydi: BadHeader t 3
+= 1
+# two numbers in the first version
+$ check t
+< tydi-trace 1
+< cycles 0
+< stream - lanes 1 dims 1 level 4.1 element 8 user 0 forward
+! tydi: BadHeader t 3
+= 1
+# a third version
+$ check t
+< tydi-trace 3
+< cycles 0
+< stream - lanes 1 dims 1 level 4 element 8 user 0 forward
+! tydi: BadHeader t 1
+= 1
+";
