@@ -1,4 +1,4 @@
--- What a walk over the items of a transfer says of rules Empty and Nest, and what its last bits say of rule End.
+-- A walk over the items of a transfer decides rules Empty and Nest, and the last bits of the transfer decide rule End.
 use Rattle.std.proofs.Common.{◌≡◌, ◌∙◌, ◌↔◌, ℕ, inl, inr, ◌⊎◌, Bool, true, false, not, ◌||◌, ◌&&◌, IsTrue, List, [], ◌∷◌, ◌++◌, Option, Some, refl, sym, ap, subst, arith}
 use Rattle.std.specs.List.{All}
 use Rattle.std.proofs.lemmas.Bool.{and_parts, and_from, not-true, not_from_false}

@@ -1,4 +1,4 @@
--- What is kept of the cycles of a stream, when one comes more.
+-- The state that a checker keeps of the cycles of a stream, when one more cycle comes.
 use Rattle.std.proofs.Common.{◌≡◌, ◌∙◌, ℕ, ◌+◌, ◌<◌, ◌≤◌, Bool, true, false, List, [], ◌∷◌, ◌++◌, length, count_by, cond, Option, None, Some, is_some, not, zero, suc, refl, sym, ap, subst, if◌then◌else◌, arith}
 use Rattle.std.proofs.lemmas.List.{append-nil, length-append}
 use Rattle.std.proofs.lemmas.Grind.{flat_map-append}

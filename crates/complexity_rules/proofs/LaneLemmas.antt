@@ -14,7 +14,7 @@ use Rattle.physical_stream.specs.declared.transfer.Transfer.{Transfer}
 use Rattle.complexity_rules.specs.Walk.{has_element, first_close, first_of_two}
 use Rattle.complexity_rules.proofs.WalkLemmas.{has_element-append, first_close-append}
 
--- what holds below n and at n holds below the next number
+-- a property of all numbers below n and of n holds for all below the next number
 below_next : (P : ℕ → Type 0) (n : ℕ) → ((k : ℕ) → k < n → P k) → P n → (k : ℕ) → k < suc n → P k
 below_next P n below here k within = by_cases (cases_lt k n)
   where

@@ -1,4 +1,4 @@
--- What one level allows, every greater one allows: what is forbidden does not depend on the level, but for where rules bind.
+-- Every greater level allows what one level allows: the level decides only which rules bind, not what a rule forbids.
 use Rattle.std.proofs.Common.{◌≡◌, ◌∙◌, ℕ, ◌<◌, List, length, get_or, take, slice_get, Option, Some, None, arith, ap, subst}
 use Rattle.std.proofs.lemmas.Option.{slice_get-get_or, slice_get_within}
 use Rattle.physical_stream.specs.Params.{Parameters}
@@ -38,7 +38,7 @@ empty-at_level level p done t broken = record { inactive = broken.inactive; clos
 nest-at_level : (level : LevelNumbers) (p : Parameters) (done : List Item) (t : Transfer) → BreaksNest (at_level level p) done t → BreaksNest p done t
 nest-at_level level p done t broken = record { front = broken.front; dim = broken.dim; rest = broken.rest; splits = broken.splits; misplaced = broken.misplaced }
 
--- what a rule forbids is the same at each level
+-- a rule forbids the same at each level
 forbids-at_level : (rule : Rule) (level : LevelNumbers) (p : Parameters) (before : List Cycle) (now : Cycle) → Forbids rule (at_level level p) before now → Forbids rule p before now
 forbids-at_level LaneLast level p before now broken = on_shown (BreaksLaneLast (at_level level p)) (BreaksLaneLast p) (lane_last-at_level level p) now.shown broken
 forbids-at_level Strobe level p before now broken = on_shown (BreaksStrobe (at_level level p)) (BreaksStrobe p) (strobe-at_level level p) now.shown broken

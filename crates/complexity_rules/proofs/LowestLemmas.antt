@@ -136,7 +136,7 @@ module _ (p : Parameters) (before : List Cycle) (ready : Bool) (t : Transfer) wh
       let at_lane_last = lowest_step p before now 3 LaneLast false higher refl (broken_test p before now LaneLast early false no_early is_early) (λ no. at_strobe) in
       lowest_step p before now 2 Index false higher refl no_index (λ no. at_lane_last)
 
--- of one lane there are no two strobe bits, no two indices and no lane before the last one
+-- one lane has no two strobe bits, no two indices and no lane before the last one
 zero_index : (lanes n : ℕ) → lanes ≡ 1 → n < 2 ^ index_width lanes → n ≡ 0
 zero_index lanes n one below = let width : 2 ^ index_width lanes ≡ 1 = ap (λ (k : ℕ). 2 ^ index_width k) one in omega (arith, below, width)
 

@@ -1,4 +1,4 @@
--- What is done in cycles none of which breaks the rule on nesting is nested.
+-- The items done in cycles without a violation of the rule on nesting are nested.
 use Rattle.std.proofs.Common.{◌≡◌, ◌∙◌, ℕ, zero, suc, ◌≤◌, Bool, true, false, if◌then◌else◌, List, [], length, get_or, take, Option, None, Some, refl, sym, ap, subst, arith}
 use Rattle.std.specs.Option.{option_to_list}
 use Rattle.std.proofs.Math.Seq.{take-suc}
@@ -20,7 +20,7 @@ use Rattle.complexity_rules.specs.Nesting.{ItemsAreNested}
 use Rattle.complexity_rules.proofs.BreakLemmas.{BreaksNest-misplaced}
 use Rattle.complexity_rules.proofs.CheckerLemmas.{items_done-one_more}
 
--- what stands for a cycle past the end
+-- the value of a cycle past the end
 abbrev idle : Cycle
 idle = record { ready = false; shown = None }
 

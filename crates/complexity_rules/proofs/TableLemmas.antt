@@ -140,7 +140,7 @@ up_to-cell bound place (suc i) at (true ∷ more) e within sum =
 up_to-cell bound place (suc i) at (false ∷ more) e within sum =
     up_to-cell bound (suc place) i at more (both_right (nat_le bound place) (is_up_to bound (suc place) more) e) (omega arith) (omega arith)
 
--- what the checker computes of each row
+-- the values that the checker computes of each row
 record Says (rule : Rule) : Type 0 where
   within : number_of_rule rule - 1 < length BINDS.cells
   many : length (row_of rule) ≡ 8

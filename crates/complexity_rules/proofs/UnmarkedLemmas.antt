@@ -65,16 +65,16 @@ place_of lane width from inside dims at as_wide same = ap (λ (n : ℕ). n * wid
 
 -- ---- the first one of a number from a place on
 
--- what is left of the number is 0
+-- the rest of the number is 0
 zeros-all : (number place rest : ℕ) → rest ≡ number / 2 ^ place → rest ≡ 0 → (count : ℕ) → AreZeros number place count
 zeros-all number place rest is none count next within =
     ap (λ (n : ℕ). n % 2) (sym (shr-shr number place next)) ∙ ap (λ (n : ℕ). bit_at n next) (sym is ∙ none) ∙ bit_at-zero next
 
--- what is left of it begins with so many zeros
+-- the rest of it begins with so many zeros
 zeros-before : (number place rest zeros : ℕ) → rest ≡ number / 2 ^ place → ((next : ℕ) → next < zeros → bit_at rest next ≡ 0) → AreZeros number place zeros
 zeros-before number place rest zeros is lowest next within = ap (λ (n : ℕ). n % 2) (sym (shr-shr number place next)) ∙ ap (λ (n : ℕ). bit_at n next) (sym is) ∙ lowest next within
 
--- what is told of the first one, where what is left of the number is this
+-- the answer about the first one, where the rest of the number is this
 pub first_one-told : (number place rest zeros : ℕ) (some : Bool) (found : Option ℕ) → rest ≡ number / 2 ^ place → (some ≡ false → rest ≡ 0) → (some ≡ true → (next : ℕ) → next < zeros → bit_at rest next ≡ 0)
     → found ≡ then_some some zeros → MatchOption found ((count : ℕ) → AreZeros number place count) (AreZeros number place)
 first_one-told number place rest zeros false found is none lowest told = subst (λ (o : Option ℕ). MatchOption o ((count : ℕ) → AreZeros number place count) (AreZeros number place)) (sym told) (zeros-all number place rest is (none refl))
@@ -110,7 +110,7 @@ unmarked_closes bits (suc n) unmarked =
     ap (λ (is : List Item). is ++ closes bits n) (unmarked_closes bits n (λ dim within. unmarked dim (omega arith)))
     ∙ ap (λ (b : Bool). if b then items.Close n ∷ [] else []) (unmarked n (omega arith))
 
--- what a walk has found after so many elements more
+-- the findings of a walk after so many elements more
 abbrev pub past_elements : ℕ → ℕ → Walk → Walk
 past_elements dims zero walk = walk
 past_elements dims (suc count) walk = record {

@@ -1,4 +1,4 @@
--- What a checker stands for, and what it says of one cycle more (this project's own).
+-- The cycles that a checker stands for, and its answer for one more cycle (this project's own).
 use Rattle.std.specs.Prelude.{◌≡◌, ℕ, ◌+◌, ◌-◌, ◌^◌, ◌≤◌, if◌then◌else◌, List, [], ◌∷◌, ◌++◌, length, Option, Some, None, is_some, OnSome}
 use Rattle.physical_stream.specs.Params.{Parameters}
 use Rattle.physical_stream.specs.Cycles.{Cycle, items_done, waiting_of}
@@ -33,8 +33,8 @@ most_seen = 2 ^ 32 - 1
 abbrev pub waiting_in : Checker → Option Transfer
 waiting_in checker = if checker.waits then Some checker.offered else None
 
--- what is kept of the cycles of a stream: how many they are, the transfer that waits, the kind of the last item done, and how many
--- transfers and packets are done
+-- the state kept of the cycles of a stream: how many they are, the transfer that waits, the kind of the last item done, and how
+-- many transfers and packets are done
 pub record Keeps (p : Parameters) (cycles : List Cycle) (seen_so_far : ℕ) (offered : Option Transfer) (last : Option Tail) (done packed : ℕ) : Type 0 where
   pub seen : seen_so_far ≡ length cycles
   pub waiting : offered ≡ waiting_of cycles

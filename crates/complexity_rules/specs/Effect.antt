@@ -1,4 +1,4 @@
--- What a transfer changes when it is done (this project's own).
+-- The changes that a transfer makes when it is done (this project's own).
 use Rattle.std.specs.Prelude.{◌≡◌, ℕ, ◌*◌, List, Option, count_by}
 use Rattle.physical_stream.specs.Counts.{ends_packet}
 use Rattle.physical_stream.specs.Shape.{tail_over}

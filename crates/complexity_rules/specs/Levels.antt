@@ -1,4 +1,4 @@
--- What one level allows, every greater one allows (this project's own).
+-- Every greater level allows what one level allows (this project's own).
 use Rattle.std.specs.Prelude.{◌≡◌, ℕ, ◌≤◌, ◌↔◌, List, length, slice_get, Some}
 use Rattle.tydi_base.specs.Level.{IsAtMost, LevelNumbers, number_of}
 use Rattle.physical_stream.specs.Params.{Parameters}
@@ -35,7 +35,7 @@ pub record AreRaised (from to : List StreamTrace) : Type 0 where
   pub many : length to ≡ length from
   pub each : (stream : ℕ) (low high : StreamTrace) → slice_get from stream ≡ Some low → slice_get to stream ≡ Some high → IsRaised low high
 
--- what a cycle breaks at a level, it breaks at every lower one
+-- a cycle that breaks a rule at a level breaks it at every lower one
 abbrev pub BreaksBelow : Breaking → Type 0
 BreaksBelow Broken =
     (rule : Rule) (level : LevelNumbers) (p : Parameters) (before : List Cycle) (now : Cycle) → number_of p.level ≤ number_of level →
@@ -45,8 +45,8 @@ BreaksBelow Broken =
 abbrev pub RulesBreakBelow : Type 0
 RulesBreakBelow = BreaksBelow BreaksAfter
 
--- what is an offence at the greater levels is one at the lower ones, by what breaks the rules of each stream: a trace without
--- offence there has none here
+-- an offence at the greater levels is one at the lower ones, by the violations of each stream: a trace without offence there has
+-- none here
 abbrev pub OffencesFallBy : (ℕ → Breaking) → Type 0
 OffencesFallBy Broken = (from to : List StreamTrace) (o : Offence) → AreRaised from to → OffendsBy Broken to o → OffendsBy Broken from o
 

@@ -11,7 +11,7 @@ use Rattle.physical_stream.specs.declared.rule.Rule.{Rule}
 abbrev pub is_broken : LevelNumbers → Rule → Bool → Bool
 is_broken level rule forbidden = nat_le (number_of level) (binds_up_to rule) && forbidden
 
--- of the rules from this number on, the cycle breaks none, or this is the lowest one
+-- the cycle breaks none of the rules from this number on, or this is the lowest of them that it breaks
 abbrev pub IsLowestFrom : Parameters → List Cycle → Cycle → ℕ → Option Rule → Type 0
 IsLowestFrom p before now n None = (rule : Rule) → n ≤ number_of_rule rule → BreaksAfter rule p before now → ⊥
 IsLowestFrom p before now n (Some lowest) =

@@ -1,4 +1,4 @@
--- That what is done nests (this project's own).
+-- The items done are nested (this project's own).
 use Rattle.std.specs.Prelude.{ℕ, List}
 use Rattle.tydi_base.specs.Level.{IsLevel}
 use Rattle.physical_stream.specs.Params.{Parameters}

@@ -4,11 +4,11 @@ use Rattle.tydi_base.specs.Level.{IsLevel, LevelNumbers, number_of}
 use Rattle.physical_stream.specs.Rules.{Binds, number_of_rule}
 use Rattle.physical_stream.specs.declared.rule.Rule.{Rule}
 
--- no true follows a false: what binds at a level binds at every lower one
+-- no true follows a false: a rule that binds at a level binds at every lower one
 abbrev pub IsMonotoneRow : List Bool → Type 0
 IsMonotoneRow row = (lower level : ℕ) → lower < level → slice_get row level ≡ Some true → slice_get row lower ≡ Some true
 
--- in no row does a true follow a false: what binds at a level binds at every lower one
+-- in no row does a true follow a false: a rule that binds at a level binds at every lower one
 abbrev pub IsMonotone : List (List Bool) → Type 0
 IsMonotone cells = (rule lower level : ℕ) (row : List Bool) → lower < level → slice_get cells rule ≡ Some row → slice_get row level ≡ Some true → slice_get row lower ≡ Some true
 

@@ -3,6 +3,6 @@ use Rattle.std.specs.Prelude.{◌≡◌, ℕ, ◌<◌, Option, Some}
 use Rattle.physical_stream.specs.declared.item.Tail.{Tail}
 use Rattle.physical_stream.specs.declared.item.Tail.TheVariants.{Close}
 
--- what was closed last is one of so many dimensions
+-- the last Close is one of so many dimensions
 abbrev pub IsTailIn : ℕ → Option Tail → Type 0
 IsTailIn dims tail = (dim : ℕ) → tail ≡ Some (Close dim) → dim < dims

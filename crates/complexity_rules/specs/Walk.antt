@@ -1,4 +1,4 @@
--- What a walk over the items of a transfer finds (this project's own).
+-- The results of a walk over the items of a transfer (this project's own).
 use Rattle.std.specs.Prelude.{◌≡◌, ℕ, Bool, true, false, not, List, [], ◌∷◌, count_by, Option, Some, None}
 use Rattle.physical_stream.specs.Shape.{tail_over, has_misplaced, closes_empty}
 use Rattle.physical_stream.specs.Counts.{ends_packet}
@@ -24,7 +24,7 @@ abbrev pub first_of_two : Option ℕ → Option ℕ → Option ℕ
 first_of_two None y = y
 first_of_two (Some x) y = Some x
 
--- what a walk finds that begins after this tail and goes over these items
+-- the findings of a walk that begins after this tail and goes over these items
 pub record Finds (dims : ℕ) (begins : Option Tail) (over : List Item) (walk : Walk) : Type 0 where
   pub last : walk.tail ≡ tail_over begins over
   pub active : walk.active ≡ has_element over

@@ -21,7 +21,7 @@ pub struct Checker {
     pub(crate) waits: bool,
     /// The transfer that waits, where one does; else only the room for one.
     pub(crate) offered: Transfer,
-    /// What the transfer that waits changes when it is done.
+    /// The changes that the waiting transfer makes when it is done.
     pub(crate) effect: Effect,
     /// The kind of the last item done.
     pub(crate) tail: LastItem,

@@ -1,4 +1,4 @@
-//! What a checker says, cycle by cycle.
+//! The answers of a checker, cycle by cycle.
 
 ghost use Rattle.std.specs.Prelude.{◌≡◌, ◌↔◌, ◌+◌, ◌-◌, ◌*◌, ◌^◌, ◌<◌, ◌≤◌, ◌∷◌, ◌++◌, [], List, Bool, true, false, Option, Some, None, IfOk, IfSome, IsSome, IsTrue, OnSome, is_some, if◌then◌else◌};
 ghost use Rattle.std.specs.Option.{option_copied};
@@ -25,12 +25,12 @@ use physical_stream::{End, Params, Row, Rule, Tail, Transfer};
 use std::alloc::Global;
 use tydi_base::Memory;
 
-/// What a cycle is that shows a transfer, where none waits.
+/// The judgement of a cycle that shows a transfer, where none waits.
 #[derive(Clone, Copy)]
 struct Judged {
     /// The lowest rule that it breaks.
     broken: Option<Rule>,
-    /// What the transfer changes when it is done.
+    /// The changes that the transfer makes when it is done.
     effect: Effect,
 }
 
@@ -63,7 +63,8 @@ impl Checker {
         &self.params
     }
 
-    /// One cycle more: the lowest of rules 1 to 10 that it breaks, and the checker is as before; or None, and the cycle is seen.
+    /// Checks one more cycle. It gives the lowest of rules 1 to 10 that the cycle breaks, and the checker stays as before; or None,
+    /// and the cycle is seen.
     pub fn step(&mut self, row: Row<'_>) -> Option<Rule>
         requires fits { IfSome (option_copied row.shown) (Fits (params_in self.old)) }
         requires room { seen_in self.old < most_seen }
@@ -78,7 +79,7 @@ impl Checker {
         }
     }
 
-    /// One cycle more, which shows this transfer.
+    /// Checks one more cycle, which shows this transfer.
     fn step_shown(&mut self, transfer: &Transfer, ready: bool) -> Option<Rule>
         requires fits { Fits (params_in self.old) transfer.now }
         requires room { seen_in self.old < most_seen }
@@ -91,7 +92,7 @@ impl Checker {
         }
     }
 
-    /// One cycle more, which shows this transfer while one waits.
+    /// Checks one more cycle, which shows this transfer while one waits.
     fn step_again(&mut self, transfer: &Transfer, ready: bool) -> Option<Rule>
         requires waits { self.old.waits ≡ true }
         requires room { seen_in self.old < most_seen }
@@ -104,7 +105,7 @@ impl Checker {
         None
     }
 
-    /// One cycle more, which shows this transfer while none waits.
+    /// Checks one more cycle, which shows this transfer while none waits.
     fn step_first(&mut self, transfer: &Transfer, ready: bool) -> Option<Rule>
         requires free { self.old.waits ≡ false }
         requires fits { Fits (params_in self.old) transfer.now }
@@ -118,7 +119,7 @@ impl Checker {
         judged.broken
     }
 
-    /// One cycle more, which shows no transfer.
+    /// Checks one more cycle, which shows no transfer.
     fn step_pause(&mut self, _ready: bool) -> Option<Rule>
         requires room { seen_in self.old < most_seen }
         ensures { IsStep self.old self.new (record { ready = _ready; shown = None }) result }
@@ -157,7 +158,7 @@ impl Checker {
         hold(self.params.level)
     }
 
-    /// What a cycle is that shows this transfer, where none waits.
+    /// The judgement of a cycle that shows this transfer, where none waits.
     #[inline(always)]
     fn judge_shown(&self, transfer: &Transfer) -> Judged
         requires { Fits (params_in self.now) transfer.now }
@@ -299,7 +300,7 @@ impl Checker {
         }
     }
 
-    /// What the items done leave open.
+    /// The end of the stream after the items done: whole, or the sequences that they leave open.
     fn end_of_items(&self) -> End
         ensures { result ≡ ending_after (params_in self.now).dims self.now.tail }
     {
@@ -322,7 +323,7 @@ impl Checker {
         }
     }
 
-    /// The kind of the last item done.
+    /// The kind of the last item done. None where no item was done.
     pub fn tail(&self) -> Option<Tail>
         ensures { (cycles : List Cycle) → StandsFor self.now cycles → result ≡ tail_of (items_done (params_in self.now) cycles) }
     {

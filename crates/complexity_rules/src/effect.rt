@@ -1,6 +1,6 @@
 use crate::last_item::LastItem;
 
-/// What a transfer changes when it is done.
+/// The changes that a transfer makes when it is done.
 #[derive(Clone, Copy, Debug)]
 pub(crate) struct Effect {
     /// The kind of the last item then.

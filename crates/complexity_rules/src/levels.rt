@@ -1,7 +1,6 @@
 ghost use Rattle.complexity_rules.specs.Levels.{RulesBindBelow, FirstNumbersBind, AtMostIsRaised, RulesBreakBelow, OffencesFall, ItemsStay, EndingStays};
 
-/// What one level allows, every level that it is at most allows, and the level changes nothing else. Of the numbers of a level
-/// the first alone decides.
+/// Every level allows what each lower level allows, and the level changes nothing else. Only the first number of a level decides.
 pub fn levels_are_kept()
     ensures bind { RulesBindBelow }
     ensures first_numbers { FirstNumbersBind }

@@ -1,6 +1,6 @@
 ghost use Rattle.complexity_rules.specs.Nesting.{ItemsAreNested};
 
-/// What is done in cycles none of which breaks the rule on nesting is nested.
+/// The items done in cycles without a violation of the rule on nesting are nested.
 pub fn items_are_nested()
     ensures { ItemsAreNested }
 {}

@@ -57,7 +57,7 @@ fn is_monotone_row(row: &[bool]) -> bool
     true
 }
 
-/// The table of the rules is monotone: what binds at a level binds at every lower one.
+/// The table of the rules is monotone: a rule that binds at a level binds at every lower one.
 pub fn table_is_monotone()
     ensures { IsMonotone BINDS.cells }
 {

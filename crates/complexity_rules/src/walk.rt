@@ -17,7 +17,7 @@ use crate::last_item::LastItem;
 use crate::unmarked::{active_between, is_lane_active, marks_of, next_marked};
 use physical_stream::{Params, Transfer, is_last};
 
-/// What a walk over items has found so far.
+/// The findings of a walk over items so far.
 #[derive(Clone, Copy)]
 pub(crate) struct Walk {
     /// The kind of the last item, also of those before the walk.
@@ -48,7 +48,7 @@ impl Walk {
         }
     }
 
-    /// What the items change when they are done.
+    /// The changes that the items make when they are done.
     #[inline(always)]
     pub(crate) fn effect(self) -> Effect
         ensures effect { (dims : ℕ) (begins : Option Tail) (over : List Item) → Finds dims begins over self → IsEffect dims begins over result }
@@ -216,7 +216,7 @@ impl Walk {
     }
 }
 
-/// What the items of a transfer are, after an item of some kind.
+/// The findings about the items of a transfer, after an item of some kind.
 #[derive(Clone, Copy)]
 pub(crate) struct Shown {
     /// Whether a lane before the last one marks an end.

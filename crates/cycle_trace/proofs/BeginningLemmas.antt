@@ -1,4 +1,4 @@
--- What is known of every text that begins so, line by line.
+-- Facts about every text that begins with given lines, line by line.
 use Rattle.std.proofs.Common.{◌≡◌, ◌∙◌, ℕ, suc, ◌+◌, ◌*◌, ◌<◌, ◌≤◌, Bool, true, false, if◌then◌else◌, List, [], ◌∷◌, ◌++◌, length, drop, nat_le, Option, Some, None, Result, Ok, Err, MatchOption, append_assoc, length-append, refl, sym, ap, subst, arith}
 use Rattle.std.specs.List.{join_with_byte, slice_get}
 use Rattle.std.specs.BTreeSet.{BTreeSet}
@@ -52,7 +52,7 @@ last_of line plain = ap lines_of (append-nil line) ∙ pieces_of-lacks 10 line p
 
 -- ---- faults
 
--- the fault of a text, told
+-- the error of a text, reported
 pub IsFault-told : {A : Type 0} (read : Result A TraceFault) (e f : TraceFault) → fault_in e ≡ Some f → read ≡ Err f → IsFault read e
 IsFault-told read e f told is = rw told is
 
@@ -284,7 +284,7 @@ module _ (t : TraceText) where
     row-fails bytes line e goes wrong more =
         fault_by (row_at next_line p line) (trace_of ((bytes ++ 10 ∷ []) ++ more)) e (λ f is. goes more ∙ rows_on-wrong line (lines_of more) f (some_line more) is) wrong
 
-  -- the end of a text where a row is wanted
+  -- the end of a text where a row is needed
   pub rows_on-cut_at : (line : List ℕ) → length t.rows < t.cycles * length t.heads → rows_on t (line ∷ []) ≡ Err (cut_row line (t.cycles * length t.heads) (length t.rows) next_line)
   rows_on-cut_at line less = let turn = slice_get-there all_owed (length t.rows) (omega (arith, length-owed_heads t)) in rows_on-cut turn.0 turn.1 line
 
@@ -312,7 +312,7 @@ module _ (t : TraceText) where
         let none : text ≡ [] = sym (join-pieces_of 10 text) ∙ ap (join_with_byte 10) same in
         omega (arith, ap length none, length-append line (rest ++ more), length-append rest more))
 
-    -- the end of a text where no row is wanted
+    -- the end of a text where no row is needed
     pub rows_on-rest_at : (line : List ℕ) → (line ≡ [] → ⊥) → rows_on t (line ∷ []) ≡ Err (RowsLeft next_line)
     rows_on-rest_at line other = rows_on-left (line ∷ []) (omega arith) (λ same. let first : line ≡ [] = cc in other first)
 

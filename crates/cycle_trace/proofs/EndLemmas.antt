@@ -1,4 +1,4 @@
--- What the checkers of a trace say before its first row and after its last one.
+-- The answers of the checkers of a trace before its first row and after its last one.
 use Rattle.std.proofs.Common.{◌≡◌, ◌≢◌, ◌∙◌, ℕ, suc, ◌+◌, ◌*◌, ◌<◌, ◌≤◌, inl, inr, ◌⊎◌, List, [], ◌∷◌, ◌++◌, length, map, take, drop, get_or, slice_get, Option, None, Some, refl, sym, ap, subst, arith}
 use Rattle.std.proofs.lemmas.Bool.{cases_lt}
 use Rattle.std.proofs.lemmas.List.{length_push, drop_more, drop_all, map_more, take_all}
@@ -79,7 +79,7 @@ not_whole i (ends.Unclosed k) later unlike = refl
 abbrev pub GoesOn : List StreamTrace → ℕ → Type 0
 GoesOn streams i = first_unfinished 0 streams ≡ first_unfinished i (drop i streams)
 
--- a checker tells how its stream ends
+-- a checker reports how its stream ends
 abbrev pub TellsEnd : Checker → End → Type 0
 TellsEnd checker end = (cycles : List Cycle) → StandsFor checker cycles → end ≡ ending_of (params_in checker) cycles
 

@@ -14,7 +14,7 @@ use Rattle.cycle_trace.specs.declared.counts.SurveyFault.TheVariants as faults
 IsNotAfter-after : (a b c : Offence) → IsNotAfter a b → IsNotAfter b c → IsNotAfter a c
 IsNotAfter-after a b c ab bc = grind arith
 
--- what the test says
+-- the meaning of the test
 module _ (a b : Offence) where
   not_after : is_not_after a b ≡ true → IsNotAfter a b
   not_after is = grind (arith, nat_tests)

@@ -1,4 +1,4 @@
--- The stream lines of a trace text: what is spelled is read, and what is read is spelled so.
+-- The stream lines of a trace text: each spelling is read, and each text that is read is a spelling.
 use Rattle.std.proofs.Common.{◌≡◌, ℕ, suc, ◌+◌, ◌<◌, ◌≤◌, true, not, nat_lt, ◌&&◌, List, [], ◌∷◌, ◌++◌, length, map, Result, Ok, Err, append_assoc, All, refl, sym, ap, ◌∙◌, inl, inr, arith}
 use Rattle.std.specs.List.{list_any, flat_map, join_with_byte}
 use Rattle.std.specs.Str.{bytes_eq}
@@ -35,7 +35,7 @@ head_after-spelled version paths head h fits room new =
     let few : nat_lt (length paths) 65536 ≡ true = grind (arith, nat_tests) in
     rw (head_of-spelled head h, fits, few, new) refl
 
--- what was read of a stream line after others
+-- the head that was read of a stream line after others
 pub record HeadAfter (version : Version) (paths : List (List ℕ)) (line : List ℕ) (head : Head) : Type 0 where
   pub spelled : line ≡ words_text (head_words head)
   pub is_head : IsHead head
@@ -102,7 +102,7 @@ MayFollow-more version paths head heads first fits other h =
 line_then : (a b c : List ℕ) → ((a ++ 10 ∷ []) ++ b) ++ c ≡ a ++ 10 ∷ (b ++ c)
 line_then a b c = append_assoc (a ++ 10 ∷ []) b c ∙ append_assoc a (10 ∷ []) (b ++ c)
 
--- what follows holds no stream line
+-- the rest begins with no stream line
 abbrev pub EndsHeads : List ℕ → Type 0
 EndsHeads rest = (version : Version) (number : ℕ) (paths : List (List ℕ)) → heads_from version number paths (lines_of rest) ≡ Ok ([], lines_of rest)
 
@@ -122,7 +122,7 @@ heads_from-spelled version number paths (head ∷ heads) rest may end =
     ∙ heads_from-head version number paths line (lines_of after) (some_line after) refl
     ∙ rw (head_after-spelled version paths head first fits.0 (omega arith) new.0, later) refl
 
--- what was read of the lines of heads
+-- the heads that were read of lines
 pub record HeadsRead (version : Version) (paths lines : List (List ℕ)) (x : List Head × List (List ℕ)) : Type 0 where
   pub spelled : join_with_byte 10 lines ≡ flat_map head_text x.0 ++ join_with_byte 10 x.1
   pub some : 0 < length x.1

@@ -1,4 +1,4 @@
--- What reading a row knows of its stream.
+-- The facts about a stream that the reader of its rows uses.
 use Rattle.std.proofs.Common.{Bool, true, false, is_some, ◌≡◌, ℕ, refl, ap, ◌∙◌}
 use Rattle.physical_stream.specs.Params.{Parameters}
 use Rattle.physical_stream.specs.Signals.{has_content, has_last, has_stai, has_endi, has_strb, has_user}

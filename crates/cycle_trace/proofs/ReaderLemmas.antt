@@ -39,7 +39,7 @@ pub after_row-line : {K : Type 0} (stands : K → Option TraceText → Type 0) (
 after_row-line stands sink text bytes (Ok fine) is h = subst (λ (s : Stage). StandsAt stands sink text s [] (bytes ++ 10 ∷ [])) (sym is) (h.0, (h.1.0, plain-none, h.1.1, h.1.2))
 after_row-line stands sink text bytes (Err e) is h = h
 
--- what is fed so far is the front of the piece
+-- the bytes fed so far are the front of the piece
 pub record FedSoFar (piece rest : List ℕ) (Old : List ℕ → Type 0) (New : List ℕ → Type 0) : Type 0 where
   pub fed : List ℕ
   pub whole : piece ≡ fed ++ rest
@@ -62,7 +62,7 @@ FedSoFar-all piece rest Old Now New h last bytes old = subst New (append_assoc b
 pub plain-first : (text front : List ℕ) (others : List (List ℕ)) → lines_of text ≡ front ∷ others → Lacks 10 front
 plain-first text front others is = All-head (Lacks 10) front others (subst (λ (lines : List (List ℕ)). All (Lacks 10) lines) is (pieces_of-each_lacks 10 text))
 
--- what is known within a piece, where the sink is fixed or not as it was
+-- the facts known within a piece, where the sink is fixed or not as it was
 pub record Feeds (old new : Stage) (was is : Bool) (So : Type 0) : Type 0 where
   pub so_far : So
   pub spent : StaysFailed old new
@@ -97,7 +97,7 @@ not_long begun h = by_long begun.long h.so_far
 
 -- ---- memory
 
--- a fault of the text is no want of memory
+-- an error of the text is no want of memory
 pub not_memory : {A : Type 0} (result : Result A TraceFault) → IfErr result (λ e. IsSome (fault_in e)) → result ≡ Err Memory → ⊥
 not_memory result calm is = let some : IsSome (fault_in Memory) = IfErr-at_err (λ (e : TraceFault). IsSome (fault_in e)) is calm in absurd cc
 

@@ -1,4 +1,4 @@
--- A row of a trace text: what is spelled is read, and what is read is spelled so.
+-- A row of a trace text: each spelling is read, and each text that is read is a spelling.
 use Rattle.std.proofs.Common.{◌≡◌, ℕ, ◌-◌, ◌*◌, ◌^◌, ◌<◌, ◌≤◌, Bool, true, false, ◌||◌, nat_lt, List, [], ◌∷◌, ◌++◌, Option, Some, None, Result, Ok, Err, append_assoc, refl, sym, ap, ◌∙◌, arith}
 use Rattle.std.specs.List.{join_with_byte}
 use Rattle.std.proofs.Math.Pow.{pow_mono}
@@ -89,7 +89,7 @@ chain a b c d e f u v w x y z end p q r s t l none =
 abbrev transfer_with : (content last : List Bool) (stai endi strb : ℕ) (user : List Bool) → Transfer
 transfer_with content last stai endi strb user = record { content = content; last = last; stai = stai; endi = endi; strb = strb; user = user }
 
--- what was read of the words of a transfer
+-- the transfer that was read of words
 pub record TransferRead (p : Parameters) (words : List (List ℕ)) (t : Transfer) : Type 0 where
   pub spelled : words ≡ transfer_words p t
   pub shows : Shows p t
@@ -160,14 +160,14 @@ payload_of-none p words found t false none e is =
     let dash = kept (is_dash words) (Ok []) tt found (rw none at e) in
     is_dash-some words dash.0 ∙ ap or_dash (sym ((signals p t).1 none))
 
--- ---- what a cycle shows
+-- ---- the transfer that a cycle shows
 
 pub shown_of-spelled : (p : Parameters) (shown : Option Transfer) → p.lanes ≤ 128 → ((t : Transfer) → shown ≡ Some t → Shows p t) → shown_of p (is_some shown) (payload_words p shown) ≡ Ok shown
 unfolding shown_of
 shown_of-spelled p None few each = refl
 shown_of-spelled p (Some t) few each = rw (payload_of-by p t (has_payload p) refl, transfer_of-spelled p t few (each t refl)) refl
 
--- what was read of what a cycle shows
+-- the shown transfer that was read of words, where there is one
 pub record ShownRead (p : Parameters) (valid : Bool) (words : List (List ℕ)) (shown : Option Transfer) : Type 0 where
   pub spelled : words ≡ payload_words p shown
   pub valid_is : is_some shown ≡ valid
@@ -209,7 +209,7 @@ cycle_of_words-spelled : (p : Parameters) (cycle : Cycle) → p.lanes ≤ 128 �
 unfolding cycle_of_words
 cycle_of_words-spelled p cycle few each = rw (bit_of-spelled (is_some cycle.shown), bit_of-spelled cycle.ready, shown_of-spelled p cycle.shown few each) refl
 
--- what was read of the words of a row
+-- the cycle that was read of the words of a row
 pub record RowRead (p : Parameters) (words : List (List ℕ)) (cycle : Cycle) : Type 0 where
   pub spelled : words ≡ row_words p cycle
   pub shows : (t : Transfer) → cycle.shown ≡ Some t → Shows p t
@@ -275,7 +275,7 @@ unfolding row_at row_of
 row_at-spelled number p cycle few each =
     rw (words_of-plain (row_words p cycle) (omega arith) (row_words-plain p cycle few each), cycle_of_words-spelled p cycle few each) refl
 
--- what was read of a line
+-- the cycle that was read of a line
 pub record LineRead (p : Parameters) (line : List ℕ) (cycle : Cycle) : Type 0 where
   pub spelled : line ≡ row_line p cycle
   pub shows : (t : Transfer) → cycle.shown ≡ Some t → Shows p t

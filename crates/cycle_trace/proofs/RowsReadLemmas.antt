@@ -60,7 +60,7 @@ module _ (rows : RowsRead) (t : TraceText) (h : ReadsRows rows t) where
   pub wants : (row : Cycle) → CanTake t row → rows.got < rows.want
   wants row can = omega (arith, h.got, h.want, length-owed_heads t, slice_get_within (owed (params_of_heads t.heads) t.cycles) (length t.rows) can.params can.turn)
 
-  -- a row is wanted of some stream
+  -- some stream needs a row
   pub turn_params : rows.got < rows.want → (p : Parameters) × (slice_get (owed (params_of_heads t.heads) t.cycles) (length t.rows) ≡ Some p)
   turn_params less =
       slice_get-there (owed (params_of_heads t.heads) t.cycles) (length t.rows) (omega (arith, h.got, h.want, length-owed_heads t))
@@ -81,7 +81,7 @@ module _ (rows : RowsRead) (t : TraceText) (h : ReadsRows rows t) where
       let same : old.layout.params ≡ has.head.params = let e = sym here ∙ ap (λ (ps : List Parameters). slice_get ps rows.stream) h.params ∙ head in cc in
       same ∙ has.params
 
--- what a row shows can be taken
+-- the sink can take the transfer that a row shows
 pub can_take : (t : TraceText) (number : ℕ) (p : Parameters) (line : List ℕ) (row : Cycle) → slice_get (owed (params_of_heads t.heads) t.cycles) (length t.rows) ≡ Some p → row_at number p line ≡ Ok row → CanTake t row
 can_take t number p line row turn read = record { params = p; turn = turn; shown = by_shown row.shown (row_at-some number p line row read).shows }
   where
@@ -104,7 +104,7 @@ ReadsRows-more rows next t row h can streams want got room stream = record {
   room = room ∙ h.room;
 }
 
--- the faults of rows are no want of memory
+-- the errors of rows are no want of memory
 pub gives_here : (p q : Parameters) (number : ℕ) (line : List ℕ) (view : RowBits → Cycle) (other : RowBits → Cycle) (result : Result RowBits TraceFault) → p ≡ q → ((bits : RowBits) → view bits ≡ other bits)
     → Gives fault_in view result (row_at number p line) → Gives fault_in other result (row_at number q line)
 gives_here p q number line view other (Ok bits) same views h = sym (ap (λ (x : Parameters). row_at number x line) same) ∙ h ∙ ap Ok (views bits)

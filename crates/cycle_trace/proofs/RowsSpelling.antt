@@ -1,4 +1,4 @@
--- The rows of a trace text: what is spelled is read, and what is read is spelled so.
+-- The rows of a trace text: each spelling is read, and each text that is read is a spelling.
 use Rattle.std.proofs.Common.{◌≡◌, ℕ, zero, suc, ◌<◌, ◌≤◌, Bool, true, nat_le, List, [], ◌∷◌, ◌++◌, length, Some, Result, Ok, append_assoc, refl, sym, ap, ◌∙◌, arith}
 use Rattle.std.specs.List.{list_all, join_with_byte, slice_get}
 use Rattle.std.proofs.lemmas.Bool.Decides.{nat_tests}
@@ -79,7 +79,7 @@ rows_from-spelled want got number (p ∷ streams) (cycle ∷ cycles) lanes shown
     ∙ rows_from-cons want got number p streams (row_line p cycle) lines (some_line (rows_text streams cycles))
     ∙ rw (row, rest) refl
 
--- what was read of the lines of rows
+-- the cycles that were read of the lines of rows
 pub record RowsRead (streams : List Parameters) (lines : List (List ℕ)) (cycles : List Cycle) : Type 0 where
   pub spelled : join_with_byte 10 lines ≡ rows_text streams cycles
   pub shown : AreShown streams cycles

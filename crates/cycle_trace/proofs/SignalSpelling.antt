@@ -1,4 +1,4 @@
--- The signals of a row: what is spelled is read, and what is read is spelled so.
+-- The signals of a row: each spelling is read, and each text that is read is a spelling.
 use Rattle.std.proofs.Common.{◌≡◌, ℕ, ◌+◌, ◌-◌, ◌^◌, ◌<◌, ◌≤◌, Bool, true, false, ◌&&◌, eqb, nat_le, nat_lt, List, [], ◌∷◌, ◌++◌, length, Result, Ok, Err, cond, refl, sym, ap, ◌∙◌, arith}
 use Rattle.std.specs.Fmt.{decimal}
 use Rattle.std.proofs.Math.Pow.{pow_mono}
@@ -58,7 +58,7 @@ unfolding word_field
 word_field-spelled false key width bits words rest wide none e = rw (e, ← no_bits bits width wide (none refl)) refl
 word_field-spelled true key width bits words rest wide none e = rw (e, value_of-spelled key (hex_of bits) rest, ← wide, word_at-hex_of bits) refl
 
--- what was read of a word of bits
+-- the bits that were read of a word
 pub record WordRead (present : Bool) (key width : ℕ) (words : List (List ℕ)) (x : List Bool × List (List ℕ)) : Type 0 where
   pub spelled : words ≡ signal_words present key (hex_of x.0) ++ x.1
   pub wide : length x.0 ≡ width
@@ -109,7 +109,7 @@ unfolding index_field
 index_field-spelled false key width default n words rest below few absent e = rw (e, absent refl) refl
 index_field-spelled true key width default n words rest below few absent e = rw (e, value_of-spelled key (decimal n) rest, index_of-spelled width n below few) refl
 
--- what was read of a number that is spelled so
+-- the number that was read of a word that spells it so
 pub record NumberRead (text : ℕ → List ℕ) (present : Bool) (key width default : ℕ) (words : List (List ℕ)) (x : ℕ × List (List ℕ)) : Type 0 where
   pub spelled : words ≡ signal_words present key (text x.0) ++ x.1
   pub below : x.0 < 2 ^ width

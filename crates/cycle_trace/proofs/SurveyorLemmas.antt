@@ -32,7 +32,7 @@ shows_fit p (Some t) shows = shows.fits
 
 -- ---- the turn
 
--- the stream whose turn it is, where a row is wanted
+-- the stream whose turn it is, where a row is needed
 pub record HasTurn (t : TraceText) (cycle stream : ℕ) (p : Parameters) : Type 0 where
   pub in_cycles : cycle < t.cycles
   pub in_streams : stream < length t.heads
@@ -69,7 +69,7 @@ module _ (t : TraceText) (cycle stream : ℕ) (next : IsNextRow t cycle stream) 
   added : AddsOffences (offends_in t) (offends_in (with_row t row)) cycle stream Broken
   added = adds t cycle stream next.place turn.in_streams turn.in_cycles row turn.head turn.there
 
-  -- what the survey so far says stays so where an offence was found
+  -- the answer of the survey so far stays where an offence was found
   pub RowsSay-found : (checkers new : List Checker) (found : FoundOffence) → RowsSay (offends_in t) t checkers (Some found) → RowsSay (offends_in (with_row t row)) (with_row t row) new (Some found)
   RowsSay-found checkers new found says = IsFirst-stays (offends_in t) (offends_in (with_row t row)) cycle stream Broken added (offence_of found) says
 

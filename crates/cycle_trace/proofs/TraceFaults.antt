@@ -1,4 +1,4 @@
--- A trace text is never at fault for want of memory.
+-- The fault of a trace text is never want of memory.
 use Rattle.std.proofs.Common.{◌≡◌, ℕ, suc, List, [], ◌∷◌, Result, Ok, Err, IsSome, refl}
 use Rattle.std.proofs.lemmas.Bool.{cond_both}
 use Rattle.tydi_base.proofs.ReadingLaws.{FaultsAre, faults_are}
@@ -56,7 +56,7 @@ rows_from-calm want got number (p ∷ streams) ((byte ∷ cut) ∷ []) = search 
 rows_from-calm want got number (p ∷ streams) (line ∷ next ∷ lines) =
     search (faults_are, row_at-calm number p line (row_of p line) refl, rows_from-calm want (suc got) (suc number) streams (next ∷ lines))
 
--- a trace text is never at fault for want of memory
+-- the fault of a trace text is never want of memory
 pub trace_free : (text : List ℕ) → trace_of text ≡ Err faults.Memory → ⊥
 unfolding trace_of trace_from
 trace_free text = let all : FaultsAre Calm (trace_of text) = search (faults_are, header_start_of-calm, rows_from-calm) in not_memory (trace_of text) all.are

@@ -1,4 +1,4 @@
--- The text of a trace: what is spelled is read, and what is read is spelled so.
+-- The text of a trace: each spelling is read, and each text that is read is a spelling.
 use Rattle.std.proofs.Common.{◌≡◌, ℕ, ◌+◌, ◌*◌, ◌^◌, ◌<◌, ◌≤◌, Bool, true, false, cond, nat_le, nat_eq, List, [], ◌∷◌, ◌++◌, length, drop, Result, Ok, Err, append_assoc, All, refl, sym, ap, ◌∙◌, arith}
 use Rattle.std.specs.Prelude.{codes}
 use Rattle.std.specs.Fmt.{decimal}
@@ -81,7 +81,7 @@ unfolding header_start_of header_start_after
 header_start_of-cons version [] cycles found below some e = absurd (omega arith)
 header_start_of-cons version (next ∷ lines) cycles found below some e = rw (title_of-spelled version, count_of_cycles-spelled cycles below, e) refl
 
--- what was read of the header that lines start with
+-- the header that was read of the first lines
 record HeaderStartRead (lines : List (List ℕ)) (start : HeaderStart) : Type 0 where
   version : Version
   spelled : join_with_byte 10 lines ≡ header_text version start.cycles start.heads ++ join_with_byte 10 start.lines
@@ -180,7 +180,7 @@ trace_of-spelled version t h each fits =
     ∙ ap (λ (read : Result HeaderStart TraceFault). read >>= trace_from) start
     ∙ trace_from-spelled t (lines_of rows) few read
 
--- what is read after that header
+-- the trace that is read after that header
 trace_from-some : (start : HeaderStart) (text : List ℕ) (t : TraceText) → HeaderStartRead (lines_of text) start → trace_from start ≡ Ok t → IsTrace t × IsTextOf text t × All IsHead t.heads
 unfolding trace_from
 trace_from-some start text t h e =

@@ -1,4 +1,4 @@
--- What is known of every text that begins with the bytes so far (this project's own). `begun` is the line that is begun, without
+-- Facts about every text that begins with the bytes so far (this project's own). `begun` is the unfinished last line, without
 -- an LF: the lines before it are read.
 use Rattle.std.specs.Prelude.{◌≡◌, ℕ, ◌+◌, ◌*◌, ◌≤◌, List, [], ◌∷◌, ◌++◌, length, drop, Result, Ok, Err, MatchOption}
 use Rattle.std.specs.declared.vec.Vec.{Vec}

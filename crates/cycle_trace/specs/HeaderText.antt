@@ -23,7 +23,7 @@ head_after version paths line = head_of line >>= λ head.
 abbrev pub is_head_line : List ℕ → Bool
 is_head_line line = starts_with nat_eq line (codes "stream ")
 
--- what a reading that gives a value or nothing gives as a reading of the line of this number
+-- the result of a reading as that of the line of this number: the value, or the error at that line
 abbrev pub in_header : {A : Type 0} → ℕ → Result A (Unit {0}) → Result A TraceFault
 in_header line (Ok x) = Ok x
 in_header line (Err e) = Err (BadHeader line)

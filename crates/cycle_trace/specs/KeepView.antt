@@ -1,4 +1,4 @@
--- What a trace that is kept stands for (this project's own).
+-- The trace that a kept trace stands for (this project's own).
 use Rattle.std.specs.Prelude.{◌≡◌, ℕ, ◌≤◌, true, length, slice_get, Option, Some, None}
 use Rattle.physical_stream.specs.Params.{Parameters}
 use Rattle.physical_stream.specs.Signals.{Shows}

@@ -1,4 +1,4 @@
--- What a reader of traces stands for: the bytes that it was fed (this project's own).
+-- A reader of traces stands for the bytes that it was fed (this project's own).
 use Rattle.std.specs.Prelude.{◌≡◌, ◌⊎◌, ℕ, ◌*◌, ◌<◌, ◌≤◌, Bool, true, false, is_some, List, [], ◌∷◌, ◌++◌, length, map, slice_get, if◌then◌else◌, Option, Some, None, Result, Ok, Err}
 use Rattle.std.specs.Option.{option_map}
 use Rattle.tydi_base.specs.Pieces.{Lacks, lines_of}
@@ -56,7 +56,7 @@ OpensText text line bytes = OpensWith bytes line text.version text.cycles text.h
 abbrev pub header_read : TextRead → TraceText
 header_read text = begun text.cycles text.heads
 
--- what is known where the line that is begun is this
+-- the facts known where this is the line that is begun
 abbrev pub StandsAt : {K : Type 0} → (K → Option TraceText → Type 0) → K → TextRead → Stage → (line bytes : List ℕ) → Type 0
 StandsAt stands sink text stages.Title line bytes = stands sink None × Lacks 10 line × HasNoHeads text × Opens bytes line header_start_of
 StandsAt stands sink text stages.Cycles line bytes = stands sink None × Lacks 10 line × HasNoHeads text × Opens bytes line (header_start_after text.version)
@@ -103,7 +103,7 @@ is_past_header stages.Rows = true
 is_past_header (stages.Failed fault) = is_some (fault_in fault)
 is_past_header stage = false
 
--- that stays so, where the sink is fixed
+-- a stage after the header, without want of memory, stays one, where the sink is fixed
 abbrev pub StaysCalm : Bool → (old new : Stage) → Type 0
 StaysCalm fixed old new = fixed ≡ true → is_past_header old ≡ true → is_past_header new ≡ true
 
@@ -125,7 +125,7 @@ pub record EndsInHeader (bytes : List ℕ) : Type 0 where
 abbrev pub MayLackMemory : TextRead → List ℕ → Type 0
 MayLackMemory text bytes = (text.stage ≡ stages.Failed Memory) ⊎ EndsInHeader bytes
 
--- after a line: what is known where the next one begins, or the fault of every text that begins so
+-- after a line: what is known where the next one begins, or the error of every text that begins so
 abbrev pub AfterLine : {K : Type 0} → (K → Option TraceText → Type 0) → K → TextRead → List ℕ → Result (Unit {0}) TraceFault → Type 0
 AfterLine stands sink text bytes (Ok fine) = Stands stands sink text [] (bytes ++ 10 ∷ [])
 AfterLine stands sink text bytes (Err e) = Fails (bytes ++ 10 ∷ []) e

@@ -1,5 +1,5 @@
--- How far a line has the form of a row (this project's own). Of a line that is read up to here, `words` are the words of what is
--- left: the first of them is the rest of the word that is begun.
+-- How far a line has the form of a row (this project's own). For a line that is read up to here, `words` are the words of the
+-- rest; the first of them is the rest of the word that is begun.
 use Rattle.std.specs.Prelude.{◌≡◌, ℕ, Bool, true, false, ◌==◌, ◌&&◌, nat_le, if◌then◌else◌, List, [], ◌∷◌, ◌++◌, length, drop, codes, is_some}
 use Rattle.std.specs.Char.{is_ascii_digit}
 use Rattle.std.specs.List.{list_all}

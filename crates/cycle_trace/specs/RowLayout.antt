@@ -1,4 +1,4 @@
--- What reading a row knows of its stream (this project's own).
+-- The facts about a stream that the reader of its rows uses (this project's own).
 use Rattle.std.specs.Prelude.{◌≡◌, ℕ, ◌-◌, ◌+◌, ◌*◌, ◌/◌, ◌^◌, ◌≤◌, max, Bool, ◌||◌, List, [], ◌∷◌, is_some}
 use Rattle.tydi_base.specs.Width.{index_width}
 use Rattle.physical_stream.specs.Params.{Parameters}

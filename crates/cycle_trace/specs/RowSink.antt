@@ -1,4 +1,4 @@
--- What a sink of rows stands for: a header and the rows so far, which may be fewer than the header asks for (this project's own).
+-- A sink of rows stands for a header and the rows so far, which may be fewer than the header asks for (this project's own).
 use Rattle.std.specs.Prelude.{◌≡◌, ◌≤◌, true, [], ◌∷◌, ◌++◌, length, slice_get, Some, IfSome}
 use Rattle.physical_stream.specs.Params.{Parameters}
 use Rattle.physical_stream.specs.Signals.{Shows}
@@ -19,7 +19,7 @@ pub record IsHeader (header : Header) : Type 0 where
   pub few_cycles : header.cycles ≤ most_cycles
   pub streams : are_heads header.heads ≡ true
 
--- a row is wanted still, and this one can be shown by the stream whose turn it is
+-- one more row is needed, and this one can be shown by the stream whose turn it is
 pub record CanTake (t : TraceText) (row : Cycle) : Type 0 where
   pub params : Parameters
   pub turn : slice_get (owed (params_of_heads t.heads) t.cycles) (length t.rows) ≡ Some params

@@ -81,7 +81,7 @@ is_dash words = false
 unfoldable pub payload_of : Parameters → List (List ℕ) → Result (List (List ℕ)) (Unit {0})
 payload_of p words = if has_payload p then Ok words else (if is_dash words then Ok [] else Err tt)
 
--- what a cycle shows
+-- the transfer that a cycle shows, or none
 unfoldable pub shown_of : Parameters → Bool → List (List ℕ) → Result (Option Transfer) (Unit {0})
 shown_of p false words = if is_dash words then Ok None else Err tt
 shown_of p true words = do

@@ -61,8 +61,8 @@ rows_text streams cycles = []
 abbrev pub trace_text : Version → TraceText → List ℕ
 trace_text version t = header_text version t.cycles t.heads ++ rows_text (owed (params_of_heads t.heads) t.cycles) t.rows
 
--- what spells a trace in a version that its levels may stand in is read as that trace: in the second any trace, in the first one
--- each of whose levels has one number
+-- a text of a trace, in a version that can state its levels, is read as that trace: the second version can state any trace, the
+-- first one a trace each of whose levels has one number
 abbrev pub TracesAreReadAsSpelled : Type 0
 TracesAreReadAsSpelled = (version : Version) (t : TraceText) → IsTrace t → All IsHead t.heads → may_have version t.heads ≡ true → trace_of (trace_text version t) ≡ Ok t
 
@@ -72,6 +72,6 @@ pub record IsTextOf (text : List ℕ) (t : TraceText) : Type 0 where
   pub fits : may_have version t.heads ≡ true
   pub spelled : text ≡ trace_text version t
 
--- what is read as a trace is a text of it
+-- a text that is read as a trace is a text of it
 abbrev pub TracesAreSpelledAsRead : Type 0
 TracesAreSpelledAsRead = (text : List ℕ) (t : TraceText) → trace_of text ≡ Ok t → IsTrace t × IsTextOf text t × All IsHead t.heads

@@ -1,4 +1,4 @@
--- What a survey says of the streams of a trace (this project's own).
+-- The answer of a survey about the streams of a trace (this project's own).
 use Rattle.std.specs.Prelude.{◌≡◌, ◌⊎◌, ℕ, suc, Bool, nat_le, nat_lt, ◌==◌, if◌then◌else◌, List, [], ◌∷◌, map, Option, Some, None, Result, Ok, Err}
 use Rattle.physical_stream.specs.Cycles.{StreamTrace}
 use Rattle.physical_stream.specs.First.{Offence, IsFirst}
@@ -37,20 +37,20 @@ survey_of (Some o) unfinished counts = Err (faults.Offence o.cycle o.stream o.ru
 survey_of None (Some u) counts = Err (faults.Unfinished u.stream u.end)
 survey_of None None counts = Ok counts
 
--- what a survey of these streams finds. What offends is handed in, since the rule on tags needs types.
+-- the result of a survey of these streams. The caller passes what counts as an offence, since the rule on tags needs types.
 pub record Surveys (Offends : Offence → Type 0) (streams : List StreamTrace) (found : Result Counts SurveyFault) : Type 0 where
   pub first : Option Offence
   pub is_first : IsFirst Offends first
   pub says : found ≡ survey_of first (first_unfinished 0 streams) (counts_of streams)
 
--- what a survey answers: what it finds, want of memory aside
+-- the answer of a survey: its result, want of memory aside
 abbrev pub Answers : (Offence → Type 0) → List StreamTrace → Result Counts SurveyFault → Type 0
 Answers Offends streams (Err faults.Memory) = Unit {0}
 Answers Offends streams found = Surveys Offends streams found
 
 -- ---- a second kind of rule beside those of the survey, as the rule on tags
 
--- what offends by one kind of rule or by another
+-- an offence by one kind of rule or by another
 abbrev pub OffendsByEither : (Offence → Type 0) → (Offence → Type 0) → Offence → Type 0
 OffendsByEither One Other o = One o ⊎ Other o
 
@@ -67,7 +67,7 @@ earlier_of a b = if is_not_after a b then a else b
 abbrev pub offence_fault : Offence → Result Counts SurveyFault
 offence_fault o = Err (faults.Offence o.cycle o.stream o.rule)
 
--- what a survey finds where also the first offence of the second kind is looked at
+-- the result of a survey that also takes the first offence of the second kind
 abbrev pub found_with : Result Counts SurveyFault → Option Offence → Result Counts SurveyFault
 found_with found None = found
 found_with (Err faults.Memory) (Some other) = Err faults.Memory

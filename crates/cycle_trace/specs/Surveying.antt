@@ -35,7 +35,7 @@ unseen head = record { params = head.params; cycles = [] }
 abbrev pub offends_in : TraceText → Offence → Type 0
 offends_in t = Offends (streams_of t)
 
--- what the rows so far say, by what offends: nothing does, and the checkers stand for the rows; or this is the first offence
+-- the answer for the rows so far: there is no offence, and the checkers stand for the rows; or this is the first offence
 abbrev pub RowsSay : (Offence → Type 0) → TraceText → List Checker → Option FoundOffence → Type 0
 RowsSay Offends t checkers None = AreChecked (streams_of t) checkers × IsFirst Offends None
 RowsSay Offends t checkers (Some found) = IsFirst Offends (Some (offence_of found))
@@ -45,7 +45,7 @@ pub record IsNextRow (t : TraceText) (cycle stream : ℕ) : Type 0 where
   pub place : length t.rows ≡ cycle * length t.heads + stream
   pub within : 0 < length t.heads → stream < length t.heads
 
--- what a survey keeps of a header and the rows so far
+-- the state that a survey keeps of a header and the rows so far
 pub record SurveysRows (t : TraceText) (header : Header) (checkers : List Checker) (cycle stream : ℕ) (found : Option FoundOffence) : Type 0 where
   pub cycles : header.cycles ≡ t.cycles
   pub heads : header.heads ≡ t.heads

@@ -1,4 +1,4 @@
--- What a survey of rows stands for (this project's own).
+-- The rows that a survey stands for (this project's own).
 use Rattle.std.specs.Prelude.{◌≡◌, Option, Some, None}
 use Rattle.cycle_trace.specs.Survey.{Answers}
 use Rattle.cycle_trace.specs.Surveying.{RowsSay, SurveysRows, offends_in}

@@ -13,7 +13,7 @@ use Rattle.physical_stream.specs.declared.head.Head.{Head}
 use Rattle.physical_stream.specs.declared.head.Header.{Header}
 use Rattle.cycle_trace.specs.declared.own_row.OwnRow.{OwnRow}
 
--- what a trace says: its header, and its rows, by cycle and in each cycle by stream
+-- a trace as plain data: its header, and its rows, by cycle and in each cycle by stream
 pub record TraceText : Type 0 where
   pub cycles : ℕ
   pub heads : List Head
@@ -26,7 +26,7 @@ cycle_of row = record { ready = row.ready; shown = row.shown }
 abbrev pub cycles_of : List OwnRow → List Cycle
 cycles_of rows = map cycle_of rows
 
--- what a header and its rows say, apart from where they lie in memory
+-- the plain data of a header and its rows, apart from where they lie in memory
 abbrev pub text_of : Header → List OwnRow → TraceText
 text_of header rows = record { cycles = header.cycles; heads = header.heads; rows = cycles_of rows }
 

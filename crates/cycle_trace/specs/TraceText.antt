@@ -11,7 +11,7 @@ use Rattle.cycle_trace.specs.Trace.{TraceText, most_cycles, params_of_heads, owe
 use Rattle.cycle_trace.specs.HeaderText.{HeaderStart, header_start_of}
 use Rattle.cycle_trace.specs.RowText.{row_at}
 
--- the rows that are owed, each with its LF, and nothing after them. So many rows are wanted in all and so many were got before
+-- the rows that are owed, each with its LF, and nothing after them. So many rows are needed in all and so many were read before
 -- these; the first of the lines has this number. The last of the lines has no LF.
 abbrev pub rows_from : (want got number : ℕ) → List Parameters → List (List ℕ) → Result (List Cycle) TraceFault
 rows_from want got number [] [] = Ok []

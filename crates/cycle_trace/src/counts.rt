@@ -4,10 +4,10 @@ ghost use Rattle.std.specs.Prelude.{◌≡◌};
 use physical_stream::{End, Rule};
 use tydi_base::{List, Memory};
 
-/// What each stream of a trace has done: its transfers and its packets.
+/// The numbers of transfers and of packets that each stream of a trace has done.
 #[derive(Debug, Drop)]
 pub struct Counts {
-    /// For each stream, in the order of the header.
+    /// The transfers and the packets of each stream, in the order of the header.
     pub streams: List<(u64, u64)>,
 }
 

@@ -32,7 +32,7 @@ pub(crate) fn read_title(line: &[u8]) -> Result<Version, NotForm>
     }
 }
 
-/// The fault of the header line of this number, of which this is what kept it from being read.
+/// The error of the header line of this number, which was not read for this reason.
 fn header_fault(line: u64, misspelling: Misspelling) -> TraceFault
     ensures { fault_in result ≡ header_fault line (misspelling_in misspelling) }
 {

@@ -60,7 +60,7 @@ impl Kept {
         })
     }
 
-    /// One row more.
+    /// Adds one more row.
     fn push(&mut self, alloc: Global, row: Row<'_>) -> Result<(), Memory>
         ensures { (t : TraceText) → KeptStands self.old t → CanTake t (cycle_in row.entry) → OnOk result (KeptStands self.new (with_row t (cycle_in row.entry))) }
     {

@@ -35,12 +35,5 @@ fn head_is_in_form(head: &Head)
 fn level_is_in_form(level: Level)
     ensures { IsLevel level }
 {
-    let numbers = level.numbers();
-    byte_is_in_range(numbers[1]);
-    byte_is_in_range(numbers[2]);
-    byte_is_in_range(numbers[3]);
+    let _numbers = level.numbers();
 }
-
-fn byte_is_in_range(_byte: u8)
-    ensures { _byte ≤ 255 }
-{}

@@ -6,7 +6,7 @@ use std::alloc::Global;
 use tydi_base::Memory;
 
 /// The line that is begun. One of the header is kept as it comes. For the rows there is room for the longest of them, which is taken
-/// when the header ends; of a line that is longer only the form is judged.
+/// when the header ends; a longer line is judged only by its form.
 #[derive(Drop)]
 pub(crate) struct LineBegun {
     /// The bytes of a line that is not longer than any row.

@@ -46,7 +46,7 @@ pub(crate) fn take_line<K: RowSink>(alloc: Global, sink: &mut K, text: &mut Text
     }
 }
 
-/// Takes a line, or tells the fault of the text.
+/// Takes a line, or reports the error of the text.
 #[inline(always)]
 fn after_line<K: RowSink>(
     alloc: Global,
@@ -148,7 +148,7 @@ fn take_row<K: RowSink>(alloc: Global, sink: &mut K, text: &mut TextRead, line: 
     }
 }
 
-/// The same, or the fault.
+/// The same, or the error.
 #[inline(always)]
 fn after_row<K: RowSink>(
     alloc: Global,
@@ -194,7 +194,7 @@ pub(crate) fn take_begun<K: RowSink>(
     }
 }
 
-/// The fault of a line that is longer than any row and has this form.
+/// The error of a line that is longer than any row and has this form.
 fn long_fault(rows: &RowsRead, form: RowForm) -> TraceFault
     requires { (t : TraceText) × ReadsRows rows.now t }
     ensures fails { (t : TraceText) (bytes line : List ℕ) → ReadsRows rows.now t → GoesOnLine bytes line t → IsLong form rows.now.room line → Fails (bytes ++ 10 ∷ []) result }
@@ -208,7 +208,7 @@ fn long_fault(rows: &RowsRead, form: RowForm) -> TraceFault
     }
 }
 
-/// The sink with the whole trace, where the text ends in this line, which has no LF; or the fault of the text.
+/// The sink with the whole trace, where the text ends in this line, which has no LF; or the error of the text.
 pub(crate) fn finish_text<K: RowSink>(
     alloc: Global,
     mut sink: K,
@@ -229,7 +229,7 @@ pub(crate) fn finish_text<K: RowSink>(
     }
 }
 
-/// The sink with the whole trace, where the header asks for no row and nothing follows it; or the fault of the text.
+/// The sink with the whole trace, where the header asks for no row and nothing follows it; or the error of the text.
 fn finish_header<K: RowSink>(
     alloc: Global,
     mut sink: K,
@@ -247,7 +247,7 @@ fn finish_header<K: RowSink>(
     Ok(sink)
 }
 
-/// The fault of a text that ends in this line, which has no LF, after its header. Where the header asks for no row and the line
+/// The error of a text that ends in this line, which has no LF, after its header. Where the header asks for no row and the line
 /// is empty, it has none.
 fn end_of_header(text: &TextRead, line: &[u8]) -> Result<(), TraceFault>
     requires few { length text.now.heads ≤ 65536 }
@@ -276,7 +276,7 @@ fn end_of_header(text: &TextRead, line: &[u8]) -> Result<(), TraceFault>
     }
 }
 
-/// The sink, where all rows are read and nothing is left; or the fault of the text.
+/// The sink, where all rows are read and nothing is left; or the error of the text.
 fn finish_rows<K: RowSink>(sink: K, rows: &RowsRead, is_empty: bool) -> Result<K, TraceFault>
     requires { (t : TraceText) × ReadsRows rows.now t }
     ensures finishes { (t : TraceText) (bytes line : List ℕ) → K.stands_for sink (Some t) → ReadsRows rows.now t → IsTrue is_empty ↔ (line ≡ [])
@@ -293,7 +293,7 @@ fn finish_rows<K: RowSink>(sink: K, rows: &RowsRead, is_empty: bool) -> Result<K
     }
 }
 
-/// The fault where no LF is left: the text ends before the row of this number of line, or in it.
+/// The error where no LF is left: the text ends before the row of this number of line, or in it.
 fn cut_row(is_empty: bool, want: u64, got: u64, number: u64) -> TraceFault
     ensures fault { (line : List ℕ) → IsTrue is_empty ↔ (line ≡ []) → result ≡ cut_row line want got number }
     ensures calm { IsSome (fault_in result) }

@@ -12,7 +12,8 @@ use crate::trace::Trace;
 use crate::trace_reader::TraceReader;
 use std::alloc::Global;
 
-/// The trace that a text of either version spells. Each error says the first fault, with its line where it has one: see `TraceFault`.
+/// The trace that a text of either version spells. Apart from `Memory`, it fails with the first error, at its line
+/// where it has one: see `TraceFault`.
 pub fn read(alloc: Global, text: &[u8]) -> Result<Trace, TraceFault>
     ensures { Gives fault_in trace_view result (trace_of text.now) }
 {

@@ -15,7 +15,7 @@ use std::alloc::Global;
 use tydi_base::Memory;
 
 impl Trace {
-    /// Gives a sink the header and all rows.
+    /// Gives a sink the header and all rows. It fails with `Memory` exactly where the sink does.
     pub fn replay<K: RowSink>(&self, alloc: Global, sink: &mut K) -> Result<(), Memory>
         requires { K.stands_for sink.old None }
         ensures { OnOk result (K.stands_for sink.new (Some (trace_view self.now))) }
@@ -32,8 +32,8 @@ impl Trace {
     }
 }
 
-/// What each stream of a trace has done by rules 1 to 10, where the trace has no offence and each stream ends whole; else the
-/// first offence, or the first stream that does not end whole.
+/// The transfers and the packets that each stream of a trace has done. It fails with the first violation of rules 1 to 10; where
+/// there is none, with the first stream that does not end whole; and with `Memory`.
 pub fn survey(alloc: Global, trace: &Trace) -> Result<Counts, SurveyFault>
     ensures { Answers (offends_in (trace_view trace.now)) (streams_of (trace_view trace.now)) result }
 {

@@ -133,7 +133,7 @@ fn strobe_field<'a>(
     }
 }
 
-/// That no word is left.
+/// Ok where no word is left, else `NotForm`.
 #[inline(always)]
 #[tactic(auto, unfolding(crate::specs::RowText::no_more))]
 fn no_more(words: WordsLeft) -> Result<(), NotForm>

@@ -14,7 +14,7 @@ use crate::fault::TraceFault;
 use crate::row_bytes::{ENDI_KEY, KEYS, ONE_BIT, STAI_KEY, ZERO_BIT};
 use tydi_base::{EQUALS, SPACE};
 
-/// What the value of a key is spelled with.
+/// The digits that spell the value of a key.
 #[derive(Clone, Copy)]
 pub(crate) enum ValueKind {
     /// Hexadecimal digits.
@@ -23,8 +23,8 @@ pub(crate) enum ValueKind {
     Index,
 }
 
-/// How far a line has the form of a row: what may come next. Keys are numbered from 0 in their order, and a form names the first
-/// that may come later.
+/// How far a line has the form of a row, and so the bytes that may come next. Keys are numbered from 0 in their order, and a form
+/// names the first that may come later.
 #[derive(Clone, Copy)]
 pub(crate) enum RowForm {
     /// The valid bit.
@@ -90,7 +90,7 @@ impl RowForm {
         }
     }
 
-    /// The form with these bytes more.
+    /// The form after these bytes too.
     pub(crate) fn after_all(self, bytes: &[u8]) -> RowForm
         ensures { (more : List ℕ) → fits result (words_of more) ≡ fits self (words_of (bytes.now ++ more)) }
     {
@@ -178,7 +178,7 @@ fn key_at(number: u8) -> u8
     KEYS[usize::from(number)]
 }
 
-/// What the value of this key is spelled with.
+/// The kind of the value of this key: stai and endi are decimal, all others hexadecimal.
 fn kind_of(key: u8) -> ValueKind
     ensures { (digits : List ℕ) → spec.is_value key digits ≡ is_spelled result digits }
 {

@@ -1,4 +1,4 @@
-//! What reading a row needs to know of its stream, found once for all its rows.
+//! The facts about a stream that its rows are read with, found once for all of them.
 
 ghost use Rattle.std.specs.Prelude.{◌≡◌};
 ghost use Rattle.tydi_base.specs.Width.{index_width};

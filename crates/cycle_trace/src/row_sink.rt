@@ -7,16 +7,16 @@ use physical_stream::{Header, Row};
 use std::alloc::Global;
 use tydi_base::Memory;
 
-/// What takes the rows of a trace as they come, by cycle and in each cycle by stream. After `Memory` it is spent: what it
-/// stands for is not known.
+/// A sink for the rows of a trace as they come, by cycle and in each cycle by stream. After `Memory` it is spent: the rows that it
+/// stands for are not known.
 pub trait RowSink: Drop {
-    /// What it stands for: nothing, or a header and the rows so far.
+    /// It stands for nothing, or for a header and the rows so far.
     ghost stands_for: { Self → Option TraceText → Type 0 };
 
     /// Whether `start` takes all the memory that is needed.
     ghost fixed: { Self → Bool };
 
-    /// Begins with the header of a trace.
+    /// Begins with the header of a trace. `Memory` comes where the sink has none for it.
     fn start(&mut self, alloc: Global, header: &Header) -> Result<(), Memory>
         requires fresh { stands_for self.old None }
         requires header { IsHeader header.now }

@@ -1,4 +1,4 @@
-//! What a survey keeps of a trace: a checker for each stream, and the first offence.
+//! The state that a survey keeps of a trace: a checker for each stream, and the first violation.
 
 ghost use Rattle.std.specs.Prelude.{◌≡◌, List, map, option_map, IfOk, None, Some};
 ghost use Rattle.physical_stream.specs.Cycles.{StreamTrace};
@@ -14,7 +14,7 @@ use physical_stream::{End, Head, Rule};
 use std::alloc::Global;
 use tydi_base::{List, Memory};
 
-/// An offence: a stream breaks a rule in a cycle.
+/// A violation: a stream breaks a rule in a cycle.
 #[derive(Clone, Copy)]
 pub struct FoundOffence {
     /// The number of the cycle, from 0.
@@ -26,7 +26,7 @@ pub struct FoundOffence {
 }
 
 impl FoundOffence {
-    /// What a survey answers that found it.
+    /// The error of a survey that found it.
     pub(crate) fn fault(self) -> SurveyFault
         ensures { result ≡ faults.Offence self.cycle self.stream self.rule }
     {
@@ -51,8 +51,8 @@ impl FoundOffence {
     }
 }
 
-/// What a survey finds where a second kind of rule is looked at beside it, as the rule on tags is. `found` is what the survey
-/// finds by its own rules, and `other` the first violation of the second kind. The answer is that of a survey by both kinds: the
+/// The result of a survey with a second kind of rule beside its own, such as the rule on tags. `found` is the result of the survey
+/// by its own rules, and `other` the first violation of the second kind. The answer is that of a survey by both kinds: the
 /// earlier of the two violations, or `found` where there is no second one. Want of memory in `found` stays.
 pub fn with_offence(
     found: Result<Counts, SurveyFault>,
@@ -120,7 +120,8 @@ pub(crate) fn checkers_of(alloc: Global, heads: &[Head]) -> Result<Vec<Checker>,
     Ok(checkers)
 }
 
-/// What the rows so far say: the first offence; else the counts, or the first stream that does not end whole.
+/// The result for the rows so far: the counts. It fails with the first violation; where there is none, with the first stream that
+/// does not end whole; and with `Memory`.
 pub(crate) fn outcome_of(
     alloc: Global,
     found: Option<FoundOffence>,

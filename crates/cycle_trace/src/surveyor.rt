@@ -41,7 +41,8 @@ impl Surveyor {
         }
     }
 
-    /// What the survey finds of a whole trace.
+    /// The counts of a whole trace. It fails with the first violation; where there is none, with the first stream that does not end
+    /// whole; and with `Memory`.
     pub fn finish(self, alloc: Global) -> Result<Counts, SurveyFault>
         requires { (t : TraceText) × SurveyorStands self (Some t) }
         ensures { (t : TraceText) → SurveyorStands self (Some t) → Answers (offends_in t) (streams_of t) result }

@@ -9,7 +9,7 @@ use std::alloc::Global;
 use std::collections::BTreeSet;
 use tydi_base::List;
 
-/// What the next line of a trace text is.
+/// The kind of the next line of a trace text.
 #[derive(Clone, Copy)]
 pub(crate) enum Stage {
     /// The first line.
@@ -20,7 +20,7 @@ pub(crate) enum Stage {
     Heads,
     /// A row, or what follows the last one.
     Rows,
-    /// It is not looked at: the text has this fault, or memory ran out.
+    /// It is not looked at: the text has this error, or memory ran out.
     Failed(TraceFault),
 }
 

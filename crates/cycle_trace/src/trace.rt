@@ -4,8 +4,8 @@ use crate::own_row::OwnRow;
 use physical_stream::Header;
 use tydi_base::List;
 
-/// A trace: the heads of its streams, and a row for each cycle and stream, by cycle and in each cycle by stream. What is shown
-/// fits its stream, and a signal that the stream lacks stands at its default.
+/// A trace: the heads of its streams, and a row for each cycle and stream, by cycle and in each cycle by stream. Each shown
+/// transfer fits its stream, and a signal that the stream lacks stands at its default.
 #[derive(Debug, Drop)]
 pub struct Trace {
     pub(crate) header: Header,

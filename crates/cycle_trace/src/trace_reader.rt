@@ -57,7 +57,7 @@ impl<K: RowSink> TraceReader<K> {
         self.outcome()
     }
 
-    /// The sink with the whole trace, or the fault of the text. It takes memory only where the text ends with a header of at most
+    /// The sink with the whole trace, or the error of the text. It takes memory only where the text ends with a header of at most
     /// 1,000,000 cycles that asks for no rows, since the sink is started then.
     pub fn finish(self, alloc: Global) -> Result<K, TraceFault>
         requires { (bytes : List ℕ) × StandsFor K.stands_for self bytes }

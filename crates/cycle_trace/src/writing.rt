@@ -86,7 +86,7 @@ fn strobe_bits(alloc: Global, lanes: u16, strb: u128) -> Result<Bits, Memory>
     }
 }
 
-/// What a stream shows: the words of its signals, or `-` where it has none, a space before each.
+/// The part of a row that shows a transfer: the words of its signals, or `-` where it has none, a space before each.
 #[derive(Clone, Copy)]
 struct Payload<'a> {
     params: &'a Params,

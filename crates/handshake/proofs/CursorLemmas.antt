@@ -1,4 +1,4 @@
--- What a cursor keeps, cycle by cycle.
+-- The state that a cursor keeps, cycle by cycle.
 use Rattle.std.proofs.Common.{◌≡◌, ◌∙◌, ℕ, zero, suc, ◌+◌, ◌-◌, ◌<◌, ◌≤◌, inl, inr, Bool, true, false, nat_le, if◌then◌else◌, List, [], ◌∷◌, ◌++◌, length, take, drop, min, slice_get, slice_index, Option, None, Some, refl, sym, ap, subst, arith, ◌↔◌, IsTrue}
 use Rattle.std.proofs.lemmas.List.{append-nil, length-append}
 use Rattle.std.proofs.lemmas.Bool.Decides.{nat_tests}

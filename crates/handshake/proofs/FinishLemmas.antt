@@ -18,7 +18,7 @@ use Rattle.handshake.proofs.RunLemmas.{run_on-more}
 pub run_of-more : (p : Parameters) (ts : List Transfer) (gaps : List ℕ) (bits : List Bool) (bit : Bool) → run_of p ts gaps (bits ++ bit ∷ []) ≡ run_of p ts gaps bits ++ next_cycle p ts gaps (run_of p ts gaps bits) bit ∷ []
 run_of-more p ts gaps bits bit = run_on-more p ts gaps [] bits bit
 
--- what holds of the run so far and the next cycle holds of the longer run, for the same stream and gaps
+-- a property of the run so far and the next cycle holds for the longer run, for the same stream and gaps
 pub run-more : (p other_p : Parameters) (ts : List Transfer) (gaps other_gaps : List ℕ) (bits : List Bool) (bit : Bool) → other_p ≡ p → other_gaps ≡ gaps → (P : List Cycle → Type 0) →
     P (run_of p ts gaps bits ++ next_cycle p ts gaps (run_of p ts gaps bits) bit ∷ []) → P (run_of other_p ts other_gaps (bits ++ bit ∷ []))
 run-more p other_p ts gaps other_gaps bits bit same_p same_gaps P holds = rw (same_p, same_gaps) (subst P (sym (run_of-more p ts gaps bits bit)) holds)
@@ -32,7 +32,7 @@ left-count ts left done count is counted = counted ∙ ap length (sym is) ∙ le
 -- ---- the number of cycles after which none is left
 
 module _ (p : Parameters) (ts : List Transfer) (gaps : List ℕ) (before ready : List Bool) where
-  -- of the numbers of cycles below a bound none, or the least, leaves no transfer
+  -- no number of cycles below a bound leaves no transfer, or this is the least that does
   abbrev pub FindsBelow : ℕ → Option ℕ → Type 0
   FindsBelow bound None = (fewer : ℕ) → fewer < bound → undone p ts gaps (before ++ take fewer ready) ≡ 0 → ⊥
   FindsBelow bound (Some number) = FinishesAfter p ts gaps before ready number

@@ -42,7 +42,7 @@ pub run_on-more : (p : Parameters) (ts : List Transfer) (gaps : List ℕ) (befor
 run_on-more p ts gaps before [] bit = refl
 run_on-more p ts gaps before (b ∷ bits) bit = run_on-more p ts gaps (before ++ next_cycle p ts gaps before b ∷ []) bits bit
 
--- what each cycle keeps holds of the run
+-- a property that each cycle keeps holds for the run
 pub run_on-keeps : (p : Parameters) (ts : List Transfer) (gaps : List ℕ) (Kept : List Cycle → Type 0) →
     ((before : List Cycle) (bit : Bool) → Kept before → Kept (before ++ next_cycle p ts gaps before bit ∷ [])) → (before : List Cycle) (bits : List Bool) → Kept before → Kept (run_on p ts gaps before bits)
 run_on-keeps p ts gaps Kept step before [] kept = kept
@@ -84,7 +84,7 @@ whole-inner p done whole broken = grind (arith, nat_tests)
 pub whole-outer : (p : Parameters) (done : List Item) → is_whole p.dims (tail_of done) ≡ true → BreaksOuterPause p done → ⊥
 whole-outer p done whole broken = let e : true ≡ false = sym whole ∙ broken.1 in cc
 
--- ---- what is shown
+-- ---- the shown transfer
 
 module _ (p : Parameters) (ts : List Transfer) (gaps : List ℕ) where
   -- nothing is shown: the gap has not passed, or no transfer is left
@@ -123,7 +123,7 @@ module _ (p : Parameters) (ts : List Transfer) (gaps : List ℕ) where
       by_test true l = refl
       by_test false l = absurd (omega (arith, l))
 
--- ---- what each cycle keeps
+-- ---- the properties that each cycle keeps
 
 pub record Sound (p : Parameters) (ts : List Transfer) (gaps : List ℕ) (before : List Cycle) : Type 0 where
   pub done : done_of before ≡ take (transfers_of before) ts
@@ -161,7 +161,7 @@ module _ (p : Parameters) (ts : List Transfer) (gaps : List ℕ) (all : AreObedi
         done_of-more before (record { ready = true; shown = Some x }) ∙ ap (λ (l : List Transfer). l ++ x ∷ []) s.done ∙ sym (take-next ts (transfers_of before) x here.is)
         ∙ ap (λ (n : ℕ). take n ts) (sym (count-next (record { ready = true; shown = Some x }) x refl))
 
-    -- what was offered and not taken is shown again
+    -- a transfer that was offered and not taken is shown again
     waits-next : (bit : Bool) (shown : Option Transfer) → ShowsAs p ts gaps before shown → (offered : Transfer) →
         waiting_of (before ++ record { ready = bit; shown = shown } ∷ []) ≡ Some offered → shown_after p ts gaps (before ++ record { ready = bit; shown = shown } ∷ []) ≡ Some offered
     waits-next true shown here offered is = let e : ◌≡◌ {A = Option Transfer} None (Some offered) = sym (waiting_of-more before (record { ready = true; shown = shown })) ∙ is in cc
@@ -174,7 +174,7 @@ module _ (p : Parameters) (ts : List Transfer) (gaps : List ℕ) (all : AreObedi
         let gap : gap_of p ts gaps (transfers_of (before ++ now ∷ [])) ≡ gap_of p ts gaps (transfers_of before) = ap (gap_of p ts gaps) count in
         shows-passed p ts gaps (before ++ now ∷ []) x (omega (arith, gap, idle, here.passed)) (ap (slice_get ts) count ∙ here.is) ∙ same
 
-    -- what is shown breaks no rule
+    -- the shown transfer breaks no rule
     hold-or-more : (rule : Rule) → (rule ≡ Hold) ⊎ (2 ≤ number_of_rule rule)
     hold-or-more Hold = inl refl
     hold-or-more Index = inr (omega arith)

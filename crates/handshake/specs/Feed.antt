@@ -1,4 +1,4 @@
--- What a feed gives (this project's own).
+-- The transfers that a feed gives (this project's own).
 use Rattle.std.specs.Prelude.{◌≡◌, Bool, true, false, List, [], ◌∷◌}
 use Rattle.physical_stream.specs.declared.transfer.Transfer.{Transfer}
 

@@ -1,4 +1,4 @@
--- What is kept of a run (this project's own).
+-- The state that is kept of a run (this project's own).
 use Rattle.std.specs.Prelude.{◌≡◌, ℕ, ◌-◌, ◌<◌, ◌⊎◌, Bool, true, false, if◌then◌else◌, List, ◌∷◌, length, take, drop, min, slice_index, Option, Some, None, ◌==◌}
 use Rattle.physical_stream.specs.Params.{Parameters}
 use Rattle.physical_stream.specs.Cycles.{Cycle, done_of, items_done}
@@ -13,7 +13,7 @@ use Rattle.complexity_rules.specs.Pauses.{pauses_after}
 abbrev pub left_of : Bool → Transfer → List Transfer → List Transfer
 left_of holds held rest = if holds then held ∷ rest else rest
 
--- what is kept of these cycles of the run of these transfers with these gaps
+-- the state kept of these cycles of the run of these transfers with these gaps
 pub record Keeps (p : Parameters) (ts : List Transfer) (gaps : List ℕ) (cycles : List Cycle) (rest : List Transfer) (holds : Bool) (held : Transfer)
     (pause place : ℕ) (last : Option Tail) : Type 0 where
   pub left : drop (transfers_of cycles) ts ≡ left_of holds held rest

@@ -1,4 +1,4 @@
--- What holds of all runs (this project's own).
+-- The laws of all runs (this project's own).
 use Rattle.std.specs.Prelude.{◌≡◌, ℕ, Bool, true, List, [], ◌∷◌, ◌++◌, length, None, zero, suc, ◌+◌, ◌≤◌, false}
 use Rattle.physical_stream.specs.Params.{Parameters}
 use Rattle.physical_stream.specs.Counts.{transfers_of}

@@ -25,7 +25,7 @@ idle_over idle (c ∷ more) = idle_over (if is_done c then 0 else suc idle) more
 abbrev pub idle_of : List Cycle → ℕ
 idle_of cycles = idle_over 0 cycles
 
--- what is shown after these cycles: the first transfer that is not done, where there is one and its gap has passed
+-- the transfer shown after these cycles: the first that is not done, where there is one and its gap has passed
 abbrev pub shown_after : Parameters → List Transfer → List ℕ → List Cycle → Option Transfer
 shown_after p ts gaps before = if nat_le (gap_of p ts gaps (transfers_of before)) (idle_of before) then slice_get ts (transfers_of before) else None
 

@@ -7,7 +7,7 @@ ghost use Rattle.handshake.specs.Rows.{FirstRow, rows_behind};
 
 use physical_stream::Row;
 
-/// A source of the rows of a port, by cycle and then by stream, as often as they are wanted. It takes no memory.
+/// A source of the rows of a port, by cycle and then by stream, as often as they are asked for. It takes no memory.
 pub trait CycleFeed: Drop {
     /// The rows that are left.
     ghost rows: { Self → List Cycle };

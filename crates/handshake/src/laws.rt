@@ -1,4 +1,4 @@
-//! What holds of all runs.
+//! The laws of all runs.
 
 ghost use Rattle.handshake.specs.Laws.{OneRunIs, RunsAreLegal, RunsEndWhole, RunsFinish};
 

@@ -33,7 +33,7 @@ impl<F: TransferFeed> PortRun<F> {
         }
     }
 
-    /// Makes the next row: of which stream it is, and what it shows. None exactly where no row is left.
+    /// Makes the next row: its stream, its ready bit, and whether it shows the held transfer. None exactly where no row is left.
     pub(crate) fn turn(&mut self) -> Option<Turn>
         ensures first { FirstTurn (rows_after (runs_in F.rest F.whole self.old.cursors.items self.old.ready) self.old.stream self.old.number self.old.many) self.new.cursors.items result }
         ensures rows { rows_after (runs_in F.rest F.whole self.new.cursors.items self.new.ready) self.new.stream self.new.number self.new.many

@@ -1,4 +1,4 @@
--- The faults of a type by its kind, and which of them a run of tests tells first.
+-- The errors of a type by its kind, and the one that a run of tests reports first.
 use Rattle.std.proofs.Common.{◌≡◌, ℕ, ◌+◌, ◌<◌, ◌≤◌, Bool, true, false, cond, ltb, eqb, List, [], ◌∷◌, ◌++◌, length, get_or, drop, Some, Result, refl, sym, ap, ◌∙◌, subst, arith}
 use Rattle.std.specs.List.{flat_map, slice_get}
 use Rattle.std.proofs.lemmas.Grind.{flat_map-append}
@@ -25,7 +25,7 @@ passed test more rest fails = ap (λ b. cond b more rest) fails
 pub first-of : (found rest : List TypeFault) (fault : TypeFault) → found ≡ rest → slice_get rest 0 ≡ Some fault → slice_get found 0 ≡ Some fault
 first-of found rest fault same first = ap (λ (l : List TypeFault). slice_get l 0) same ∙ first
 
--- ---- what is told of faults one after another
+-- ---- the one that is reported of errors one after another
 
 pub first-front : (front back : List TypeFault) (fault : TypeFault) → slice_get front 0 ≡ Some fault → slice_get (front ++ back) 0 ≡ Some fault
 first-front [] back fault first = cc
@@ -64,14 +64,14 @@ pub is_empty_union-some : (parts : List Part) → false ≡ eqb (length parts) 0
 is_empty_union-some [] some = sym some
 is_empty_union-some (first ∷ more) some = refl
 
--- the faults of a Stream itself: of its rate, and then of its user type
+-- the errors of a Stream itself: of its rate, and then of its user type
 pub faults_at-stream : (around : Around) (element user : Ltype) (settings : Settings)
     → faults_at (record { around = around; ltype = stream element user settings }) ≡ rate_faults around settings ++ cond (has_stream user) (faults.UserHasStream ∷ []) []
 faults_at-stream around element user settings =
     filter-append (has_fault (record { around = around; ltype = stream element user settings }))
     (faults.BadThroughput ∷ faults.TooManyLanes ∷ faults.TooManyDims ∷ []) (faults.UserHasStream ∷ [])
 
--- all faults of a Stream
+-- all errors of a Stream
 pub faults_within-stream : (around : Around) (element user : Ltype) (settings : Settings)
     → faults_within around (stream element user settings)
     ≡ (rate_faults around settings ++ cond (has_stream user) (faults.UserHasStream ∷ []) []) ++ (faults_within (inside around settings) element ++ faults_within (inside around settings) user)

@@ -87,7 +87,7 @@ any-found test [] at (suc end) name within whole is found = absurd (omega arith)
 any-found test (first ∷ names) zero (suc end) name within whole is found = ap (λ n. test n || list_any test (take end names)) (sym is) ∙ ap (λ b. b || list_any test (take end names)) found
 any-found test (first ∷ names) (suc at) (suc end) name within whole is found = or_right (test first) _ (any-found test names at end name (omega arith) (omega arith) is found)
 
--- what the code tests of two names
+-- the test of two names in the code
 pub same_name : (found : Bool) (one other : List ℕ) → (found ≡ true → map to_ascii_lowercase one ≡ map to_ascii_lowercase other) → (map to_ascii_lowercase one ≡ map to_ascii_lowercase other → found ≡ true)
     → is_same_name one other ≡ found
 same_name true one other there back = (bytes_eq-Decides (map to_ascii_lowercase one) (map to_ascii_lowercase other)).1 (there refl)

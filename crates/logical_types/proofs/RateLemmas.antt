@@ -17,19 +17,19 @@ use Rattle.logical_types.proofs.ThroughputLemmas.{up_to-divides}
 abbrev pub IsUpTo : Fraction → Fraction → Type 0
 IsUpTo one other = one.num * other.den ≤ other.num * one.den
 
--- what leaves room for these leaves room for both
+-- surroundings that leave room for the joined rates leave room for both
 pub record AreJoined (first second joined : Rates) : Type 0 where
   pub are : AreRates joined
   pub one : (around : Fraction) → HasRates around joined → HasRates around first
   pub other : (around : Fraction) → HasRates around joined → HasRates around second
 
--- what leaves room for these leaves room for a Stream of this throughput, and inside it for what is there
+-- surroundings that leave room for these rates leave room for a Stream of this throughput, and inside it for the rates there
 pub record AreRatesIn (throughput : Fraction) (inner rates : Rates) : Type 0 where
   pub are : AreRates rates
   pub some : 1 ≤ throughput.num
   pub inside : (around : Fraction) → HasRates around rates → HasRates (product_of around throughput) inner
 
--- what leaves room for the dimensions of types leaves room for those beside one another, and for a Stream around them
+-- surroundings that leave room for the dimensions of types leave room for those beside one another, and for a Stream around them
 pub record AreDimsJoined (first second joined : Dims) : Type 0 where
   pub one : (around : ℕ) → HasDims around joined → HasDims around first
   pub other : (around : ℕ) → HasDims around joined → HasDims around second
@@ -284,7 +284,7 @@ AreRatesIn-stream throughput inner room are =
     (kept (λ p. p.num ≤ throughput.num * inner.num) chosen below.0 (one-le-mul some.num are.num)) (kept (λ p. p.den ≤ throughput.den * inner.den) chosen below.1 (one-le-mul some.den are.den)) refl refl product.0 product.1 up_to.0 up_to.1
     (kept (λ p. 1 ≤ p.den) chosen product.0 (omega arith)) are
   where
-    -- what is so of both is so of the greater
+    -- a property of both holds for the greater
     kept : (Is : Fraction → Type 0) → (greater (product_of inner.product throughput) (record { num = 1; den = 1 }) ≡ product_of inner.product throughput)
         ⊎ (greater (product_of inner.product throughput) (record { num = 1; den = 1 }) ≡ record { num = 1; den = 1 })
         → Is (product_of inner.product throughput) → Is (record { num = 1; den = 1 }) → Is (greater (product_of inner.product throughput) (record { num = 1; den = 1 }))

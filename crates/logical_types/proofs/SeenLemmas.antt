@@ -35,7 +35,7 @@ kept_bit word bit other small marked = elim (eqb_tells other bit) [
   | inr apart ↦ bit_at_set_other w64 word bit small other apart.1 ∙ marked
 ]
 
--- what was marked stays so
+-- a marked hash stays marked
 pub IsMarked-kept : (words : List ℕ) (hash other : ℕ) → 0 < length words → IsMarked words other
     → IsMarked (set words (hash / 64 % length words) (with_bit (get_or words (hash / 64 % length words) 0) (hash % 64))) other
 IsMarked-kept words hash other some marked =
@@ -83,7 +83,7 @@ seen-more words new names at hash one within is hashed here kept before name fou
       | inr same ↦ subst (IsSeen new) (hashed ∙ hash_of-same one name ((bytes_eq-Decides (map to_ascii_lowercase one) (map to_ascii_lowercase name)).0 same)) here
     ]
 
--- what would be seen, and is not, is not there
+-- a name that would be seen, and is not, is not there
 pub unseen : (there : Bool) (words : List ℕ) (hash of : ℕ) → hash ≡ of → (IsSeen words hash → false ≡ true) → (there ≡ true → IsSeen words of) → there ≡ false
 unseen true words hash of same never seen = sym (never (subst (IsSeen words) (sym same) (seen refl)))
 unseen false words hash of same never seen = refl

@@ -36,7 +36,7 @@ clear-both : (front back : List TypeFault) → front ++ back ≡ [] → (front �
 clear-both [] back is = (refl, is)
 clear-both (fault ∷ more) back is = absurd (cc is)
 
--- ---- what a type without faults is
+-- ---- properties of a type without errors
 
 record IsClearBits (width : ℕ) : Type 0 where
   some : eqb width 0 ≡ false
@@ -100,7 +100,7 @@ stream-clear around element user settings is =
 
 -- ---- room that there is
 
--- what is around a type is within the limits
+-- the surroundings of a type are within the limits
 record IsLimited (around : Around) : Type 0 where
   some : 1 ≤ around.product.num
   lanes : around.product.num ≤ 128 * around.product.den
@@ -126,7 +126,7 @@ HasDims-stream around own syncs.Desync inner few has = record { over = omega (ar
 HasDims-stream around own syncs.Flatten inner few has = record { over = omega (arith, few); own = omega (arith, has.over, has.own) }
 HasDims-stream around own syncs.FlatDesync inner few has = record { over = omega (arith, few); own = omega (arith, has.over, has.own) }
 
--- what leaves room inside a Stream leaves room for the Stream
+-- surroundings that leave room inside a Stream leave room for the Stream
 lanes_outside : (an ad tn td ipn ipd g h x y pn pd : ℕ) → 1 ≤ h → x * g ≡ an * tn → y * g ≡ ad * td → pn * h ≡ ipn * tn → pd * h ≡ ipd * td
     → x * ipn ≤ 128 * y * ipd → an * pn ≤ 128 * ad * pd
 lanes_outside an ad tn td ipn ipd g h x y pn pd some upper lower num den within = le_of_mul-le-mul_right {k = h} by some
@@ -144,7 +144,7 @@ lanes_outside an ad tn td ipn ipd g h x y pn pd some upper lower num den within 
     by : an * pn * h ≤ 128 * ad * pd * h
     by = subst (λ (n : ℕ). n ≤ 128 * ad * pd * h) (sym left) (subst (λ (n : ℕ). x * ipn * g ≤ n) (sym right) (mul-le-mul_right g within))
 
--- ---- what is known of a Stream without faults
+-- ---- facts about a Stream without errors
 
 some_factor : (a b : ℕ) → 1 ≤ a * b → 1 ≤ a
 some_factor zero b positive = absurd (omega (arith, zero-mul b, positive))
@@ -368,7 +368,7 @@ mutual
         dims = rest.dims;
       }
 
--- ---- what is shown
+-- ---- the types that are shown valid
 
 shows_valid-room : (summary : Summary) → HasLanes outermost.product summary.rates.product → HasDims outermost.dims summary.dims → shows_valid summary ≡ true
 shows_valid-room summary lanes dims =

@@ -147,7 +147,7 @@ IsSummary-union (part name ltype more) sum summary so once is =
 
 -- ---- a Stream
 
--- what is within a limit with a product of 1 or more is so alone
+-- a number that is within a limit with a product of 1 or more is within it alone
 one_lane : (limit num pn pd : ℕ) → 1 ≤ pd → pd ≤ pn → num * pn ≤ limit * pd → num ≤ limit
 one_lane limit num pn pd some whole within = le_of_mul-le-mul_right {k = pd} (omega (arith, mul-le-mul_left num whole, within)) some
 

@@ -104,7 +104,7 @@ one-is product is =
     let same = same_from_IsReduced 1 1 product whole (omega arith) is reduced in
     same_fraction product whole same.0 same.1
 
--- ---- what the code tests
+-- ---- the tests of the code
 
 fits_words-true : (fraction : Fraction) → FitsWords fraction → fits_words fraction ≡ true
 fits_words-true fraction fits = and_both (ltb fraction.num (2 ^ 64)) (ltb fraction.den (2 ^ 64))

@@ -1,4 +1,4 @@
--- The faults of a type (Tydi specification, logical types; the limits are this project's own).
+-- The errors of a type (Tydi specification, logical types; the limits are this project's own).
 use Rattle.std.specs.Prelude.{◌≡◌, ℕ, ◌+◌, ◌*◌, ◌==◌, Bool, true, false, not, ◌||◌, nat_lt, List, [], ◌∷◌, ◌++◌, filter, slice_get, Some, Result, Ok, Err}
 use Rattle.std.specs.List.{flat_map}
 use Rattle.tydi_base.specs.Frac.{Fraction}
@@ -29,7 +29,7 @@ dims_taken_over syncs.FlatDesync dims = 0
 abbrev pub effective_dims : ℕ → Sync → ℕ → ℕ
 effective_dims dims sync around = dims + dims_taken_over sync around
 
--- what is around the types inside a Stream: the product of the throughputs on the way, the Stream's own included, and its
+-- the surroundings of the types inside a Stream: the product of the throughputs on the path, the Stream's own included, and its
 -- effective dimensionality
 abbrev pub inside : Around → Settings → Around
 inside around settings = record {
@@ -85,7 +85,7 @@ has_too_many_lanes around settings = nat_lt (128 * (inside around settings).prod
 abbrev pub has_too_many_dims : Around → Settings → Bool
 has_too_many_dims around settings = nat_lt 32 (inside around settings).dims
 
--- what holds of the arguments of a Stream, and of no other type
+-- a test of the arguments of a Stream, which no other type passes
 abbrev pub if_stream : (Settings → Bool) → Ltype → Bool
 if_stream test null = false
 if_stream test (bits width) = false
@@ -129,29 +129,29 @@ has_fault node faults.UserHasStream = user_has_stream node.ltype
 has_fault node faults.NameTwice = has_part_twice node.ltype
 has_fault node faults.EmptyUnion = is_empty_union node.ltype
 
--- the faults, in the order in which those of one node are told
+-- the errors, in the order in which those of one node are reported
 abbrev pub all_faults : List TypeFault
 all_faults = faults.ZeroBits ∷ faults.ElementTooWide ∷ faults.BadThroughput ∷ faults.TooManyLanes ∷ faults.TooManyDims ∷ faults.UserHasStream ∷ faults.NameTwice ∷ faults.EmptyUnion ∷ []
 
--- the faults of one node
+-- the errors of one node
 abbrev pub faults_at : TypeNode → List TypeFault
 faults_at node = filter (has_fault node) all_faults
 
--- the faults of a Stream's throughput, lanes and dimensions
+-- the errors of a Stream's throughput, lanes and dimensions
 abbrev pub rate_faults : Around → Settings → List TypeFault
 rate_faults around settings = filter (has_fault (record { around = around; ltype = stream null null settings })) (faults.BadThroughput ∷ faults.TooManyLanes ∷ faults.TooManyDims ∷ [])
 
--- ---- the faults of a type
+-- ---- the errors of a type
 
--- the faults of a type with this around it: those of its nodes in preorder
+-- the errors of a type with this around it: those of its nodes in preorder
 abbrev pub faults_within : Around → Ltype → List TypeFault
 faults_within around ltype = flat_map faults_at (nodes around ltype)
 
--- the faults of parts
+-- the errors of parts
 abbrev pub faults_of_parts : Around → Parts → List TypeFault
 faults_of_parts around parts = flat_map faults_at (nodes_of_parts around parts)
 
--- the faults of a type
+-- the errors of a type
 abbrev pub faults_of : Ltype → List TypeFault
 faults_of ltype = faults_within outermost ltype
 
@@ -171,7 +171,7 @@ IsPlain ltype = flat_map (λ node. filter (has_fault node) plain_faults) (nodes 
 abbrev pub ArePlain : Parts → Type 0
 ArePlain parts = flat_map (λ node. filter (has_fault node) plain_faults) (nodes_of_parts outermost parts) ≡ []
 
--- what a check says of these faults: that there is none, or the first
+-- the result of a check for these errors: none, or the first
 abbrev pub Tells : {A : Type 0} → List TypeFault → Result A TypeFault → Type 0
 Tells found (Ok value) = found ≡ []
 Tells found (Err fault) = slice_get found 0 ≡ Some fault

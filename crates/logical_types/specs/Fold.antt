@@ -1,8 +1,8 @@
--- What a type comes to, by what the types in it come to. This project's own.
+-- The value of a type by a fold over the types in it. This project's own.
 use Rattle.std.specs.Prelude.{ℕ, List}
 use Rattle.logical_types.specs.Tree.{Ltype, null, bits, group, union, stream, Parts, no_parts, part, Settings, names_of}
 
--- what each kind of type comes to, by what is in it: of the parts of a Group or a Union one is taken after another
+-- the value of each kind of type, from the values of the types in it; the parts of a Group or a Union are taken one after another
 pub record Layers (X Y : Type 0) : Type 0 where
   pub of_null : X
   pub of_bits : ℕ → X
@@ -14,7 +14,7 @@ pub record Layers (X Y : Type 0) : Type 0 where
   pub of_no_parts : Y
   pub of_part : Y → X → Y
 
--- what a type comes to
+-- the value of a type
 abbrev mutual
   pub fold : {X Y : Type 0} → Layers X Y → Ltype → X
   fold layers null = layers.of_null
@@ -23,7 +23,7 @@ abbrev mutual
   fold layers (union parts) = layers.of_union (names_of parts) (fold_parts layers layers.of_no_parts parts)
   fold layers (stream element user settings) = layers.of_stream settings (fold layers element) (fold layers user)
 
-  -- what parts come to after others
+  -- the value of parts after others
   pub fold_parts : {X Y : Type 0} → Layers X Y → Y → Parts → Y
   fold_parts layers before no_parts = before
   fold_parts layers before (part name ltype more) = fold_parts layers (layers.of_part before (fold layers ltype)) more

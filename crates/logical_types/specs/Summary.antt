@@ -1,4 +1,4 @@
--- What is known of a type without what it holds: enough to show that it has no fault. This project's own.
+-- The summary of a type, without its parts: enough to show that the type has no error. This project's own.
 use Rattle.std.specs.Prelude.{◌≡◌, ◌↔◌, ℕ, ◌+◌, ◌-◌, ◌*◌, ◌^◌, ◌==◌, ◌<◌, ◌≤◌, nat_lt, nat_le, min, max, Bool, true, false, not, ◌&&◌, ◌||◌, [], length, Option, Some, None, if◌then◌else◌}
 use Rattle.std.specs.Option.{option_and_then, option_map}
 use Rattle.tydi_base.specs.Frac.{Fraction}
@@ -17,20 +17,20 @@ use Rattle.logical_types.specs.declared.streams.Around.{Around}
 use Rattle.logical_types.specs.declared.summary.Summary.{Summary}
 use Rattle.logical_types.specs.declared.summary.PartsSummary.{PartsSummary}
 
--- ---- what a summary is
+-- ---- the summary
 
 -- the greater of two fractions
 abbrev pub greater : Fraction → Fraction → Fraction
 greater one other = if nat_le (one.num * other.den) (other.num * one.den) then other else one
 
--- of a type without Streams: the way that stays at the type counts, with the product 1
+-- the rates of a type without Streams: the path that stays at the type counts, with the product 1
 abbrev pub no_rates : Rates
 no_rates = record { num = 1; den = 1; product = outermost.product }
 
 abbrev pub no_dims : Dims
 no_dims = record { over = 0; own = 0 }
 
--- of types beside one another
+-- the rates of types beside one another
 abbrev pub rates_beside : Rates → Rates → Rates
 rates_beside one other = record { num = max one.num other.num; den = max one.den other.den; product = greater one.product other.product }
 
@@ -43,7 +43,7 @@ abbrev pub has_rates_inside : Fraction → Rates → Bool
 has_rates_inside throughput inner =
     nat_lt 0 throughput.den && nat_lt (throughput.num * inner.num) (2 ^ 64) && nat_lt (throughput.den * inner.den) (2 ^ 64) && not (is_bad_throughput inner.product throughput)
 
--- of a Stream around such types
+-- the rates of a Stream around such types
 abbrev pub rates_in_stream : Fraction → Rates → Rates
 rates_in_stream throughput inner = record {
   num = throughput.num * inner.num;
@@ -61,14 +61,14 @@ dims_in_stream own syncs.Desync inner = record { over = capped_dims (own + inner
 dims_in_stream own syncs.Flatten inner = record { over = 0; own = max inner.own (capped_dims (own + inner.over)) }
 dims_in_stream own syncs.FlatDesync inner = record { over = 0; own = max inner.own (capped_dims (own + inner.over)) }
 
--- of a type of this width without Streams
+-- the summary of a type of this width without Streams
 abbrev pub without_stream : ℕ → Summary
 without_stream width = record { width = width; has_stream = false; rates = no_rates; dims = no_dims }
 
 abbrev pub of_bits : ℕ → Option Summary
 of_bits width = if width == 0 || nat_lt 4096 width then None else Some (without_stream width)
 
--- of a Stream: None where its user type has a Stream, or there is no room around what is in it
+-- the summary of a Stream: None where its user type has a Stream, or there is no room around the types in it
 abbrev pub of_stream : Fraction → ℕ → Sync → Summary → Summary → Option Summary
 of_stream throughput dims sync element user =
     if user.has_stream || not (has_rates_inside throughput (rates_beside element.rates user.rates)) then None
@@ -79,11 +79,11 @@ of_stream throughput dims sync element user =
       dims = dims_in_stream dims sync (dims_beside element.dims user.dims);
     })
 
--- of no parts
+-- the summary of no parts
 abbrev pub of_no_parts : PartsSummary
 of_no_parts = record { total = 0; widest = 0; has_stream = false; rates = no_rates; dims = no_dims }
 
--- of parts and one more
+-- the summary of parts and one more
 abbrev pub of_parts_and : PartsSummary → Summary → PartsSummary
 of_parts_and before one = record {
   total = saturated (before.total + one.width);
@@ -93,7 +93,7 @@ of_parts_and before one = record {
   dims = dims_beside before.dims one.dims;
 }
 
--- of a type of this width around parts, unless it is too wide
+-- the summary of a type of this width around parts, unless it is too wide
 abbrev pub around : PartsSummary → ℕ → Option Summary
 around sum width = if nat_lt 4096 width then None else Some (record { width = width; has_stream = sum.has_stream; rates = sum.rates; dims = sum.dims })
 
@@ -105,7 +105,7 @@ of_union sum variants = if variants == 0 then None else around sum (saturated (s
 
 -- ---- the summary of a type
 
--- what types come to as summaries
+-- the fold that gives each type its summary
 abbrev pub summarized : Layers (Option Summary) (Option PartsSummary)
 summarized = record {
   of_null = Some (without_stream 0);
@@ -126,7 +126,7 @@ summary_of ltype = fold summarized ltype
 abbrev pub shows_valid : Summary → Bool
 shows_valid summary = nat_le summary.rates.product.num (128 * summary.rates.product.den) && nat_le summary.dims.over 32 && nat_le summary.dims.own 32
 
--- ---- what a summary says: of throughputs
+-- ---- the meaning of a summary: throughputs
 
 -- the way that stays at the type is among those that are counted, so nothing is less than 1
 pub record AreRates (rates : Rates) : Type 0 where
@@ -145,14 +145,14 @@ pub record HasRates (around : Fraction) (rates : Rates) : Type 0 where
   pub den : around.den * rates.den < 2 ^ 64
   pub lanes : around.num * rates.product.num ≤ 128 * around.den * rates.product.den
 
--- ---- of dimensions
+-- ---- dimensions
 
 -- so many dimensions around a type leave room for these: at most 32
 pub record HasDims (around : ℕ) (dims : Dims) : Type 0 where
   pub over : around + dims.over ≤ 32
   pub own : dims.own ≤ 32
 
--- ---- of types
+-- ---- types
 
 -- the greatest product of such parts of the throughputs on a way from a type down to a Stream in it, as they stand; 1 where there is none
 abbrev mutual
@@ -167,7 +167,7 @@ abbrev mutual
   greatest_product_in part_of no_parts = 1
   greatest_product_in part_of (part name ltype more) = max (greatest_product part_of ltype) (greatest_product_in part_of more)
 
--- what is around a type leaves room for it
+-- the surroundings of a type leave room for it
 pub record HasRoom (around : Around) (most : Rates) (deepest : Dims) : Type 0 where
   pub rates : HasRates around.product most
   pub dims : HasDims around.dims deepest

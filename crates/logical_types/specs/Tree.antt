@@ -97,7 +97,7 @@ abbrev pub plain_parts : List Part → Parts
 plain_parts [] = no_parts
 plain_parts (first ∷ more) = part first.name (plain first.ltype) (plain_parts more)
 
--- ---- what a type holds
+-- ---- the parts of a type
 
 -- how many parts there are
 abbrev pub number_of_parts : Parts → ℕ

@@ -1,4 +1,4 @@
-//! The first fault of a type.
+//! The first error of a type.
 
 ghost use Rattle.std.specs.Prelude.{◌≡◌, Some, slice_get, OnOk, IfErr};
 ghost use Rattle.logical_types.specs.Faults.{
@@ -18,9 +18,10 @@ use crate::names::{PartNames, has_name_twice};
 use crate::streams::{Around, around_outermost, inside};
 use crate::widths::{total_width, union_width};
 
+/// The most bits of an element, and of a user signal (this project's own limit).
 pub const MOST_BITS: u32 = 4096;
 
-/// The first fault of a type: of the first type in preorder that has one (a type before what it holds, a Stream's data type before
+/// The first error of a type: of the first type in preorder that has one (a type before what it holds, a Stream's data type before
 /// its user type), at one type the first in the order of `TypeFault`. Ok exactly where it has none. The limits are this project's own.
 pub fn check(ltype: &LType) -> Result<(), TypeFault>
     ensures valid { OnOk result (IsValid (plain ltype.now)) }
@@ -70,7 +71,7 @@ fn check_union(parts: &[Part], around: &Around) -> Result<(), TypeFault>
     check_parts(parts, around)
 }
 
-// The faults of a Group itself.
+// The errors of a Group itself.
 fn check_fields(parts: &[Part]) -> Result<(), TypeFault>
     ensures { Tells (faults_at (record { around = outermost; ltype = group (plain_parts parts.now) })) result }
 {
@@ -83,7 +84,7 @@ fn check_fields(parts: &[Part]) -> Result<(), TypeFault>
     Ok(())
 }
 
-// The faults of a Union itself.
+// The errors of a Union itself.
 fn check_variants(parts: &[Part]) -> Result<(), TypeFault>
     ensures { Tells (faults_at (record { around = outermost; ltype = union (plain_parts parts.now) })) result }
 {

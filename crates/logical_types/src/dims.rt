@@ -9,9 +9,9 @@ use crate::streams::MOST_DIMS;
 /// The most dimensions of the Streams in a type, up to the greatest number of 64 bits.
 #[derive(Clone, Copy, Debug)]
 pub struct Dims {
-    /// Of those Streams that take over the dimensions from around the type, beside what they take over from there.
+    /// The most dimensions of a Stream that takes over the dimensions around the type, not counting those.
     pub over: u64,
-    /// Of those that take over none from there.
+    /// The most dimensions of a Stream that takes over none of them.
     pub own: u64,
 }
 

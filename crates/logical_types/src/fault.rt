@@ -1,5 +1,5 @@
-/// What is wrong with a type, at one place in it. Where several are, the first is told in the order of this list. Types are the Tydi
-/// specification's (logical types), the limits this project's own.
+/// An error of a type, at one place in it. Where there are several, the first in the order of this list is reported. Types are the
+/// Tydi specification's (logical types), the limits this project's own.
 #[derive(Clone, Copy, Debug, PartialEq, Eq)]
 pub enum TypeFault {
     /// A Bits has no bits.

@@ -7,7 +7,7 @@ use crate::shared::Shared;
 use std::alloc::Global;
 use tydi_base::{Frac, Level, List, Memory, Name, TryClone};
 
-/// A type (Tydi specification, logical types). What it holds is shared by its copies.
+/// A type (Tydi specification, logical types). Its copies share their parts.
 #[cycle(ltype)]
 #[derive(Debug, Drop)]
 pub enum LType {
@@ -19,7 +19,7 @@ pub enum LType {
     Group(Shared<List<Part>>),
     /// One of its variants, behind a tag that says which.
     Union(Shared<List<Part>>),
-    /// A stream of its own; of the element around it, it takes no bits.
+    /// A stream of its own. It takes no bits of the element around it.
     Stream(Shared<StreamType>),
 }
 
@@ -35,7 +35,7 @@ pub struct Part {
 #[cycle(ltype)]
 #[derive(Debug, Drop)]
 pub struct StreamType {
-    /// What its elements are.
+    /// The type of its elements.
     pub element: LType,
     /// How many elements it carries for each one of the Stream around it.
     pub throughput: Frac,
@@ -46,7 +46,7 @@ pub struct StreamType {
     pub level: Level,
     /// Whether it flows against the Stream around it.
     pub reverse: bool,
-    /// What each of its transfers carries beside the elements.
+    /// The type of the user signal, which each of its transfers carries beside the elements.
     pub user: LType,
     /// Whether it is a physical stream even where it carries no bits.
     pub keep: bool,
@@ -55,9 +55,13 @@ pub struct StreamType {
 /// How a Stream's sequences are tied to those of the Stream around it (Tydi specification, synchronicity).
 #[derive(Clone, Copy, Debug, PartialEq, Eq)]
 pub enum Sync {
+    /// Its sequences are tied to those around it, and it takes over their dimensions.
     Sync,
+    /// Its sequences are tied to those around it, and it takes over no dimensions.
     Flatten,
+    /// Its sequences are not tied to those around it, and it takes over their dimensions.
     Desync,
+    /// Its sequences are not tied to those around it, and it takes over no dimensions.
     FlatDesync,
 }
 

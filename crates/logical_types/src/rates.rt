@@ -1,4 +1,4 @@
-//! What the throughputs of the Streams in a type come to, whatever is around it.
+//! The products of the throughputs of the Streams in a type, whatever is around it.
 
 ghost use Rattle.std.specs.Prelude.{◌≡◌, ◌*◌, nat_le, Some, None, if◌then◌else◌};
 ghost use Rattle.logical_types.specs.Summary as spec;
@@ -6,8 +6,8 @@ ghost use Rattle.logical_types.specs.Summary as spec;
 use crate::streams::{MOST_LANES, around_outermost, product_inside};
 use tydi_base::Frac;
 
-/// Of the ways from a type down to the Streams in it, the greatest products of the throughputs on them. The way that stays at the
-/// type counts, with the product 1.
+/// The greatest products of throughputs on the paths from a type down to the Streams in it. The path that stays at the type counts,
+/// with the product 1.
 #[derive(Clone, Copy, Debug)]
 pub struct Rates {
     /// The greatest product of upper parts, as they stand.

@@ -1,4 +1,4 @@
-//! What a Stream makes of what is around it: throughput, lanes and dimensions.
+//! The throughput, lanes and dimensions of a Stream, from its own settings and the Streams around it.
 
 ghost use Rattle.std.specs.Prelude.{◌≡◌, ◌-◌, ◌^◌, true, false, min, IfOk, IfSome, IfNone};
 ghost use Rattle.logical_types.specs.Faults.{Tells, effective_dims, inside, is_bad_throughput, outermost, rate_faults};
@@ -9,11 +9,13 @@ use crate::fault::TypeFault;
 use crate::ltype::{StreamType, Sync};
 use tydi_base::Frac;
 
+/// The most lanes of a stream (this project's own limit).
 pub const MOST_LANES: u64 = 128;
 
+/// The most dimensions of a stream, those of the streams around it counted (this project's own limit).
 pub const MOST_DIMS: u64 = 32;
 
-/// What is around a type: the product of the throughputs of the Streams that hold it, and the effective dimensionality of the
+/// The surroundings of a type: the product of the throughputs of the Streams that hold it, and the effective dimensionality of the
 /// innermost one.
 #[derive(Clone, Copy, Debug)]
 pub struct Around {
@@ -32,8 +34,8 @@ pub fn around_outermost() -> Around
     }
 }
 
-/// What is around the types inside a Stream, or the first fault of its throughput, its lanes and its dimensions. That dimensions are
-/// taken over, and the limits, are this project's own.
+/// The surroundings of the types inside a Stream. It fails with the first error of the Stream's throughput, lanes and dimensions.
+/// The rule that dimensions are taken over, and the limits, are this project's own.
 pub fn inside(stream: &StreamType, around: &Around) -> Result<Around, TypeFault>
     ensures faults { Tells (rate_faults around.now (settings_of stream.now)) result }
     ensures inside { IfOk result (λ inner. inner ≡ inside around.now (settings_of stream.now)) }
@@ -56,7 +58,7 @@ pub(crate) fn product_inside(throughput: Frac, around: Frac) -> Option<Frac>
     ensures none { IfNone result (is_bad_throughput around throughput ≡ true) }
     ensures some { IfSome result (λ product. (is_bad_throughput around throughput ≡ false) × (product ≡ product_of around throughput)) }
 {
-    // What a fraction keeps of itself is known where `den` is called.
+    // The call of `den` makes the invariant of the fraction known.
     prove!(throughput.den() > 0);
     prove!(around.den() > 0);
     if throughput.num() == 0 {

@@ -1,5 +1,5 @@
-//! What is known of a type without what it holds. From the summaries of the parts of a type follows its own, so a type of many nodes
-//! is shown to be valid by the summaries of the types that it names. A type that is not shown to be valid has a fault, or products of
+//! The summary of a type, without its parts. The summaries of a type's parts determine its own, so a type of many nodes is shown to
+//! be valid by the summaries of the types that it names. A type that is not shown to be valid has an error, or products of
 //! throughputs that do not fit 64 bits as they stand.
 
 ghost use Rattle.std.specs.Prelude.{◌≡◌};
@@ -12,8 +12,8 @@ use crate::ltype::Sync;
 use crate::rates::{Rates, are_rates_few, no_rates, rates_beside, rates_in_stream};
 use tydi_base::{Frac, index_width};
 
-/// What is known of a type: how wide it is, whether it has Streams, and what these come to. In all surroundings that leave as much
-/// room as that takes the type has no fault.
+/// The summary of a type: its width, whether it has Streams, and their rates and dimensions. The type has no error in any
+/// surroundings that leave room for these.
 #[derive(Clone, Copy, Debug)]
 pub struct Summary {
     /// The width of an element in bits.
@@ -23,7 +23,7 @@ pub struct Summary {
     pub dims: Dims,
 }
 
-/// What is known of parts together.
+/// The summary of parts together.
 #[derive(Clone, Copy, Debug)]
 pub struct PartsSummary {
     /// Their widths together, up to the greatest number of 32 bits.
@@ -42,7 +42,7 @@ pub fn summary_of_null() -> Summary
     without_stream(0)
 }
 
-/// The summary of a Bits of this width in bits. None exactly where it has a fault.
+/// The summary of a Bits of this width in bits. None exactly where it has an error.
 pub fn summary_of_bits(width: u64) -> Option<Summary>
     ensures { result ≡ spec.of_bits width }
 {
@@ -64,7 +64,8 @@ fn without_stream(width: u32) -> Summary
     }
 }
 
-/// The summary of a Stream, by those of its data type and its user type.
+/// The summary of a Stream, by those of its data type and its user type. None where its user type has a Stream, its throughput is
+/// zero, or a product of throughputs does not fit 64 bits.
 pub fn summary_of_stream(
     element: &Summary,
     user: &Summary,
@@ -114,14 +115,15 @@ impl PartsSummary {
         }
     }
 
-    /// The summary of a Group of these parts, which have no two equal names.
+    /// The summary of a Group of these parts, which have no two equal names. None where it is over 4,096 bits wide.
     pub fn in_group(&self) -> Option<Summary>
         ensures { result ≡ spec.of_group self.now }
     {
         self.within(self.total)
     }
 
-    /// The summary of a Union of these parts, so many, which have no two equal names.
+    /// The summary of a Union of these parts, so many, which have no two equal names. None where there are no variants, or it is
+    /// over 4,096 bits wide.
     pub fn in_union(&self, variants: usize) -> Option<Summary>
         ensures { result ≡ spec.of_union self.now variants }
     {
@@ -156,7 +158,7 @@ impl Summary {
     }
 }
 
-/// The law of summaries: what the summary of a type says of it is so.
+/// The law of summaries: the statements of a type's summary hold for the type.
 pub fn summaries_are_of_the_type()
     ensures { SummariesAreOfTheType }
 {}

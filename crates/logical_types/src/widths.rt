@@ -8,7 +8,7 @@ ghost use Rattle.logical_types.specs.Width as spec;
 use crate::ltype::{LType, Part};
 use tydi_base::index_width;
 
-/// The width in bits of an element of a type that has no fault but of throughputs, lanes and dimensions. So each part of a type
+/// The width in bits of an element of a type that has no error but of throughputs, lanes and dimensions. So each part of a type
 /// that passed `check` may be asked for its width. Widths are the Tydi specification's (logical types); that of a Union is this
 /// project's own.
 pub fn width(ltype: &LType) -> u32

@@ -56,7 +56,7 @@ mutual
   agrees_variant-of_apart (types.part name ltype more) zero bits value is a = agrees-of_apart ltype (take (width_of ltype) bits) value is a
   agrees_variant-of_apart (types.part name ltype more) (suc tag) bits value is a = agrees_variant-of_apart more tag bits value is a
 
--- of a value that a word stands for: the word agrees with those values of the element that are this one with their Streams apart
+-- a word that stands for a value agrees with those values of the element that are this one with their Streams apart
 pub agrees_with_one : AgreesWithOne
 agrees_with_one ltype bits one value stands is = (
   λ agrees.

@@ -140,7 +140,7 @@ roots-few nodes roots at [] all within none same =
     sym (same ∙ ap (λ (rs : List ℕ). fit_roots nodes rs []) (drop_more roots at 0 within))
 roots-few nodes roots at (series ∷ more) all within none same = absurd (omega (arith, none))
 
--- ---- what fits is a value of an element
+-- ---- a value that fits is a value of an element
 
 both : (a b : Bool) → (a && b) ≡ true → (a ≡ true) × (b ≡ true)
 both true b e = (refl, e)

@@ -62,7 +62,7 @@ mutual
       (sym (take_seam (pack_of ltype value) (zero_bits (room - width_of ltype)) (width_of ltype) (length-pack_of ltype value is))) (agrees-pack_of ltype value is)
   agrees-pack_variant room (types.part name ltype more) (suc tag) value is = agrees-pack_variant room more tag value is
 
--- what was set apart stays so
+-- setting the Streams of a value apart twice is the same as once
 mutual
   pub set_apart-again : (ltype : Ltype) (value : Tree) → set_apart ltype (set_apart ltype value) ≡ set_apart ltype value
   set_apart-again types.null value = refl

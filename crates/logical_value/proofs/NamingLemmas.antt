@@ -259,7 +259,7 @@ Counts-more word from to at number bit next got within more counts got_is bit_is
 
 -- ---- a whole word
 
--- of a test that is the same as another, what is said
+-- the meaning of a test holds for a test that is the same
 pub test-for : {X : Type 0} (test other : Bool) → test ≡ other → (other ≡ true) ↔ X → IsTrue test ↔ X
 test-for test other is both = (λ holds. both.0 (sym is ∙ holds), λ x. is ∙ both.1 x)
 

@@ -1,4 +1,4 @@
--- What is written into a word, part after part.
+-- A word as it is written, part after part.
 use Rattle.std.proofs.Common.{◌≡◌, ◌∙◌, ℕ, zero, suc, ◌+◌, ◌-◌, ◌^◌, ◌<◌, ◌≤◌, Bool, false, true, ltb, if◌then◌else◌, Option, None, Some, IsSome, get_or, List, [], ◌∷◌, ◌++◌, length, drop, refl, sym, ap, subst, append_assoc, arith, length-append}
 use Rattle.std.proofs.lemmas.Bool.Decides.{nat_tests}
 use Rattle.std.proofs.lemmas.List.{append-nil, drop-replicate, length-replicate, replicate-append-replicate}
@@ -183,7 +183,7 @@ Continues-past first now all values parts at left done continues =
 
 -- ---- the whole word
 
--- what is written into a word of the element's width is the whole word
+-- the part written into a word of the element's width is the whole word
 pub packed-whole : (old new : Packing) (ltype : Ltype) (value : Tree) (width : ℕ) → width ≡ width_of ltype → old.bits ≡ zero_bits width → old.offset ≡ 0 → IsPlain ltype
     → IsElement ltype value → Puts old new (pack_of ltype value) → new.bits ≡ pack_of ltype value
 packed-whole old new ltype value width is_width zeros none plain element puts =

@@ -1,4 +1,4 @@
--- What is read of a word, part after part.
+-- A word as it is read, part after part.
 use Rattle.std.proofs.Common.{◌≡◌, ◌∙◌, ℕ, zero, suc, ◌+◌, ◌-◌, ◌^◌, ◌<◌, ◌≤◌, Bool, true, if◌then◌else◌, Option, None, Some, Result, MatchResult, get_or, List, [], ◌∷◌, ◌++◌, length, take, drop, refl, sym, ap, subst, arith, length-drop}
 use Rattle.std.proofs.lemmas.List.{length-take, drop-take, drop-drop, drop_all, take_all}
 use Rattle.tydi_base.specs.Bits.{number_of_bits}
@@ -182,7 +182,7 @@ AreLeft-past first now all values parts at done left =
       subst (AreUnpacked all (left_of first)) (put_before-none (plain_values values)) (here.agree no_trees (record { agree = tt; streams = refl })),
     )
 
--- the fault of a part is that of all
+-- the error of a part is that of all
 pub AreLeft-bad : (first now : Unpacking) (all : Parts) (values : List Value) (parts : List Part) (at : ℕ) (one : Part) (fault : UnpackFault) → at < length parts → one ≡ get_or parts at one
     → AreLeft first now all values (plain_parts (drop at parts))
     → (CanRead now (number_of_nodes (plain one.ltype)) (width_of (plain one.ltype))
@@ -200,7 +200,7 @@ AreLeft-bad first now all values parts at one fault within is left reads =
 can_inside : (unpacking : Unpacking) (number width : ℕ) → CanRead unpacking (suc number) width → CanRead unpacking number width
 can_inside unpacking number width can = record { few = omega (arith, can.few); narrow = can.narrow; there = can.there }
 
--- what was read is the value of the Group
+-- the values that were read make the value of the Group
 pub read-group : (old new : Unpacking) (ltype : Ltype) (parts : Parts) (values : List Value) (value : Value) → ltype ≡ types.group parts → plain_value value ≡ group (plain_values values)
     → (CanRead old (nodes_in_parts parts) (total_width parts) → HasRead old new (total_width parts) × AreUnpacked parts (left_of old) (plain_values values))
     → CanRead old (number_of_nodes ltype) (width_of ltype)
@@ -354,7 +354,7 @@ bad-union old middle parts width whole room tag fault is_width is_whole is_room 
 
 -- ---- a whole word
 
--- what was read of a word of the element's width is what the word stands for, or its fault
+-- the result of reading a word of the element's width is the value that the word stands for, or its error
 pub read-whole : (old new : Unpacking) (result : Result Value UnpackFault) (ltype : Ltype) (word : List Bool) → left_of old ≡ word → names_of old ≡ []
     → IsPlain ltype → number_of_nodes ltype ≤ 65536 → length word ≡ width_of ltype → Reads old new result ltype
     → MatchResult result (λ value. IsUnpacked ltype word (plain_value value)) (IsFaultOf ltype word)

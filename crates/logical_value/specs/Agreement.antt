@@ -109,7 +109,7 @@ pub record IsUnpacked (ltype : Ltype) (bits : List Bool) (value : Tree) : Type 0
 abbrev pub StandsForSome : Ltype → List Bool → Type 0
 StandsForSome ltype bits = (value : Tree) × IsUnpacked ltype bits value
 
--- the fault tells this path; want of memory says nothing
+-- the error names this path; want of memory says nothing
 abbrev pub Tells : Option (List (List ℕ)) → UnpackFault → Type 0
 Tells found (faults.BadTag path) = found ≡ Some path
 Tells found faults.Memory = Unit {0}

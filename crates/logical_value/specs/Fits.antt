@@ -18,7 +18,7 @@ is_nest test zero value = test value
 is_nest test (suc depth) (list values) = all_pass (is_nest test depth) values
 is_nest test (suc depth) value = false
 
--- what stands for a Stream that is told elsewhere
+-- the value stands for a Stream whose value is given elsewhere
 abbrev pub stands_apart : Tree → Bool
 stands_apart apart = true
 stands_apart value = false

@@ -1,4 +1,4 @@
--- What holds of all words and values of an element (this project's own).
+-- The laws of all words and values of an element (this project's own).
 use Rattle.std.specs.Prelude.{◌≡◌, ◌↔◌, ℕ, Bool, true, List, length, Some, is_none}
 use Rattle.logical_types.specs.Tree.{Ltype}
 use Rattle.logical_types.specs.Width.{width_of}
@@ -18,7 +18,7 @@ PackedIsUnpacked = (ltype : Ltype) (value : Tree) → IsElement ltype value → 
 abbrev pub UnpackedIsPacked : Type 0
 UnpackedIsPacked = (ltype : Ltype) (bits : List Bool) (value : Tree) → length bits ≡ width_of ltype → Agrees ltype bits value → pack_of ltype value ≡ cleared ltype bits
 
--- what a word of the element's width stands for is a value of the element, which has a word
+-- a value that a word of the element's width stands for is a value of the element, which has a word
 abbrev pub UnpackedAreElements : Type 0
 UnpackedAreElements = (ltype : Ltype) (bits : List Bool) (value : Tree) → length bits ≡ width_of ltype → Agrees ltype bits value → IsElement ltype value
 
@@ -30,11 +30,11 @@ OneValue = (ltype : Ltype) (bits : List Bool) (one other : Tree) → IsUnpacked 
 abbrev pub BadTagsAgreeWithNone : Type 0
 BadTagsAgreeWithNone = (ltype : Ltype) (bits : List Bool) (names path : List (List ℕ)) (value : Tree) → bad_tag names ltype bits ≡ Some path → Agrees ltype bits value → ⊥
 
--- what fits a type in a series is a value of an element, which has a word
+-- a value that fits a type in a series is a value of an element, which has a word
 abbrev pub FitsAreElements : Type 0
 FitsAreElements = (ltype : Ltype) (value : Tree) → fits_element ltype value ≡ true → IsElement ltype value
 
--- of a value that a word stands for, and any value of an element: the word agrees with that where it is this one with its Streams apart
+-- a word that stands for a value agrees with a value of the element exactly where this, with its Streams apart, is that value
 abbrev pub AgreesWithOne : Type 0
 AgreesWithOne = (ltype : Ltype) (bits : List Bool) (one value : Tree) → IsUnpacked ltype bits one → IsElement ltype value → Agrees ltype bits value ↔ (set_apart ltype value ≡ one)
 

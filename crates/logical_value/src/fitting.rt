@@ -145,7 +145,7 @@ fn fits_variant(parts: &[Part], tag: u32, value: &Value) -> bool
     false
 }
 
-/// Whether this stands for a Stream in an element: a nest of its own dimensionality, or what is told elsewhere.
+/// Whether this stands for a Stream in an element: a nest of its own dimensionality, or a part that is given elsewhere.
 #[cycle(fits)]
 fn fits_stream(stream: &StreamType, value: &Value) -> bool
     ensures { result ≡ spec.fits_element (plain_of_stream stream.now) (values.plain value.now) }

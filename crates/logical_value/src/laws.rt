@@ -1,12 +1,12 @@
-//! What holds of all words and values of an element.
+//! The laws of all words and values of an element.
 
 ghost use Rattle.logical_value.specs.Laws.{AgreesWithOne, BadTagsAgreeWithNone, FitsAreElements, NamesWhereItStands, NamesWhereNoneIsBad, OneValue};
 ghost use Rattle.logical_value.specs.Laws.{PackedHasWidth, PackedIsUnpacked, PlainIsOneToOne, UnpackedAreElements, UnpackedIsPacked};
 
 /// The word of a value stands for that value with what stands for its Streams apart. The word of a value that a word stands for is that
 /// word with its ignored bits zero; it has one, since it is a value of the element. So `unpack` of what `pack` gives is the value with
-/// its stream parts apart, since a word stands for one value at most and a BadTag tells of a word that stands for none; and `pack` of
-/// what `unpack` gives is the word with its ignored bits zero.
+/// its stream parts apart, since a word stands for one value at most and a BadTag reports a word that stands for none; and `pack`
+/// of what `unpack` gives is the word with its ignored bits zero.
 pub fn words_and_values_are_tied()
     ensures packed { PackedIsUnpacked }
     ensures unpacked { UnpackedIsPacked }
@@ -23,7 +23,8 @@ pub fn bad_tags_stand_for_nothing()
     ensures { BadTagsAgreeWithNone }
 {}
 
-/// What fits a type in a series is a value of an element. So `pack` may be asked for the word of each leaf of a value that `fits`.
+/// A value that fits a type in a series is a value of an element. So `pack` may be asked for the word of each leaf of a value that
+/// `fits`.
 pub fn values_that_fit_are_elements()
     ensures { FitsAreElements }
 {}

@@ -15,9 +15,9 @@ use logical_types::{LType, Part, saturated_width, union_width, width};
 use std::alloc::Global;
 use tydi_base::{Bits, Memory, index_width};
 
-/// The word of a value of an element of this type, as wide as the element. What stands for its Streams takes no bits, and ignored bits
-/// are zero. Memory comes where there is none for the word. The layout is the Tydi specification's (logical types); that of a Union is
-/// this project's own.
+/// The word of a value of an element of this type, as wide as the element. The parts for its Streams take no bits, and ignored bits
+/// are zero. `Memory` comes where there is none for the word. The layout is the Tydi specification's (logical types); that of a
+/// Union is this project's own.
 pub fn pack(alloc: Global, ltype: &LType, value: &Value) -> Result<Bits, Memory>
     requires plain { IsPlain (plain ltype.now) }
     requires element { element.IsElement (plain ltype.now) (values.plain value.now) }

@@ -21,7 +21,7 @@ pub enum Value {
     Union { tag: u32, part: Boxed<Value> },
     /// A sequence.
     List(List<Value>),
-    /// What a Stream carries that is told elsewhere.
+    /// The part of a Stream whose value is given elsewhere.
     Apart,
 }
 
@@ -48,7 +48,7 @@ impl Value {
         }
     }
 
-    /// Whether it stands for a Stream that is told elsewhere.
+    /// Whether it stands for a Stream whose value is given elsewhere.
     pub fn is_apart(&self) -> bool
         ensures { result ≡ stands_apart (plain self.now) }
     {

@@ -1,4 +1,4 @@
--- What a builder keeps of the items that it was given.
+-- The state that a builder keeps of the items that it was given.
 use Rattle.std.proofs.Common.{◌≡◌, ◌∙◌, ℕ, zero, suc, ◌+◌, ◌-◌, ◌<◌, ◌≤◌, Bool, true, false, not, cond, ◌==◌, nat_le, take, List, [], ◌∷◌, ◌++◌, length, get_or, Option, Some, None, refl, sym, ap, subst, append_assoc, arith}
 use Rattle.std.specs.Prelude.{slice_get}
 use Rattle.std.proofs.lemmas.List.{append-nil}
@@ -26,7 +26,7 @@ use Rattle.nest_shape.specs.Shape.{BreaksNesting, LeavesOpen, IsSeriesOf}
 use Rattle.nest_shape.proofs.PlainLemmas.{plain-Leaf, plain-List}
 use Rattle.nest_shape.proofs.FlatLemmas.{flat_form-one_more, IsSeries-one_more}
 
--- ---- what is open
+-- ---- the open nests
 
 abbrev with_last : List Open → Open → List Open
 with_last front innermost = front ++ innermost ∷ []
@@ -94,7 +94,7 @@ Takes-none dims depth begun members within none other falls = record {
   series = subst (IsSeries depth) (sym none) tt;
 }
 
--- what is innermost has this depth
+-- the innermost open nests have this depth
 pub Takes-last : (dims depth : ℕ) (begun new : List Open) (innermost : Open) → begun ≡ new ++ innermost ∷ [] → (innermost.depth == depth) ≡ true
     → Descends (suc dims) begun depth → Takes dims depth begun new innermost.members
 Takes-last dims depth begun new innermost is test falls =
@@ -227,7 +227,7 @@ pub LeavesOpen-level : (dims level : ℕ) (begun : List Open) (done : List Item)
 LeavesOpen-level dims level begun done keeps below =
     record { nested = IsNested-placed done keeps.placed; open_at = ending-unclosed dims level (tail_of done) keeps.tail keeps.within below }
 
--- ---- what is said of a builder
+-- ---- the contracts of a builder
 
 -- a builder was given one list of items
 pub StandsFor-once : (builder : Builder) (one other : List Item) → StandsFor builder one → StandsFor builder other → one ≡ other

@@ -13,7 +13,7 @@ use Rattle.physical_stream.proofs.ShapeLemmas.{tail_over-append, tail_of-over_no
 use Rattle.nest_shape.specs.Tree.{Tree, leaf, list, Trees, no_trees, tree, plain_nests}
 use Rattle.nest_shape.specs.Flat.{flat, flat_all, HasDepth, HaveDepth}
 use Rattle.nest_shape.specs.Laws.{OneSeries, FlatFormsAreWhole, NestsItemByItem}
-use Rattle.nest_shape.specs.Shape.{ClosesBelow}
+use Rattle.nest_shape.specs.Shape.{AreWhole, ClosesBelow}
 use Rattle.nest_shape.proofs.BuildingLemmas.{has_misplaced-one_more}
 use Rattle.nest_shape.proofs.PlainLemmas.{plain_nests-injective}
 
@@ -64,7 +64,7 @@ mutual
       (sym (append_assoc (flat inner first) (flat_all inner others) (items.Close inner ∷ rest)) ∙ is) in
       omega (arith, low, less)
 
--- what begins with the flat form of a nest of this depth tells the nest and the rest
+-- a list that begins with the flat form of a nest of this depth determines the nest and the rest
 record Same {A : Type 0} (one other : A) (rest remains : List Item) : Type 0 where
   same : one ≡ other
   left : rest ≡ remains
@@ -206,9 +206,9 @@ is_whole-after : (dims : ℕ) (tail : Option Tail) → EndsOrStays None dims tai
 is_whole-after dims tail (inl stays) = ap (is_whole dims) stays
 is_whole-after dims tail (inr ends) = ap (is_whole dims) ends ∙ is_whole-end dims
 
-pub flat_forms_whole : FlatFormsAreWhole
-flat_forms_whole dims series deep =
-    let trees = plain_nests series in
+-- the flat form of nests of this depth, as plain data
+pub nests_whole : (dims : ℕ) (trees : Trees) → HaveDepth dims trees → All (ClosesBelow dims) (flat_all dims trees) × AreWhole dims (flat_all dims trees)
+nests_whole dims trees deep =
     let all = follow dims trees None deep tt in (
       close_below dims dims trees (omega arith) deep,
       record {
@@ -216,3 +216,6 @@ flat_forms_whole dims series deep =
         whole = is_whole-after dims (tail_of (flat_all dims trees)) (subst (EndsOrStays None dims) (sym (tail_of-over_none (flat_all dims trees))) all.ends_so);
       },
     )
+
+pub flat_forms_whole : FlatFormsAreWhole
+flat_forms_whole dims series deep = nests_whole dims (plain_nests series) deep

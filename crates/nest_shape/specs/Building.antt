@@ -1,4 +1,5 @@
--- A series as it is built (this project's own). What is said of a builder is in the last lines; the rest serves its proofs alone.
+-- A series as it is built (this project's own). The last lines state what contracts say of a builder; the rest serves only
+-- its proofs.
 use Rattle.std.specs.Prelude.{◌≡◌, ℕ, suc, ◌≤◌, ◌<◌, false, List, [], ◌∷◌, ◌++◌, Option, Some, None}
 use Rattle.physical_stream.specs.Shape.{tail_of, has_misplaced}
 use Rattle.physical_stream.specs.declared.item.Item.{Item}
@@ -15,7 +16,7 @@ abbrev pub items_of_open : List Open → List Item
 items_of_open [] = []
 items_of_open (first ∷ more) = flat_form first.depth first.members ++ items_of_open more
 
--- what is open has depths that fall, from below one bound down to no less than another
+-- the open depths fall, from below one bound down to no less than another
 abbrev pub Descends : ℕ → List Open → ℕ → Type 0
 Descends below [] least = least ≤ below
 Descends below (first ∷ more) least = (first.depth < below) × (IsSeries first.depth first.members × Descends first.depth more least)
@@ -26,7 +27,7 @@ level_after dims None = dims
 level_after dims (Some tails.Elem) = 0
 level_after dims (Some (tails.Close dim)) = suc dim
 
--- of what is open, these nests of this depth were taken out, and nothing of it or a lower one is left
+-- the nests of this depth were taken out of the open ones, and nothing of it or a lower one is left
 pub record Takes (dims depth : ℕ) (old new : List Open) (members : List Nest) : Type 0 where
   pub spelled : items_of_open old ≡ items_of_open new ++ flat_form depth members
   pub descends : Descends (suc dims) new (suc depth)
@@ -37,7 +38,7 @@ pub record AddsTo (dims depth : ℕ) (old new : List Open) (one : Nest) : Type 0
   pub spelled : items_of_open new ≡ items_of_open old ++ flat depth (plain one)
   pub descends : Descends (suc dims) new depth
 
--- what is kept of these items
+-- the state kept of these items
 pub record Keeps (dims level : ℕ) (begun : List Open) (done : List Item) : Type 0 where
   pub spelled : items_of_open begun ≡ done
   pub descends : Descends (suc dims) begun level
@@ -45,7 +46,7 @@ pub record Keeps (dims level : ℕ) (begun : List Open) (done : List Item) : Typ
   pub within : level ≤ dims
   pub placed : has_misplaced None done ≡ false
 
--- ---- what is said of a builder
+-- ---- the contracts of a builder
 
 -- the builder was given these items
 abbrev pub StandsFor : Builder → List Item → Type 0

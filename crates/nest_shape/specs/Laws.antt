@@ -1,4 +1,4 @@
--- What holds of all series and their flat forms (this project's own).
+-- The laws of all series and their flat forms (this project's own).
 use Rattle.std.specs.Prelude.{◌≡◌, ◌↔◌, ℕ, false, List, [], ◌∷◌, ◌++◌}
 use Rattle.std.specs.List.{All}
 use Rattle.physical_stream.specs.Shape.{tail_of, is_misplaced, IsNested}

@@ -31,11 +31,11 @@ pub struct Builder {
     pub(crate) dims: u8,
     /// The least depth that what comes next may have, but for an element.
     pub(crate) level: u8,
-    /// What is open, the outermost first.
+    /// The open sequences, the outermost first.
     pub(crate) begun: List<Open>,
 }
 
-/// What items leave open.
+/// The sequences that items leave open.
 #[derive(Clone, Copy, Debug, PartialEq, Eq)]
 pub struct Unclosed {
     /// Sequences of this level are open: 0 after an element, and one more than its dimension after a Close.

@@ -1,4 +1,4 @@
-//! What holds of all series and their flat forms.
+//! The laws of all series and their flat forms.
 
 ghost use Rattle.nest_shape.specs.Laws.{FlatFormsAreWhole, NestsItemByItem, OneSeries};
 

@@ -2,7 +2,7 @@
 
 use tydi_base::{Bits, List};
 
-/// Lists inside lists, with words in the innermost: what a stream of some dimensionality carries (after the Tydi specification's
+/// Lists inside lists, with words in the innermost, which a stream of some dimensionality carries (after the Tydi specification's
 /// dimensions).
 #[derive(Debug, Drop)]
 pub enum Nest {

@@ -1,4 +1,4 @@
--- One cycle more of a stream: what offends then, and which offence is the first.
+-- One more cycle of a stream: the offences then, and the first of them.
 use Rattle.std.proofs.Common.{refl, slice_get, ap, ◌≡◌, ◌∙◌, ℕ, ◌<◌, ◌≤◌, inl, inr, ◌⊎◌, List, [], ◌∷◌, ◌++◌, length, take, None, Some, sym, subst, arith}
 use Rattle.std.proofs.lemmas.Bool.{cases_lt}
 use Rattle.std.proofs.lemmas.List.{length-append, take_all}
@@ -13,7 +13,7 @@ use Rattle.physical_stream.specs.declared.rule.Rule.{Rule}
 
 -- ---- the first offence where there are more of them
 
--- what offends now is what offended before, and each rule that is broken at this place, after which none of them stands
+-- the offences now are those before, and one for each rule that is broken at this place; the old ones stand before it
 pub record AddsOffences (Old New : Offence → Type 0) (cycle at : ℕ) (Broken : Rule → Type 0) : Type 0 where
   pub stays : (o : Offence) → Old o → New o
   pub earlier : (o : Offence) → Old o → (o.cycle < cycle) ⊎ ((o.cycle ≡ cycle) × (o.stream < at))
@@ -93,7 +93,7 @@ module _ (old new : List StreamTrace) (at : ℕ) (s : StreamTrace) (row : Cycle)
   same_some : {A : Type 0} {x y : A} → Some x ≡ Some y → x ≡ y
   same_some is = cc
 
-  -- what offended offends still
+  -- an old offence is one still
   stays : (o : Offence) → Offends old o → Offends new o
   stays o b = by_stream (same_or_other o.stream at)
     where
@@ -118,7 +118,7 @@ module _ (old new : List StreamTrace) (at : ℕ) (s : StreamTrace) (row : Cycle)
           let is : b.trace ≡ record { params = s.params; cycles = s.cycles ++ row ∷ [] } = same_some (sym b.stands ∙ ap (slice_get new) same ∙ h.now) in
           by_row same (Breaks-cases o.rule s.params s.cycles row o.cycle (subst (λ (x : StreamTrace). Breaks o.rule x.params x.cycles o.cycle) is b.breaks))
 
-  -- where all that offended stands before this cycle of this stream
+  -- where all old offences stand before this cycle of this stream
   pub adds-one : ((o : Offence) → Offends old o → (o.cycle < length s.cycles) ⊎ ((o.cycle ≡ length s.cycles) × (o.stream < at)))
       → AddsOffences (Offends old) (Offends new) (length s.cycles) at (λ rule. BreaksAfter rule s.params s.cycles row)
   adds-one earlier = record {

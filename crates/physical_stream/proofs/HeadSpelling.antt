@@ -1,4 +1,4 @@
--- A stream line of a trace text: what is spelled is read, and what is read is spelled so.
+-- A stream line of a trace text: each spelling is read, and each text that is read is a spelling.
 use Rattle.std.proofs.Common.{◌≡◌, ℕ, ◌^◌, ◌<◌, ◌≤◌, Bool, true, false, ◌&&◌, nat_le, List, [], ◌∷◌, length, Option, Some, None, IfOk, Result, Ok, Err, cond, refl, sym, ap, ◌∙◌, arith}
 use Rattle.std.specs.Prelude.{codes}
 use Rattle.std.specs.Fmt.{decimal}
@@ -101,7 +101,7 @@ params_of-spelled p h =
       are_parameters-from p h,
     ) refl
 
--- what was read of the words of parameters
+-- the parameters that were read of the words
 record ParametersRead (lanes dims level element user : List ℕ) (p : Parameters) : Type 0 where
   lanes_is : lanes ≡ decimal p.lanes
   dims_is : dims ≡ decimal p.dims

@@ -1,4 +1,4 @@
--- What a stream shows at one level it shows at every greater one.
+-- A transfer that a stream can show at one level it can show at every greater one.
 use Rattle.std.proofs.Common.{◌≡◌, ◌≤◌, false, Option, None, Some, IfSome, get_or, arith}
 use Rattle.std.proofs.lemmas.Bool.Decides.{nat_tests}
 use Rattle.tydi_base.specs.Level.{LevelNumbers, number_of}
@@ -8,7 +8,7 @@ use Rattle.physical_stream.specs.Levels.{at_level, CyclesRise, TransfersRise}
 use Rattle.physical_stream.specs.declared.transfer.Transfer.{Transfer}
 
 module _ (p : Parameters) (level : LevelNumbers) (rises : number_of p.level ≤ number_of level) where
-  -- what a stream lacks at the greater level it lacks at the lower one
+  -- a signal that a stream lacks at the greater level it lacks at the lower one
   no_stai : has_stai (at_level level p) ≡ false → has_stai p ≡ false
   no_stai none = grind (arith, nat_tests)
 

@@ -1,4 +1,4 @@
--- What each rule forbids (after the Tydi specification's complexity levels; the texts of the rules are this project's own).
+-- The violation of each rule (after the Tydi specification's complexity levels; the texts of the rules are this project's own).
 -- `before` are the cycles before, `now` is the cycle in question. Rules 2 to 7 and 10 look at each cycle with valid, whether
 -- it is taken or not.
 use Rattle.std.specs.Prelude.{◌≡◌, ℕ, ◌+◌, ◌<◌, ◌≤◌, true, false, List, [], ◌∷◌, ◌++◌, ◌⊎◌, Option, Some, None, take, slice_get}
@@ -98,7 +98,7 @@ abbrev pub OnPause : Type 0 → Option Transfer → Type 0
 OnPause broken None = broken
 OnPause broken (Some t) = ⊥
 
--- what a rule forbids, where it binds. Rule 11 speaks of logical types: without them nothing breaks it.
+-- the violation of a rule, where the rule binds. Rule 11 speaks of logical types: without them nothing breaks it.
 abbrev pub Forbids : Rule → Parameters → List Cycle → Cycle → Type 0
 Forbids Hold p before now = BreaksHold before now
 Forbids Index p before now = OnShown (BreaksIndex p) now.shown
@@ -120,8 +120,8 @@ BreaksAfter rule p before now = Binds rule p.level × Forbids rule p before now
 abbrev pub Breaking : Type 1
 Breaking = Rule → Parameters → List Cycle → Cycle → Type 0
 
--- in the list of cycles, the cycle of this number breaks the rule. What breaks it is handed in, since the rule on tags needs
--- the type of the elements.
+-- in the list of cycles, the cycle of this number breaks the rule. The caller passes what breaks it, since the rule on tags
+-- needs the type of the elements.
 pub record BreaksBy (Broken : Breaking) (rule : Rule) (p : Parameters) (cycles : List Cycle) (number : ℕ) : Type 0 where
   pub now : Cycle
   pub stands : slice_get cycles number ≡ Some now

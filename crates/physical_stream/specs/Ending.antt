@@ -8,7 +8,7 @@ use Rattle.physical_stream.specs.declared.item.Tail.TheVariants as tails
 use Rattle.physical_stream.specs.declared.end.End.{End}
 use Rattle.physical_stream.specs.declared.end.End.TheVariants.{Whole, Pending, Unclosed}
 
--- what is open after this tail, where it is not whole
+-- the open sequences after this tail, where the stream does not end whole
 abbrev pub unclosed : Option Tail → End
 unclosed None = Whole
 unclosed (Some tails.Elem) = Unclosed 0

@@ -15,7 +15,8 @@ pub record Offence : Type 0 where
 abbrev pub IsNotAfter : Offence → Offence → Type 0
 IsNotAfter a b = (a.cycle < b.cycle) ⊎ ((a.cycle ≡ b.cycle) × ((a.stream < b.stream) ⊎ ((a.stream ≡ b.stream) × (number_of_rule a.rule ≤ number_of_rule b.rule))))
 
--- the least of all offences, or none where there is none. What counts as one is handed in, since the rule on tags needs types.
+-- the least of all offences, or none where there is none. The caller passes what counts as one, since the rule on tags needs
+-- types.
 abbrev pub IsFirst : (Offence → Type 0) → Option Offence → Type 0
 IsFirst Offends None = (o : Offence) → Offends o → ⊥
 IsFirst Offends (Some first) = Offends first × ((o : Offence) → Offends o → IsNotAfter first o)

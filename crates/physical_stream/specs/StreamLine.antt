@@ -16,12 +16,12 @@ use Rattle.physical_stream.specs.declared.misspelling.NotForm.{NotForm}
 
 -- ---- read
 
--- that words are not of their form; want of memory is none
+-- the error that words are not of their form; want of memory maps to None
 abbrev pub misspelling_in : Misspelling → Option (Unit {0})
 misspelling_in misspellings.NotForm = Some tt
 misspelling_in misspellings.Memory = None
 
--- that words are not of their form
+-- the error that words are not of their form
 abbrev pub not_form_in : NotForm → Option (Unit {0})
 not_form_in e = Some tt
 

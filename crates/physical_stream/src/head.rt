@@ -2,7 +2,7 @@ use crate::params::Params;
 use std::alloc::Global;
 use tydi_base::{List, Memory, Path, TryClone};
 
-/// What a trace says of one of its streams.
+/// The head of a stream in a trace: its path, its parameters and its direction.
 #[derive(Debug, PartialEq, Eq, Drop)]
 pub struct Head {
     pub path: Path,
@@ -11,7 +11,7 @@ pub struct Head {
     pub reversed: bool,
 }
 
-/// What a trace says before its first row.
+/// The header of a trace: its number of cycles, and the heads of its streams.
 #[derive(Debug, PartialEq, Eq, Drop)]
 pub struct Header {
     pub cycles: u32,

@@ -12,7 +12,8 @@ use crate::transfer::Transfer;
 use std::alloc::Global;
 use tydi_base::{Bits, List, Memory};
 
-/// The items of a transfer, lane by lane: a lane's element where it is active, and then the ends that it marks, ascending.
+/// The items of a transfer, lane by lane: a lane's element where it is active, and then the ends that it marks, ascending. `Memory`
+/// comes where there is none for them.
 pub fn items_of(alloc: Global, p: &Params, transfer: &Transfer) -> Result<List<Item>, Memory>
     requires { Fits p.now transfer.now }
     ensures { IfOk result (λ items. items ≡ items_of p.now transfer.now) }
@@ -44,7 +45,7 @@ fn push_lane(
     push_closes(items, p, transfer, lane)
 }
 
-/// The bits of this lane in the data signal, as many as an element has.
+/// The bits of this lane in the data signal, as many as an element has. `Memory` comes where there is none for the word.
 pub fn lane_word(alloc: Global, p: &Params, transfer: &Transfer, lane: u16) -> Result<Bits, Memory>
     requires fits { Fits p.now transfer.now }
     requires within { lane < p.now.lanes }

@@ -1,4 +1,4 @@
-//! What one lane of a transfer says.
+//! One lane of a transfer: whether it is active, and which sequences end in it.
 
 ghost use Rattle.std.specs.Prelude.{◌≡◌, ◌-◌, ◌^◌, ◌<◌, ◌≤◌};
 ghost use Rattle.physical_stream.specs.Items.{is_active, last_bit};

@@ -20,7 +20,7 @@ impl From<Memory> for Misspelling {
     }
 }
 
-/// That words are not of their form.
+/// Words do not have their form.
 #[derive(Clone, Copy, Debug, PartialEq, Eq)]
 pub struct NotForm;
 

@@ -48,7 +48,7 @@ impl Rule {
         }
     }
 
-    /// Its name, as fault lines write it.
+    /// Its name, as error lines write it.
     pub fn name(self) -> &'static str
         ensures { result.now ≡ name_of_rule self }
     {

@@ -12,7 +12,7 @@ use crate::params::Params;
 use std::alloc::Global;
 use tydi_base::{Level, List, Memory, Path, Written, emit, read_decimal};
 
-/// The number that at most ten digits spell.
+/// The number that at most ten digits spell. `NotForm` comes exactly where they are more, or spell no number.
 #[tactic(auto, unfolding(crate::specs::StreamLine::header_number))]
 pub fn header_number(digits: &[u8]) -> Result<u64, NotForm>
     ensures exact { Gives not_form_in (λ n. n) result (spec.header_number digits.now) }
@@ -118,7 +118,8 @@ fn head_of_words(alloc: Global, words: &[&[u8]]) -> Result<Head, Misspelling>
     })
 }
 
-/// The head that a stream line spells.
+/// The head that a stream line spells. `NotForm` comes where the line spells none, and `Memory` where there is none for the head or
+/// the words.
 #[tactic(auto, unfolding(crate::specs::StreamLine::head_of))]
 pub fn head_of(alloc: Global, line: &[u8]) -> Result<Head, Misspelling>
     ensures { Gives misspelling_in (λ head. head) result (spec.head_of line.now) }

@@ -24,7 +24,8 @@ pub struct Transfer {
 }
 
 impl Transfer {
-    /// The transfer of this stream that is zero in every signal but endi, which is the last lane.
+    /// The transfer of this stream that is zero in every signal but endi, which is the last lane. `Memory` comes where there is
+    /// none for its signals.
     pub fn zero(alloc: Global, p: &Params) -> Result<Transfer, Memory>
         ensures value { IfOk result (λ t. t ≡ zero_transfer p.now) }
         ensures fits { IfOk result (Fits p.now) }

@@ -16,7 +16,7 @@ pub union_width-is : (parts : Parts) → width_of (union parts) ≡ index_width 
 unfolding tag_width
 union_width-is parts = refl
 
--- what is found of a Union's tag and room is its fields
+-- the fields found for a Union's tag and room are its fields
 pub union_fields-are : (names : List (List ℕ)) (offset : ℕ) (parts : List Part) (tag shared room : ℕ) → tag ≡ index_width (length parts) → shared ≡ offset + tag → room ≡ greatest_width (plain_parts parts)
     → field (tag_in names) offset tag ∷ field (union_in names) shared room ∷ [] ≡ fields_at names offset (union (plain_parts parts))
 unfolding tag_width

@@ -53,7 +53,7 @@ width_in layout signals.Endi = layout.endi
 width_in layout signals.Strb = layout.strb
 width_in layout signals.User = layout.user
 
--- what a signal stands at where the stream lacks it: endi at the last lane, strb at all ones, any other at zero
+-- the value of a signal that the stream lacks: endi is the last lane, strb is all ones, any other is zero
 abbrev pub default_of : Signal → SignalDefault
 default_of signals.Valid = Zero
 default_of signals.Ready = Zero

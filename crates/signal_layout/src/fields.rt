@@ -24,7 +24,8 @@ pub struct Field {
     pub width: u32,
 }
 
-/// The fields of an element that have bits, from the lowest bit on. Of a Union at a path `u` they are `u.tag` and `u.union`.
+/// The fields of an element that have bits, from the lowest bit on. Those of a Union at a path `u` are `u.tag` and `u.union`.
+/// `Memory` comes where there is none for them.
 pub fn fields_of(alloc: Global, ltype: &LType) -> Result<List<Field>, Memory>
     requires { IsPlain (plain ltype.now) }
     ensures { IfOk result (λ fields. fields ≡ spec.fields_of (plain ltype.now)) }

@@ -22,7 +22,7 @@ pub enum Signal {
     User,
 }
 
-/// What a signal stands at where the stream lacks it.
+/// The value of a signal that the stream lacks.
 #[derive(Clone, Copy, Debug, PartialEq, Eq)]
 pub enum SignalDefault {
     /// All bits are 0.
@@ -33,7 +33,7 @@ pub enum SignalDefault {
     Ones,
 }
 
-/// What this signal stands at where the stream lacks it.
+/// The value that this signal has where the stream lacks it.
 pub fn default_of(signal: Signal) -> SignalDefault
     ensures { result ≡ default_of signal }
 {

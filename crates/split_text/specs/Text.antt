@@ -1,5 +1,5 @@
--- What a port's type compiles to, as a text (this project's own): for each physical stream its head line, its root, the signals that it
--- has with their widths, and the fields of its elements.
+-- The text that a port's type compiles to (this project's own): for each physical stream its head line, its root, the signals that
+-- it has with their widths, and the fields of its elements.
 use Rattle.std.specs.Prelude.{◌≡◌, ℕ, ◌<◌, ◌⊎◌, List, [], ◌++◌, length, slice_get, Option, Some, None, codes, decimal}
 use Rattle.std.specs.List.{flat_map}
 use Rattle.tydi_base.specs.Path.{path_text}
@@ -40,7 +40,7 @@ abbrev pub field_lines : Option StreamNode → List ℕ
 field_lines None = []
 field_lines (Some node) = flat_map field_line (fields_of node.element)
 
--- what a trace says of a physical stream
+-- the head of a physical stream in a trace
 abbrev pub head_of : Phys → Head
 head_of one = record { path = one.path; params = one.params; reversed = one.reversed }
 

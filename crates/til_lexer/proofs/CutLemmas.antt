@@ -20,7 +20,7 @@ pub record CanCut (bytes : List ℕ) (count : ℕ) : Type 0 where
   pub some : 0 < count
   pub boundary : IsCharBoundary bytes count
 
--- what ends in ASCII further on in a text
+-- a span further on in a text that ends in ASCII
 pub ends_past : (bytes : List ℕ) (before count : ℕ) → before ≤ length bytes → EndsInAscii (drop before bytes) count → EndsInAscii bytes (before + count)
 ends_past bytes before count within ends =
     let place : before + (count - 1) ≡ before + count - 1 = let some = ends.some in omega arith in

@@ -80,7 +80,7 @@ form_begins kinds.Equals text form = bytes_begin text 61 _ form (omega arith) re
 form_begins kinds.Point text form = bytes_begin text 46 _ form (omega arith) refl refl
 form_begins kinds.DoubleDash text form = bytes_begin text 45 _ form (omega arith) refl refl
 
--- ---- what has a form is in UTF-8
+-- ---- a text with a form is in UTF-8
 
 pub ascii_utf8 : (text : List ℕ) → list_all is_ascii text ≡ true → IsUtf8 text
 ascii_utf8 text all = IsUtf8-from_ascii text (λ at. ascii_at text at all)

@@ -127,7 +127,7 @@ number_form place bytes whole fraction counted some is = either (Formed bytes) (
         let more : 0 < fraction = grind (arith, nat_tests) in
         inr (rw counted (point_number bytes fraction digits (rw counted at is) more (omega arith)))
 
--- ---- what stands between two marks
+-- ---- the text between two marks
 
 -- no such byte stands before the first
 pub lacks-before : (mark : ℕ) (bytes : List ℕ) → Lacks mark (take (position_or_len (λ byte. eqb byte mark) bytes) bytes)

@@ -30,7 +30,7 @@ unfolding with_front
 with_front-append front next (Ok tokens) = rw (append_assoc front next tokens) refl
 with_front-append front next (Err fault) = refl
 
--- what a piece has taken of a text is passed over
+-- the bytes that a piece has taken of a text are passed over
 taken : (count : ℕ) (place : Place) (bytes : List ℕ) → tokens_from count place bytes ≡ tokens_from 0 (place_past place (take count bytes)) (drop count bytes)
 taken zero place bytes = refl
 taken (suc count) place [] = refl
@@ -87,7 +87,7 @@ unfolding with_front
 fails whole tokens place bytes fault same some is =
     gives_fault fault whole (sym same ∙ ap (with_front tokens) (tokens_from-fault place bytes fault some is))
 
--- what was found with the place after it
+-- the piece that was found, with the place after it
 pub piece-of : (place : Place) (bytes : List ℕ) (found : Result Piece LexFault) (piece : Piece) (after : Place) → Ok (piece, after) ≡ placed place bytes found
     → (Ok piece ≡ found) × (after ≡ place_past place (take (length_of piece) bytes))
 piece-of place bytes (Ok other) piece after is =

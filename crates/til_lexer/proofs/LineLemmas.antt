@@ -181,7 +181,7 @@ pub placed-open : (kind : TokenKind) (fault : LexFault) (mark : ℕ) (place : Pl
 unfolding closed_token
 placed-open kind fault mark place after is = rw is refl
 
--- what stands between two marks leaves room for the second one
+-- the text between two marks leaves room for the second one
 pub marked-room : (mark : ℕ) (place : Place) (after : List ℕ) (span : Span) → IsMarked mark place after span → IsNear place → (span.after.offset < place.offset + length after) × IsNear span.after
 marked-room mark place after span is near =
     let there = mark_there mark after span.count is.0 in

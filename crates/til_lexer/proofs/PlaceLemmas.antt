@@ -18,7 +18,7 @@ pub prefix-suc : (test : ℕ → Bool) (bytes : List ℕ) (at : ℕ) → at < le
     → prefix_len test (drop at bytes) ≡ suc (prefix_len test (drop (at + 1) bytes))
 prefix-suc test bytes at within passes = let more : at + 1 ≡ suc at = omega arith in rw more (prefix-next test bytes at within passes)
 
--- what stands before a mark that is there
+-- the span before a mark that is there
 pub marked : (mark : ℕ) (place : Place) (bytes : List ℕ) (span : Span) → IsSpan place bytes (position_or_len (λ byte. eqb byte mark) bytes) span → span.count < length bytes
     → IsMarked mark place bytes span
 marked mark place bytes span is within =

@@ -7,7 +7,7 @@ use Rattle.std.proofs.lemmas.Grind.{common_steps}
 use Rattle.std.proofs.lemmas.List.Sums.{position_or_len_is, prefix_len-le-length}
 use Rattle.memchr.specs.Find.{IsFirstByte, is_byte2}
 
--- what std's `position` finds
+-- the result of std's `position`
 abbrev pub position_found : (ℕ → Bool) → List ℕ → Option ℕ
 position_found test bytes = cond (ltb (position_or_len test bytes) (length bytes)) (Some (position_or_len test bytes)) None
 

@@ -1,4 +1,4 @@
--- What has the form of a token, before a byte that does not go on with it, is the piece that is found.
+-- A text with the form of a token, before a byte that does not go on with it, is the piece that is found.
 use Rattle.std.proofs.Common.{◌≡◌, ℕ, suc, ◌+◌, ◌<◌, ◌≤◌, ◌⊎◌, inl, inr, Bool, true, false, ◌&&◌, ◌||◌, cond, eqb, ltb, List}
 use Rattle.std.proofs.Common.{[], ◌∷◌, ◌++◌, length, take, drop, get_or, Some, Result, Ok, refl, sym, ap, ◌∙◌, subst, arith, append_assoc, length-append}
 use Rattle.std.specs.Char.{is_ascii_alphabetic, is_ascii_digit}
@@ -92,7 +92,7 @@ begins_front front rest begins =
       no_slash = ap (λ byte. eqb byte 47) (sym first) ∙ begins.no_slash;
     }
 
--- what begins with no letter and no `_` is a mark, where it has a form
+-- a text that begins with no letter and no `_` is a mark, where it has a form
 mark_found : (place : Place) (kind : TokenKind) (front rest : List ℕ) → HasForm kind front → IsAfter kind front rest
     → starts_name (get_or front 0 0) ≡ false → piece_at place (front ++ rest) ≡ mark_at place (front ++ rest)
 mark_found place kind front rest form after letter =
@@ -160,7 +160,7 @@ number_stops byte stops = by_cases (is_ascii_digit byte) (eqb byte 46) stops
     by_cases true point is = absurd cc
     by_cases false point is = (refl, is)
 
--- what goes on with no token of a kind goes on with none of its texts
+-- a byte that goes on with no token of a kind goes on with none of its texts
 pub goes-less : (kind : TokenKind) (spelling : List ℕ) (byte : ℕ) → runs_on kind byte ≡ false → goes_on kind spelling byte ≡ false
 goes-less kinds.Number spelling byte stops = let stop = number_stops byte stops in rw (stop.0, stop.1) (never (list_all is_ascii_digit spelling))
   where
@@ -212,7 +212,7 @@ point_number_is place text rest is stops =
     ap (mark_at place) flat ∙ point_is place is.before is.behind rest is.digits_before is.digits_behind is.few stops
     ∙ ap (λ n. Ok (pieces.Token kinds.Number n)) size
 
--- ---- what stands between two marks
+-- ---- the text between two marks
 
 until-inside : (mark : ℕ) (inside rest : List ℕ) → Lacks mark inside → until_mark mark (inside ++ mark ∷ rest) ≡ Some (length inside)
 until-inside mark inside rest lacks =

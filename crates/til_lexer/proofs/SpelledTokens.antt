@@ -50,7 +50,7 @@ gap_step place (byte ∷ gap) rest all fails =
     ∙ ap (λ (l : List ℕ). tokens_from 0 (place_past place l) (drop (length front) (front ++ rest))) (take-append_seam front rest)
     ∙ ap (λ (l : List ℕ). tokens_from 0 (place_past place front) l) (drop-append_seam front rest)
 
--- ---- what follows a token
+-- ---- the text after a token
 
 -- no token goes on at the end of a text, nor with white space
 ends_anywhere : (kind : TokenKind) → runs_on kind 0 ≡ false
@@ -160,7 +160,7 @@ spelled_behind-read gap pieces space are = gap_step start gap (spelled_text piec
 
 -- ---- the text of each token
 
--- what is made of the kind, the text and the place of each token that is spelled
+-- the values made of the kind, the text and the place of each token that is spelled
 abbrev pub made_of : {A : Type 0} → (TokenKind → List ℕ → Place → A) → Place → List Spelled → List A
 made_of make place [] = []
 made_of make place (piece ∷ pieces) = make piece.kind piece.spelling place ∷ made_of make (place_past place (piece.spelling ++ piece.gap)) pieces
@@ -188,7 +188,7 @@ made_from make text front place (piece ∷ pieces) whole offset =
     ap (λ l. make piece.kind l place ∷ map (λ (token : Token). make token.kind (own_text text token) token.place) (tokens_spelled (place_past place bytes) pieces)) own
     ∙ ap (λ l. make piece.kind piece.spelling place ∷ l) further
 
--- what is made of each token that is spelled behind white space, from its kind, its own text and its place
+-- the values made of each token that is spelled behind white space, from its kind, its own text and its place
 pub map-tokens_spelled : {A : Type 0} (make : TokenKind → List ℕ → Place → A) (gap : List ℕ) (pieces : List Spelled)
     → map (λ (token : Token). make token.kind (own_text (gap ++ spelled_text pieces) token) token.place) (tokens_spelled (place_past start gap) pieces)
     ≡ made_of make (place_past start gap) pieces

@@ -1,4 +1,4 @@
--- The tokens of a text are never at fault for want of memory.
+-- The fault of a text is never want of memory.
 use Rattle.std.proofs.Common.{◌≡◌, ℕ, zero, suc, ◌-◌, List, [], ◌∷◌, Option, Some, None, Err, IsSome}
 use Rattle.std.proofs.lemmas.Result.{IfErr-at_err}
 use Rattle.tydi_base.proofs.ReadingLaws.{FaultsAre, faults_are}
@@ -39,6 +39,6 @@ tokens_from-calm zero place (byte ∷ bytes) =
     let later : (piece : Piece) → FaultsAre Calm (tokens_from (length_of piece - 1) (place_after place byte) bytes) = λ piece. tokens_from-calm (length_of piece - 1) (place_after place byte) bytes in
     search (faults_are, piece_at-calm, later)
 
--- the tokens of a text are never at fault for want of memory
+-- the fault of a text is never want of memory
 pub tokens_free : (text : List ℕ) → tokens_of text ≡ Err faults.Memory → ⊥
 tokens_free text is = let calm : Calm faults.Memory = IfErr-at_err Calm is (tokens_from-calm 0 start text).are in absurd cc

@@ -187,7 +187,7 @@ all_ascii p ascii (byte ∷ bytes) all = by_cases (p byte) refl (all_ascii p asc
 names_ascii : (word : List ℕ) → list_all is_name_byte word ≡ true → list_all is_ascii word ≡ true
 names_ascii word all = all_ascii is_name_byte is_name_byte-ascii word all
 
--- ---- what the word at the front of a text is
+-- ---- the word at the front of a text
 
 pub name_cut : (text : List ℕ) (count : ℕ) → IsUtf8 text → count ≡ prefix_len is_name_byte text → 0 < count → CanCut text count
 name_cut text count utf8 is some = rw is (ends_cut text (prefix_len is_name_byte text) utf8 (prefix_ends is_name_byte is_name_byte-ascii text (rw is at some)))

@@ -1,4 +1,4 @@
--- The faults of a text, apart from want of memory. This project's own.
+-- The errors of a text, apart from want of memory. This project's own.
 use Rattle.std.specs.Prelude.{Option, Some, None}
 use Rattle.til_lexer.specs.declared.fault.LexFault.{LexFault}
 use Rattle.til_lexer.specs.declared.fault.LexFault.TheVariants as faults

@@ -73,7 +73,7 @@ symbol_token place None None = Err (faults.StrayChar place)
 abbrev pub symbol_at : Place → List ℕ → Result Piece LexFault
 symbol_at place bytes = symbol_token place (double_symbol (slice_index bytes 0) (slice_index bytes 1)) (single_symbol (slice_index bytes 0))
 
--- what is no blank and no word: a number, quoted text, documentation or a symbol
+-- a piece that is neither blank nor word: a number, quoted text, documentation or a symbol
 unfoldable pub mark_at : Place → List ℕ → Result Piece LexFault
 mark_at place bytes =
     if is_ascii_digit (slice_index bytes 0) then number_at place bytes

@@ -1,4 +1,4 @@
--- What each token of a text is of it. This project's own.
+-- Each token of a text is a slice of the text. This project's own.
 use Rattle.std.specs.Prelude.{◌≡◌, ℕ, ◌-◌, ◌<◌, List, take, drop, All, Ok}
 use Rattle.std.specs.Str.{IsUtf8, IsCharBoundary}
 use Rattle.til_lexer.specs.declared.piece.Piece.TheVariants as pieces

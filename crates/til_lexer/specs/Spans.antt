@@ -59,6 +59,6 @@ until_mark mark bytes =
 abbrev pub IsSpan : Place → List ℕ → ℕ → Span → Type 0
 IsSpan place bytes count span = (span.count ≡ count) × (span.after ≡ place_past place (take count bytes))
 
--- what stands before the first such mark in a text at this place
+-- the span before the first such mark in a text at this place
 abbrev pub IsMarked : ℕ → Place → List ℕ → Span → Type 0
 IsMarked mark place bytes span = (until_mark mark bytes ≡ Some span.count) × (span.after ≡ place_past place (take span.count bytes))

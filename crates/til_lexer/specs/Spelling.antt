@@ -120,7 +120,7 @@ abbrev pub TokensHaveTheirForm : Type 0
 TokensHaveTheirForm =
     (text : List ℕ) (tokens : List Token) → IsUtf8 text → tokens_of text ≡ Ok tokens → All (λ token. HasForm token.kind (own_text text token)) tokens
 
--- what is spelled of tokens is read as these tokens
+-- a spelling of tokens is read as these tokens
 abbrev pub SpelledTokensAreRead : Type 0
 SpelledTokensAreRead = (pieces : List Spelled) → AreSpelled pieces → tokens_of (spelled_text pieces) ≡ Ok (tokens_spelled start pieces)
 

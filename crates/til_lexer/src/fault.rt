@@ -3,7 +3,7 @@ ghost use Rattle.til_lexer.specs.declared.fault.LexFault.TheVariants as faults;
 
 use tydi_base::{Memory, Place};
 
-/// Why a text has no tokens. Of several faults the first in the text is told.
+/// Why a text has no tokens. Where there are several errors, the first in the text is reported.
 #[derive(Clone, Copy, Debug, PartialEq, Eq)]
 pub enum LexFault {
     /// No token begins with the character at this place.

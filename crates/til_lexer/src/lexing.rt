@@ -12,8 +12,8 @@ use crate::token::Token;
 use std::alloc::Global;
 use tydi_base::{List, Memory, Place};
 
-/// The tokens of a text, in their order, each with its place. A text has fewer than 2 ^ 32 - 1 bytes. Each error says the
-/// first fault in the text, with its place: see `LexFault`.
+/// The tokens of a text, in their order, each with its place. A text has fewer than 2 ^ 32 - 1 bytes. Apart from
+/// `Memory`, it fails with the first error in the text, at its place: see `LexFault`.
 pub fn lex(alloc: Global, text: &str) -> Result<List<Token>, LexFault>
     requires { length text.now < 2 ^ 32 - 1 }
     ensures gives { Gives fault_in (λ tokens. tokens) result (tokens_of text.now) }

@@ -1,4 +1,4 @@
-//! What is no blank and no word: numbers, quoted text, documentation and symbols.
+//! Pieces that are neither blank nor word: numbers, quoted text, documentation and symbols.
 
 ghost use Rattle.std.specs.Prelude.{◌≡◌, ◌≢◌, ◌∷◌, ◌+◌, ◌-◌, ◌^◌, ◌<◌, ◌≤◌, length};
 ghost use Rattle.til_lexer.specs.Found.{placed};
@@ -14,10 +14,10 @@ use crate::symbols::symbol_at;
 use crate::token::TokenKind;
 use tydi_base::Place;
 
-/// What stands on both sides of quoted text.
+/// The byte on both sides of quoted text.
 const QUOTE: u8 = b'"';
 
-/// What stands on both sides of documentation.
+/// The byte on both sides of documentation.
 const HASH: u8 = b'#';
 
 /// The number, quoted text, documentation or symbol that begins a text at this place, and the place after it.

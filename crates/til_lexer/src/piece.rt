@@ -1,4 +1,4 @@
-//! Pieces: what a text falls into.
+//! The pieces that a text falls into.
 
 ghost use Rattle.std.specs.Prelude.{◌≡◌, ◌+◌, ◌-◌, ◌^◌, ◌<◌, ◌≤◌, IfOk};
 ghost use Rattle.til_lexer.specs.Found.{along_line};
@@ -8,7 +8,7 @@ use crate::fault::LexFault;
 use crate::token::TokenKind;
 use tydi_base::Place;
 
-/// What stands at the front of a text, and how many bytes it has.
+/// The piece at the front of a text, and its number of bytes.
 #[derive(Clone, Copy, Debug, PartialEq, Eq)]
 pub(crate) enum Piece {
     /// White space, or a comment.

@@ -33,7 +33,7 @@ pub(crate) struct Span {
 }
 
 impl Span {
-    /// So many bytes more, none of which is an LF.
+    /// The span with so many more bytes, none of which is an LF.
     fn along(self, count: usize) -> Span
         requires fits { self.after.offset + count < 2 ^ 32 - 1 }
         requires counted { self.count ≤ self.after.offset }
@@ -163,7 +163,7 @@ pub(crate) fn name_bytes_at(bytes: &[u8]) -> usize
         .unwrap_or(bytes.len())
 }
 
-/// What stands before the first such mark in a text at this place. None where there is none.
+/// The span before the first such mark in a text at this place. None where there is no such mark.
 pub(crate) fn until_mark(mark: u8, place: Place, bytes: &[u8]) -> Option<Span>
     requires fits { place.offset + length bytes.now < 2 ^ 32 - 1 }
     requires line { place.line ≤ place.offset + 1 }

@@ -1,6 +1,6 @@
 use tydi_base::Place;
 
-/// What a token is.
+/// The kind of a token.
 #[derive(Clone, Copy, Debug, PartialEq, Eq)]
 pub enum TokenKind {
     /// A word that has the form of a name. Reserved words and the language's own words are words too.
@@ -38,7 +38,7 @@ pub enum TokenKind {
 /// A token of a text. Its own text is the slice of the source from `from` up to `to`.
 #[derive(Clone, Copy, Debug, PartialEq, Eq)]
 pub struct Token {
-    /// What it is.
+    /// Its kind.
     pub kind: TokenKind,
     /// Where its first byte stands in the source.
     pub from: u32,

@@ -58,7 +58,7 @@ trees_apart text one other s s' =
 pub trees_or_faults : TreesOrFaults
 trees_or_faults text tokens utf8 lexed = tree_or_fault (lexemes_of text tokens) (formed_of text tokens utf8 lexed)
 
--- a fault of the tokens of a text names one of them
+-- an error of the tokens of a text names one of them
 pub names_token : (text : List ℕ) (tokens : List Token) (fault : ParseFault) → IsFaultOf (lexemes_of text tokens) fault → NamesToken (length tokens) fault
 names_token text tokens fault is = named (lexemes_of text tokens) (length tokens) fault (sym (length-lexemes text tokens)) (λ _. is)
 
@@ -80,7 +80,7 @@ namespaces-few (one ∷ all) ts s =
 
 -- ---- the form of the tree, and its places
 
--- what the tokens of a text show of the tree that they spell
+-- the tokens of a text show these properties of the tree that they spell
 shown-of : {Named : AstName → Type 0} (text : List ℕ) → Shows (IsPlaceIn text) Named → (ast : Ast) → IsTreeOf text ast
     → EachIs (NamespaceWith Named) ast.namespaces
 shown-of {Named} text shows ast is = each_of (NamespaceWith Named) SpellsNamespace (namespace_of shows) ast.namespaces (record {

@@ -41,7 +41,7 @@ TooDeep-first text (t ∷ tokens) token formed some same =
     let test : begins_type (lexeme_of text t) ≡ true = rw (same) form in
     ap (λ b. stopped (cond b (reading.Unfit (record {})) reading.Refused) (lexemes_of text (t ∷ tokens))) test
 
--- ---- what stands between two marks
+-- ---- the text between two marks
 
 pub between_marks-of : (mark : ℕ) (text : List ℕ) → between_marks (mark ∷ text ++ mark ∷ []) ≡ text
 between_marks-of mark text =

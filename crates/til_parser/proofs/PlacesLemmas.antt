@@ -1,4 +1,4 @@
--- What holds of a tree holds of each that is the same, places aside.
+-- A property of a tree holds for each tree that is the same, places aside.
 use Rattle.til_parser.proofs.rules.Common.{◌≡◌, ℕ, ◌≤◌, suc, List, [], ◌∷◌, ◌++◌, length, Option, Some, None, refl, ap, subst, arith, codes, is_name, EachIs, Ast, AstKind, AstName}
 use Rattle.til_parser.proofs.rules.Common.{AstNamespace, PortsWithin, KindWithin, DeclsWithin, Ltype, null, depth, depth_of_parts, plain}
 use Rattle.std.proofs.Common.{flat_map, IsTrue}
@@ -100,7 +100,7 @@ body-kept (bodies.Structural ones) (bodies.Structural others) s =
     let k = each-kept (codes " ") stmt-kept ones others s in record { text = cc; is = k.0.is; within = λ levels w. w }
 body-kept _ _ s = absurd s
 
--- ---- what types stand in
+-- ---- the trees that types stand in
 
 port-kept : (one other : AstPort) → SamePort one other → Kept port_text IsPort (λ levels port. depth (plain port.ltype) ≤ levels) one other
 port-kept one other s =

@@ -1,4 +1,4 @@
--- What spells a name, a path, a number, a marked text or a tree shows its form.
+-- Tokens that spell a name, a path, a number, a marked text or a tree show its form.
 use Rattle.til_parser.proofs.rules.Common.{◌≡◌, ℕ, List, [], ◌∷◌, Option, Some, None, All, refl, sym, ap, subst, ◌∙◌, arith, All-head}
 use Rattle.til_parser.proofs.rules.Common.{Place, HasForm, IsBetween, TokenKind, ◌⋯◌, Each, EachIs, AstName, Form, Bracketed, Commas, Doc, IsNamed, Name, Number, One, Path, Quoted}
 use Rattle.til_parser.proofs.rules.Common.{Whole, Lexeme, IsFormed, between_marks, ◌⊎◌, inl, inr, ◌++◌, Argument, AstKind, AstNamespace, IsDefault, Of, Second, SpellsType}
@@ -19,7 +19,7 @@ use Rattle.til_parser.specs.declared.tree.AstKind.TheVariants as decls
 use Rattle.til_parser.specs.declared.tree.AstPorts.TheVariants as ports
 use Rattle.til_parser.specs.declared.tree.AstStmt.TheVariants as stmts
 
--- ---- what spells
+-- ---- tokens that spell
 
 -- a token has the form of its kind and stands at such a place
 pub record IsAt (At : Place → Type 0) (lexeme : Lexeme) : Type 0 where
@@ -67,7 +67,7 @@ module _ {At : Place → Type 0} {X : Type 0} (Is : X → Type 0) (Spell : X →
 
 -- ---- names and paths
 
--- what a name's token shows of the name
+-- the token of a name shows this property of the name
 abbrev pub Shows : (Place → Type 0) → (AstName → Type 0) → Type 0
 Shows At Named = (name : AstName) (lexeme : Lexeme) → IsNamed name lexeme → At lexeme.place → Named name
 
@@ -120,7 +120,7 @@ module _ {At : Place → Type 0} (Element User : Form) (user : Ltype) (settings 
     spelled = i.spelled;
   })) inr (named-or one_or_two (Of kinds.Comma) _ _ spelt.tokens spelt.spelled argument)
 
-  -- what spells the types of the arguments of a Stream, and the form of the others
+  -- the tokens that spell the types of the arguments of a Stream, and the form of the others
   arguments-found : Spelt At Element × (Spelt At User ⊎ (user ≡ null)) × AreSettings settings
   arguments-found = (
     ⊎_elim third_of absurd (has arguments.Data),

@@ -1,4 +1,4 @@
--- What a parser stands for: the tokens that it has not taken.
+-- A parser stands for the tokens that it has not taken.
 use Rattle.std.specs.Prelude.{List, All}
 use Rattle.til_lexer.specs.Slices.{IsTokenOf}
 use Rattle.til_parser.specs.declared.parser.Parser.TheInside.{Inside}

@@ -1,4 +1,4 @@
--- What a fault of tokens names. This project's own.
+-- The token that an error names. This project's own.
 use Rattle.std.specs.Prelude.{◌≡◌, ℕ, zero, suc, ◌<◌, ◌-◌, ◌⊎◌, List, Result, Ok, Err}
 use Rattle.std.specs.Str.{IsUtf8}
 use Rattle.tydi_reading.specs.Faults.{IsRefusedAt, IsUnfitAt, IsCutOff}
@@ -26,22 +26,23 @@ abbrev pub refused_at : ℕ → ℕ → ParseFault
 refused_at zero index = faults.EndOfText
 refused_at (suc left) index = faults.Unexpected index
 
--- what a fault says of so many tokens, where so many are left
+-- the error of so many tokens, where so many are left
 abbrev pub fault_at : Fault TooDeep → ℕ → ℕ → ParseFault
 fault_at reading.Refused count left = refused_at left (count - left)
 fault_at (reading.Unfit _) count left = faults.TooDeep (count - left)
 fault_at reading.Memory count left = faults.Memory
 
--- what a fault of tokens says, by the texts of the grammar alone, whose types nest as deep as they like. The tokens before a refused one
--- go on to such a text, and with it they go on to none. Where the text ends, all tokens go on to one and are none. At one that is too deep the
--- first type begins that stands inside 64 others, and with it the tokens go on. Before the others no type stands so deep.
+-- the meaning of an error, by the texts of the grammar alone, whose types nest as deep as they like. The tokens before a refused
+-- one go on to such a text, and with it they go on to none. Where the text ends, all tokens go on to one and are none. At one that
+-- is too deep the first type begins that stands inside 64 others, and with it the tokens go on. Before the others no type stands so
+-- deep.
 abbrev pub IsFaultOf : List Lexeme → ParseFault → Type 0
 IsFaultOf ts (faults.Unexpected index) = IsRefusedAt IsFormed Spells (ProjectTo most_levels) index ts
 IsFaultOf ts faults.EndOfText = IsCutOff IsFormed Spells (ProjectTo most_levels) ts
 IsFaultOf ts (faults.TooDeep index) = IsUnfitAt IsFormed Spells (ProjectTo most_levels) index ts
 IsFaultOf ts faults.Memory = ⊥
 
--- tokens with this fault are told it, where there is memory
+-- parsing tokens with this error reports it, where there is memory
 abbrev pub IsTold : List Lexeme → Result Ast ParseFault → Type 0
 IsTold ts result = (fault : ParseFault) → IsFaultOf ts fault → (result ≡ Err fault) ⊎ (result ≡ Err faults.Memory)
 

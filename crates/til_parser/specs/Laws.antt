@@ -1,4 +1,4 @@
--- What holds of trees and their texts.
+-- The laws of trees and their texts.
 use Rattle.std.specs.Prelude.{◌≡◌, ◌<◌, ◌^◌, ℕ, List, length, Ok}
 use Rattle.std.specs.Str.{IsUtf8}
 use Rattle.tydi_reading.specs.Lists.{EachIs}

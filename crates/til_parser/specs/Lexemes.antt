@@ -28,6 +28,6 @@ lexemes_of text (token ∷ tokens) = lexeme_of text token ∷ lexemes_of text to
 abbrev pub IsFormed : Lexeme → Type 0
 IsFormed lexeme = HasForm lexeme.kind lexeme.spelling
 
--- what stands between the two marks of quoted text or documentation
+-- the text between the two marks of quoted text or documentation
 abbrev pub between_marks : List ℕ → List ℕ
 between_marks spelling = take (length spelling - 2) (drop 1 spelling)

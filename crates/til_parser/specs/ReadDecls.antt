@@ -51,7 +51,7 @@ link_from called =
 unfoldable pub instance_of : AstName → Reader AstStmt
 instance_of called = (λ streamlet. stmts.Instance called streamlet) <$> (expect kinds.Equals >> (path << expect kinds.Semicolon))
 
--- a statement: after the name with which both forms begin, the next token tells which it is
+-- a statement: after the name with which both forms begin, the next token decides which it is
 unfoldable pub stmt : Reader AstStmt
 stmt = name >>= (λ called. choose (is_kind kinds.Equals) false (instance_of called) (link_from called))
 
@@ -75,18 +75,18 @@ streamlet_ports levels = choose (is_kind kinds.OpenParen) false (ports.Own <$> b
 abbrev pub keyword : Reader Keyword
 keyword = token kinds.Word (λ place spelling. keyword_of spelling)
 
--- what follows the name of an implementation
+-- the part of an implementation after its name
 unfoldable pub impl_kind : Reader AstKind
 impl_kind = (λ (i : AstPath × AstBody). decls.Impl i.0 i.1) <$> (expect_word (codes "of") >> (path <&> (expect kinds.Equals >> body)))
 
--- what follows the name of a test
+-- the part of a test after its name
 unfoldable pub test_kind : Reader AstKind
 test_kind =
     (λ (t : AstPath × (AstName × (List ℕ × List ℕ))). decls.Test t.0 t.1.0 t.1.1.0 t.1.1.1)
     <$> (expect_word (codes "of") >> (path <&> (expect_word (codes "drive") >> (name <&> (expect kinds.Equals
     >> (quoted <&> (expect_word (codes "plan") >> quoted)))))))
 
--- what follows the keyword and the name
+-- the part of a declaration after its keyword and its name
 abbrev pub kind_of : ℕ → Keyword → Reader AstKind
 kind_of levels keywords.Type = decls.Alias <$> (expect kinds.Equals >> ltype levels)
 kind_of levels keywords.Interface = decls.Interface <$> (expect kinds.Equals >> bracketed (port levels))

@@ -136,7 +136,7 @@ either_word first second = token kinds.Word (λ place spelling. either_of first 
 abbrev pub none_given : Arguments
 none_given = record { element = None; throughput = None; dims = None; sync = None; level = None; reverse = None; user = None; keep = None }
 
--- what the value of an argument is
+-- the type of the value of an argument
 abbrev pub Value : Argument → Type 0
 Value arguments.Data = AstType
 Value arguments.Throughput = Fraction
@@ -242,7 +242,7 @@ bits = expect kinds.OpenParen >> (whole << expect kinds.CloseParen)
 unfoldable pub part : Reader AstType → Reader AstPart
 part inner = (λ (p : AstName × AstType). roll-AstPart (record { name = p.0; ltype = p.1 })) <$> (name <&> (expect kinds.Colon >> inner))
 
--- what follows the word of a type, by the reader of the types inside it
+-- the part of a type after its word, by the reader of the types inside it
 abbrev pub type_after : Reader AstType → TypeWord → Reader AstType
 type_after inner words.Null = pure types.Null
 type_after inner words.Bits = types.Bits <$> bits

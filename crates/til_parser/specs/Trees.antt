@@ -1,5 +1,5 @@
--- Which trees texts spell, their places aside: a condition on the tree alone. What is asked of names is left open, so that it serves
--- for their places too. This project's own.
+-- Which trees texts spell, their places aside: a condition on the tree alone. The condition on names is a parameter, so that it
+-- serves for their places too. This project's own.
 use Rattle.std.specs.Prelude.{◌<◌, ◌+◌, ◌^◌, ℕ, List, [], ◌∷◌, length, Option, Some, None, IsTrue}
 use Rattle.std.specs.Str.{IsUtf8}
 use Rattle.tydi_base.specs.Frac.{Fraction, IsReduced}

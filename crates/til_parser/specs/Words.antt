@@ -1,4 +1,4 @@
--- The words that tell what follows them. This project's own.
+-- The words that decide the form after them. This project's own.
 use Rattle.std.specs.Prelude.{ℕ, List, [], ◌∷◌, Option, None, if◌then◌else◌, codes}
 use Rattle.tydi_reading.specs.Tables.{entry_of}
 use Rattle.til_lexer.specs.declared.token.TokenKind.TheVariants as kinds
@@ -59,7 +59,7 @@ sync_of = entry_of sync_word all_syncs
 abbrev pub argument_of : List ℕ → Option Argument
 argument_of = entry_of argument_word all_arguments
 
--- what a table says of a token that is a word
+-- the entry of a table for a token that is a word
 abbrev pub word_at : {K : Type 0} → (List ℕ → Option K) → Lexeme → Option K
 word_at table lexeme = if same_kind lexeme.kind kinds.Word then table lexeme.spelling else None
 

@@ -81,7 +81,7 @@ impl<'a> Parser<'a> {
         self.token(TokenKind::Word, |spelling| keyword_of(spelling))
     }
 
-    /// What follows the keyword and the name of a declaration, up to its semicolon.
+    /// The part of a declaration after its keyword and its name, up to its semicolon.
     fn kind(&mut self, keyword: Keyword, levels: usize) -> Result<AstKind, Fault>
         ensures { Reads (spec.kind_of levels keyword self.old) result self.new }
     {
@@ -152,7 +152,7 @@ impl<'a> Parser<'a> {
         })
     }
 
-    /// What follows the name of an implementation.
+    /// The part of an implementation after its name.
     #[tactic(auto, unfolding(crate::specs::ReadDecls::impl_kind))]
     fn impl_kind(&mut self) -> Result<AstKind, Fault>
         ensures { Reads (spec.impl_kind self.old) result self.new }
@@ -164,7 +164,7 @@ impl<'a> Parser<'a> {
         Ok(AstKind::Impl { target, body })
     }
 
-    /// What follows the name of a test.
+    /// The part of a test after its name.
     #[tactic(auto, unfolding(crate::specs::ReadDecls::test_kind))]
     fn test_kind(&mut self) -> Result<AstKind, Fault>
         ensures { Reads (spec.test_kind self.old) result self.new }
@@ -204,7 +204,7 @@ impl<'a> Parser<'a> {
         self.braced(|rest| rest.stmt())
     }
 
-    /// `stmt`: after the name with which both forms begin, the next token tells which it is.
+    /// `stmt`: after the name with which both forms begin, the next token decides which it is.
     #[tactic(auto, unfolding(crate::specs::ReadDecls::stmt))]
     fn stmt(&mut self) -> Result<AstStmt, Fault>
         ensures { Reads (spec.stmt self.old) result self.new }
@@ -217,7 +217,7 @@ impl<'a> Parser<'a> {
         }
     }
 
-    /// What follows the name of an instance.
+    /// The part of an instance after its name.
     #[tactic(auto, unfolding(crate::specs::ReadDecls::instance_of))]
     fn instance_of(&mut self, name: AstName) -> Result<AstStmt, Fault>
         ensures { Reads (spec.instance_of name self.old) result self.new }
@@ -228,7 +228,7 @@ impl<'a> Parser<'a> {
         Ok(AstStmt::Instance { name, streamlet })
     }
 
-    /// What follows the first name of a link.
+    /// The part of a link after its first name.
     #[tactic(auto, unfolding(crate::specs::ReadDecls::link_from))]
     fn link_from(&mut self, name: AstName) -> Result<AstStmt, Fault>
         ensures { Reads (spec.link_from name self.old) result self.new }

@@ -6,8 +6,8 @@ use tydi_base::Memory;
 /// Why tokens spell no tree. Tokens are counted from 0.
 #[derive(Clone, Copy, Debug, PartialEq, Eq)]
 pub enum ParseFault {
-    /// The token of this index is the first with which no text of the language goes on. So a missing `data` of a Stream is told at
-    /// its closing bracket, and an argument that is given twice at its second name.
+    /// The token of this index is the first with which no text of the language goes on. So a missing `data` of a Stream is reported
+    /// at its closing bracket, and an argument that is given twice at its second name.
     Unexpected(usize),
 
     /// The text ends, and more has to follow. An empty text ends so.

@@ -1,4 +1,4 @@
-//! The words that tell what follows them.
+//! The words that decide the form after them.
 
 ghost use Rattle.std.specs.Prelude.{◌≡◌};
 ghost use Rattle.til_parser.specs.Words as spec;

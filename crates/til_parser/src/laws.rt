@@ -8,7 +8,7 @@ pub fn trees_are_apart()
     ensures { TreesAreApart }
 {}
 
-/// The law of faults: the tokens of a text spell a tree whose types nest at most 64 deep, or they have one fault, and not both.
+/// The law of errors: the tokens of a text spell a tree whose types nest at most 64 deep, or they have one error, and not both.
 pub fn trees_or_faults()
     ensures { TreesOrFaults }
 {}

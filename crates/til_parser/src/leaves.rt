@@ -274,7 +274,7 @@ fn with_digits(number: u64, digits: &[u8]) -> u64
     value
 }
 
-/// What stands between the two marks of quoted text or documentation.
+/// The text between the two marks of quoted text or documentation.
 fn inside(spelling: &str) -> &str
     requires { HasForm kinds.Quoted spelling.now ⊎ HasForm kinds.Doc spelling.now }
     ensures { result.now ≡ between_marks spelling.now }

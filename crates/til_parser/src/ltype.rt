@@ -7,11 +7,15 @@ use tydi_base::{Boxed, Frac, Level, List};
 #[cycle(ltype)]
 #[derive(Debug, Drop)]
 pub enum AstType {
+    /// `Null`
     Null,
     /// Its width in bits.
     Bits(u64),
+    /// Its fields, in the order of the text.
     Group(List<AstPart>),
+    /// Its variants, in the order of the text.
     Union(List<AstPart>),
+    /// Its arguments.
     Stream(Boxed<AstStream>),
     /// The path of a type that is declared.
     Path(AstPath),
@@ -42,8 +46,12 @@ pub struct AstStream {
 /// How a Stream's sequences are tied to those of the Stream around it (Tydi specification, synchronicity).
 #[derive(Clone, Copy, Debug, PartialEq, Eq)]
 pub enum AstSync {
+    /// Its sequences are tied to those around it, and it takes over their dimensions.
     Sync,
+    /// Its sequences are tied to those around it, and it takes over no dimensions.
     Flatten,
+    /// Its sequences are not tied to those around it, and it takes over their dimensions.
     Desync,
+    /// Its sequences are not tied to those around it, and it takes over no dimensions.
     FlatDesync,
 }

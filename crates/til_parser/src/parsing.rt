@@ -20,8 +20,8 @@ const MOST_LEVELS: usize = 64;
 
 /// The tree that the tokens of a text spell, as `lex` gives them, with the places of its names; its types nest at most 64 deep.
 /// Apart from `Memory` it fails exactly where the tokens spell no such tree, and the error says why: see `ParseFault`. Where it names
-/// a token, it is one of `tokens`. What each fault says is said by the texts of the language alone (`IsFaultOf`): tokens have one fault at
-/// most, and are told no other.
+/// a token, it is one of `tokens`. `IsFaultOf` defines each error by the texts of the language alone. Tokens have at most one
+/// error, and it is the one reported.
 pub fn parse(alloc: Global, text: &str, tokens: &[Token]) -> Result<Ast, ParseFault>
     requires { tokens_of text.now ≡ Ok tokens.now }
     ensures spelled { IfOk result (λ ast. Spells ast (lexemes_of text.now tokens.now)) }
@@ -40,7 +40,7 @@ pub fn parse(alloc: Global, text: &str, tokens: &[Token]) -> Result<Ast, ParseFa
     }
 }
 
-/// What a fault says of so many tokens, where so many are left.
+/// The error of a text with so many tokens, where the parser failed with so many left.
 fn fault_at(fault: Fault, count: usize, left: usize) -> ParseFault
     ensures { result ≡ spec.fault_at fault count left }
 {

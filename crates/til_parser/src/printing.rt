@@ -45,7 +45,7 @@ impl Written for AstDecl {
     }
 }
 
-/// What is declared by this name, up to the semicolon.
+/// A declaration of this name, up to the semicolon.
 #[derive(Clone, Copy)]
 struct Declared<'a>(&'a AstName, &'a AstKind);
 

@@ -1,4 +1,4 @@
-//! The tree of a project: what its text spells, with the places of its names.
+//! The tree that the text of a project spells, with the places of its names.
 
 use crate::ltype::AstType;
 use tydi_base::{Boxed, List, Name, Place, Text};
@@ -38,7 +38,7 @@ pub struct AstDecl {
     pub kind: AstKind,
 }
 
-/// What a declaration gives its name to.
+/// The kind of a declaration, with its content.
 #[derive(Debug, Drop)]
 pub enum AstKind {
     /// `type name = ltype;`
@@ -64,7 +64,9 @@ pub enum AstKind {
 /// The ports of a streamlet: its own, or those of the interface that the path names.
 #[derive(Debug, Drop)]
 pub enum AstPorts {
+    /// The ports of the streamlet itself.
     Own(List<AstPort>),
+    /// The path of an interface.
     Named(AstPath),
 }
 
@@ -82,10 +84,11 @@ pub struct AstPort {
 pub enum AstBody {
     /// The text between the quotation marks, which says where the implementation stands.
     Linked(Text),
+    /// The statements of a structural body.
     Structural(List<AstStmt>),
 }
 
-/// A statement of a structural body. Of a text most statements may be instances, so what a link has more stands behind a box.
+/// A statement of a structural body. Most statements of a text may be instances, so a link keeps its second end in a box.
 #[derive(Debug, Drop)]
 pub enum AstStmt {
     /// `name = streamlet;`

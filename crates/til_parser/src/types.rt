@@ -41,7 +41,7 @@ impl<'a> Parser<'a> {
         }
     }
 
-    /// What follows the word of a type, whose types inside have at most so many levels.
+    /// The part of a type after its word. The types inside have at most so many levels.
     #[cycle(ltype)]
     fn type_after(&mut self, word: TypeWord, levels: usize) -> Result<AstType, Fault>
         ensures { Reads (spec.type_after (spec.ltype levels) word self.old) result self.new }

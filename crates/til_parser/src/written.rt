@@ -1,4 +1,4 @@
-//! What the language has of its own in a text: names, paths, documentation, quoted text, and fractions with the fewest digits.
+//! The texts that only the language has: names, paths, documentation, quoted text, and fractions with the fewest digits.
 
 ghost use Rattle.std.specs.Prelude.{◌≡◌, ◌++◌, ◌<◌, ◌*◌, ◌/◌, ◌%◌, OnErr, OnOk};
 ghost use Rattle.std.specs.List.{flat_map};

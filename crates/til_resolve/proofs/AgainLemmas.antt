@@ -1,4 +1,4 @@
--- What stands again in a list that grows, and what stands at the declarations before a number.
+-- Elements that stand again in a growing list, and elements at the declarations before a number.
 use Rattle.std.proofs.Common.{◌≡◌, ℕ, ◌+◌, ◌<◌, Bool, true, false, cond, List, [], ◌∷◌, ◌++◌, length, map, take, get_or, Option, Contains, refl, sym, ap, subst, ◌∙◌, append_assoc, add-one}
 use Rattle.std.specs.Bool.{then_some}
 use Rattle.std.specs.List.{list_any}
@@ -13,7 +13,7 @@ pub append_nil : {A : Type 0} (xs : List A) → xs ++ [] ≡ xs
 append_nil [] = refl
 append_nil (x ∷ xs) = ap (λ (l : List _). x ∷ l) (append_nil xs)
 
--- ---- what stands again
+-- ---- elements that stand again
 
 again-push : {A : Type 0} (same : A → A → Bool) (front xs : List A) (y : A)
     → again same front (xs ++ y ∷ []) ≡ again same front xs ++ cond (list_any (λ e. same e y) (front ++ xs)) (y ∷ []) []

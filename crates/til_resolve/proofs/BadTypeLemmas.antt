@@ -71,9 +71,9 @@ module _ (front : List WrittenType) (one : WrittenType) where
       by true = here fault is
       by false = kept bad so
 
--- ---- the first that is told of at a place
+-- ---- the first that is reported at a place
 
--- what is found in a list is found in a longer one
+-- a type that is found in a list is found in a longer one
 find-kept : (test : WrittenType → Bool) (front back : List WrittenType) (one : WrittenType) → find test front ≡ Some one → find test (front ++ back) ≡ Some one
 find-kept test [] back one is = absurd cc
 find-kept test (x ∷ front) back one is = by (test x) is (find-kept test front back one)
@@ -91,7 +91,7 @@ find-last test (x ∷ front) one none is =
     ap (λ b. cond b (Some x) (find test (front ++ one ∷ []))) (none x (0, omega arith, refl))
     ∙ find-last test front one (λ y there. none y (suc there.0, omega (arith, there.1), there.2)) is
 
--- a type without a fault, or told of elsewhere, does not pass
+-- a type without an error, or with another place, does not pass
 fails : (types : List WrittenType) (offset : ℕ) → ((place : Place) → HasTypeAt HasSomeFault types place → place.offset ≡ offset → ⊥)
     → (x : WrittenType) → Contains types x → is_bad_at offset x ≡ false
 fails types offset none x there = by (eqb x.place.offset offset) refl (first_fault x.ltype) refl
@@ -176,9 +176,9 @@ IsFirstBad-shown all (first ∷ more) are shown = IsFirstBad-all all (first ∷ 
         (get_or_default (first ∷ more) end first (get_or (first ∷ more) end first) (omega arith))
         (ap (λ l. slice_get l 0) (shown end first (omega arith)).0) (from end (omega arith)))
 
--- ---- what one turn finds
+-- ---- the finding of one turn
 
--- what was found stands no later
+-- the bad type that was found stands no later
 pub earlier_bad-stays : (found : Option BadType) (place : Place) (o : Option TypeFault) → stands_first (place_found found) place ≡ true → found ≡ earlier_bad found (bad_at place o)
 earlier_bad-stays None place o first = cc
 earlier_bad-stays (Some bad) place None first = refl
@@ -200,7 +200,7 @@ pub earlier_bad-none : (found : Option BadType) (place : Place) → found ≡ ea
 earlier_bad-none None place = refl
 earlier_bad-none (Some bad) place = refl
 
--- ---- what is told before
+-- ---- the one that is reported before
 
 pub acyclic-told : (all : List Declaration) (order : ℕ) → 3 ≤ order → IsToldUpTo all order None → AreAcyclic all
 acyclic-told all order enough none = record {
@@ -208,7 +208,7 @@ acyclic-told all order enough none = record {
       (record { one = one; within = within; at = record { at = refl; leads = leads } });
 }
 
--- ---- what is kept
+-- ---- the findings that are kept
 
 pub AreVerdicts-none : (all : List Declaration) (n : ℕ) (kept : List Verdict) → kept ≡ replicate n verdicts.Unknown → AreVerdicts all kept
 AreVerdicts-none all n kept is = record {
@@ -236,14 +236,14 @@ pub own-root : (all : List Declaration) (findings : Findings) (chains : List Cha
 own-root all findings chains number chain acyclic within is slice same =
     root-is all chain number acyclic within (subst (IsChain all number) (sym (same ∙ ap (λ (l : List Chain). chain_at l number) slice)) (is.chains.each number within))
 
--- what is kept of the root
+-- the verdict that is kept of the root
 pub fault-kept : (all : List Declaration) (findings : Findings) (kept : List Verdict) (number root : ℕ) (verdict : Verdict) (fault : Option TypeFault) → AreFindings all findings
     → type_at all (length all) number ≡ type_at all (suc (length all)) root → kept ≡ findings.verdicts.items → verdict ≡ verdict_at kept root → verdict ≡ verdicts.Known fault
     → fault ≡ first_fault (type_at all (length all) number)
 fault-kept all findings kept number root verdict fault is same slice at found =
     is.verdicts.each root fault (ap (λ (l : List Verdict). verdict_at l root) (sym slice) ∙ sym at ∙ found) ∙ ap first_fault (sym same)
 
--- what is found of the type in the table
+-- the error that is found of the type in the table
 pub fault-found : (all : List Declaration) (findings : Findings) (types : List LType) (number : ℕ) (fault : Option TypeFault) → number < length all → AreFindings all findings → types ≡ findings.types
     → fault ≡ first_fault (ltype_at types number) → fault ≡ first_fault (type_at all (length all) number)
 fault-found all findings types number fault within is slice told = told ∙ ap first_fault (ap (λ (l : List LType). ltype_at l number) slice ∙ is.types.each number within)

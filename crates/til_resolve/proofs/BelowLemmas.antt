@@ -5,7 +5,7 @@ use Rattle.tydi_base.specs.declared.place.Place.{Place}
 use Rattle.til_resolve.specs.Earliest.{IsEarliest, IsBelow, stands_first}
 use Rattle.til_resolve.proofs.EarliestLemmas.{IsEarliest-same}
 
--- what was found, if anything, stands behind a place
+-- the place that was found, if any, stands behind a place
 abbrev AreLater : Place → Option Place → Type 0
 AreLater place None = Unit {0}
 AreLater place (Some one) = place.offset < one.offset

@@ -102,6 +102,6 @@ module _ (all : List Declaration) (streamlet : ℕ) where
       ap (position (is_impl_of all streamlet)) (taken-more all number within) ∙ position-push (is_impl_of all streamlet) (take number all) (declaration all number)
       ∙ ap (λ n. option_or (position (is_impl_of all streamlet) (take number all)) (cond (is_impl_of all streamlet (declaration all number)) (Some n) None)) long
 
-  -- what a look-up finds among all declarations
+  -- the result of a look-up among all declarations
   pub impl-found : (find : ℕ → Option ℕ) → FindsFirstImpl find all (length all) → find streamlet ≡ position (is_impl_of all streamlet) all
   impl-found find finds = finds streamlet ∙ ap (position (is_impl_of all streamlet)) (take_all (length all) all (omega arith))

@@ -13,7 +13,7 @@ use Rattle.til_resolve.specs.Names.{implements, is_number, is_impl_of}
 use Rattle.til_resolve.proofs.EarliestLemmas.{Contains-nil}
 use Rattle.til_resolve.proofs.TypeGraphLemmas.{named-by, names-in, named-within, past, ByWay-map}
 
--- ---- what stands at the numbers below an end
+-- ---- elements at the numbers below an end
 
 before-by : (of : ℕ → List ℕ) (n x : ℕ) → Contains (before of n) x → (i : ℕ) × (i < n) × Contains (of i) x
 before-by of zero x there = absurd (Contains-nil x there)
@@ -45,7 +45,7 @@ is_number-true s (Some n) is = ap (λ (k : ℕ). Some k) (eqb-true n s is)
 is_number-some : (s : ℕ) (o : Option ℕ) → o ≡ Some s → is_number s o ≡ true
 is_number-some s o is = ap (is_number s) is ∙ eq-eqb s s refl
 
--- what a declaration implements is a declaration
+-- the streamlet that a declaration implements is a declaration
 implemented : (all : List Declaration) (space : List (List ℕ)) (name : AstName) (kind : AstKind) (s : ℕ) → implements all (record { space = space; name = name; kind = kind }) ≡ Some s → s < length all
 implemented all space name (decls.Alias ltype) s is = cc
 implemented all space name (decls.Interface listed) s is = cc

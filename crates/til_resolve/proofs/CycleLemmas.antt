@@ -1,4 +1,4 @@
--- What leads to itself in a graph is what is told of a tree.
+-- The numbers of a graph that lead to themselves are the cycles that a tree reports.
 use Rattle.std.proofs.Common.{◌≡◌, ℕ, List, length, Option, Some, None, refl, sym, subst, ◌∙◌}
 use Rattle.tydi_base.specs.declared.place.Place.{Place}
 use Rattle.til_resolve.specs.declared.cycles.Site.TheVariants as sites

@@ -28,7 +28,7 @@ module _ {X : Type 0} (least : X) (Is : Ltype → X → Type 0) (all : List Decl
     rest = λ other within. inr (so.each other within);
   }
 
-  -- what a table that is ready for a path has of what it names is the entry of what it means
+  -- a table that is ready for a path has, for the declaration that the path names, the entry of the path's meaning
   pub entry-meant : (space : List (List ℕ)) (paths : List AstPath) (table : List X) (depth : ℕ) (path : AstPath) → Contains paths path → Is null least
       → IsReady least Is all space paths table depth → Is (meaning_of all depth space path.names) (entry_named least all table space path.names)
   entry-meant space paths table depth path there is_least ready =
@@ -38,7 +38,7 @@ module _ {X : Type 0} (least : X) (Is : Ltype → X → Type 0) (all : List Decl
       by None is = is_least
       by (Some one) is = ready.named path one there is
 
-  -- what is made of the type that a declaration gives a name to
+  -- the entry made of the type that a declaration gives a name to
   pub IsMadeFor-alias : (one : ℕ) (ltype : AstType) (table : List X) (made : X) → (declaration all one).kind ≡ decls.Alias ltype
       → IsMadeOf least Is all (declaration all one).space (plain ltype) table made → IsMadeFor least Is all one table made
   IsMadeFor-alias one ltype table made is so = λ depth ready.

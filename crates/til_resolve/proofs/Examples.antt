@@ -1,4 +1,4 @@
--- A project with a fault of names of each kind, and a port as it is written out or by an interface: the definitions say what a
+-- A project with an error of names of each kind, and a port as it is written out or by an interface: the definitions say what a
 -- reader of the text expects.
 use Rattle.std.proofs.Common.{◌≡◌, ℕ, zero, suc, true, List, [], ◌∷◌, map, None, refl, sym, ap, ◌∙◌, codes}
 use Rattle.tydi_base.specs.declared.place.Place.{Place}

@@ -1,4 +1,4 @@
--- Which fault of a tree is told.
+-- The error of a tree that is reported.
 use Rattle.std.proofs.Common.{◌≡◌, ℕ, zero, suc, ◌<◌, ◌≤◌, inl, inr, Bool, true, false, cond, ltb, List, ◌++◌, length, Option, Some, None, Contains, refl, sym, ap, subst, ◌∙◌, arith}
 use Rattle.std.proofs.lemmas.Bool.{ltb-true, ltb-false}
 use Rattle.tydi_base.specs.declared.place.Place.{Place}
@@ -16,11 +16,11 @@ use Rattle.til_resolve.specs.Shapes.{IsMisshapen}
 use Rattle.til_resolve.specs.Sought.{all_refused, refused_at, first_of_both}
 use Rattle.til_resolve.proofs.AgainLemmas.{append_nil}
 
--- a fault that is told of those up to a place in the order is told of those up to any later place
+-- an error that is reported of those up to a place in the order is reported of those up to any later place
 pub told-further : (all : List Declaration) (order further : ℕ) (fault : ResolveFault) → IsToldUpTo all order (Some fault) → IsToldUpTo all further (Some fault)
 told-further all order further fault is = record { told = is.told; chosen = is.chosen }
 
--- ---- what is declared twice
+-- ---- names that are declared twice
 
 pub told-twice : (all : List Declaration) (place : Place) → IsEarliest (Contains (twice all)) (Some place) → IsToldUpTo all 2 (Some (faults.DeclaredTwice place))
 told-twice all place is = record { told = (is.told.there, first); chosen = tt }

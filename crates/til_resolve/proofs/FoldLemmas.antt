@@ -1,4 +1,4 @@
--- What written types come to, and tables of what declarations come to.
+-- The values of written types by a fold, and tables of the values of declarations.
 use Rattle.std.proofs.Common.{◌≡◌, ℕ, ◌+◌, ◌<◌, List, [], ◌∷◌, ◌++◌, length, get_or, take, Contains, refl, sym, ap, ◌∙◌}
 use Rattle.std.proofs.lemmas.List.{take_more}
 use Rattle.std.proofs.lemmas.List.Elements.{Contains-append_left, Contains-append_right, Contains-push}
@@ -47,7 +47,7 @@ module _ {X Y : Type 0} (layers : Layers X Y) where
       ap (fold_by_list layers of before) (take_more parts i part within ∙ ap (λ (p : AstPart). take i parts ++ p ∷ []) (sym is))
       ∙ fold_by_list-push of before (take i parts) part
 
-  -- ---- what a type comes to whose names are replaced
+  -- ---- the value of a type whose names are replaced
 
   mutual
     fold-replaced : (meaning : List AstName → Ltype) (t : tree.Ltype) → fold layers (replaced meaning t) ≡ fold_by layers (λ names. fold layers (meaning names)) t
@@ -71,7 +71,7 @@ module _ {X Y : Type 0} (layers : Layers X Y) where
         ap (λ x. fold_parts layers (layers.of_part before x) (replaced_parts meaning more)) (fold-replaced meaning ltype)
         ∙ folds-replaced meaning (layers.of_part before (fold_by layers (λ names. fold layers (meaning names)) ltype)) more
 
-  -- ---- what the paths in a type come to decides
+  -- ---- the values of the paths in a type decide
 
   mutual
     fold_by-same : (of other : List AstName → X) (t : tree.Ltype) → ((path : AstPath) → Contains (paths_in t) path → of path.names ≡ other path.names) → fold_by layers of t ≡ fold_by layers other t
@@ -95,7 +95,7 @@ module _ {X Y : Type 0} (layers : Layers X Y) where
         ∙ folds_by-same of other (layers.of_part before (fold_by layers other ltype)) more
         (λ path there. same path (Contains-append_right (paths_in ltype) (paths_in_parts more) path there))
 
-  -- ---- what is made of a table
+  -- ---- the values that are made of a table
 
   pub fold-made : (all : List Declaration) (space : List (List ℕ)) (t : tree.Ltype) (table : List X) (made : X) → made ≡ fold_by layers (entry_named layers.of_null all table space) t
       → IsMadeOf layers.of_null (IsFoldOf layers) all space t table made

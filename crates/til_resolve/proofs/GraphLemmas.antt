@@ -39,7 +39,7 @@ still reached target one is = by (cases_eq one target)
     by (inl same) = subst (λ k. IsReached (set reached target true) k) (sym same) (marked reached target (subst (λ k. k < length reached) same (inside reached one is)))
     by (inr apart) = get_or-set_other reached target one true false apart ∙ is
 
--- what is marked was marked before, or is the one that was set
+-- a marked number was marked before, or is the one that was set
 marked_cases : (reached : List Bool) (target one : ℕ) → IsReached (set reached target true) one → (one ≡ target) ⊎ IsReached reached one
 marked_cases reached target one is = by (cases_eq one target)
   where
@@ -178,7 +178,7 @@ reached-within [] k is = cc
 reached-within (b ∷ bs) zero is = omega arith
 reached-within (b ∷ bs) (suc k) is = omega (arith, reached-within bs k is)
 
--- what waits is a number of the graph
+-- a waiting number is a number of the graph
 pub waiting-within : (graph : List (List ℕ)) (start : ℕ) (reached : List Bool) (waiting : List ℕ) (one : ℕ) → start < length graph → Searches graph start reached waiting → Contains waiting one
     → one < length graph
 waiting-within graph start reached waiting one within so there = by (so.waits one there)

@@ -1,4 +1,5 @@
--- What a path means is the type of the declaration that it names, and meanings that agree on the paths in a written type give one type.
+-- The meaning of a path is the type of the declaration that it names. Meanings that agree on the paths in a written type give one
+-- type.
 use Rattle.std.proofs.Common.{◌≡◌, ℕ, zero, suc, Bool, true, false, cond, List, [], Option, Some, None, Contains, refl, sym, ap, ◌∙◌}
 use Rattle.std.proofs.lemmas.List.Elements.{Contains-append_left, Contains-append_right, Contains-push}
 use Rattle.til_parser.specs.declared.ltype.AstType.{AstType}
@@ -37,7 +38,7 @@ mutual
       ∙ ap (λ (ps : Parts). part name.name (replaced other ltype) ps)
       (replaced_parts-same one other more (λ path there. same path (Contains-append_right (paths_in ltype) (paths_in_parts more) path there)))
 
--- ---- what a path means
+-- ---- the meaning of a path
 
 -- the type of the declaration of a number; Null where there is no number
 abbrev pub type_of_named : List Declaration → ℕ → Option ℕ → Ltype

@@ -55,7 +55,7 @@ module _ (Is : WrittenType → Type 0) where
       (sym (splits (take i xs) (x ∷ [])) ∙ ap of (sym (take_more xs i x within ∙ ap (λ (y : X). take i xs ++ y ∷ []) (sym is))))
       (types-append (of (take i xs)) (of (x ∷ [])) one other so here))
 
--- ---- what a shape shows
+-- ---- the facts that a shape shows
 
 pub misshapen-there : (sort : Sort) (one : WrittenType) → is_misshapen sort one.in_port (shape_of one.ltype) ≡ true → IsMisshapen sort one
 misshapen-there sorts.TooLarge one is = by (ltb 65536 (min (number_of_nodes one.ltype) 65537)) refl is

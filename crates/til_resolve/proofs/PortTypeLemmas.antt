@@ -27,7 +27,7 @@ use Rattle.til_resolve.proofs.TypeGraphLemmas.{named-within}
 
 -- ---- it is valid
 
--- what a list contains, by its index
+-- the elements of a list, by their index
 module _ {A B : Type 0} where
   mapped-at : (f : A → B) (xs : List A) (x : A) (n : ℕ) → n < length xs → get_or xs n x ≡ x → Contains (map f xs) (f x)
   mapped-at f [] x n within same = absurd (omega (arith, within))

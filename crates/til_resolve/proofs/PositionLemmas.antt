@@ -45,7 +45,7 @@ pub position-more : {X : Type 0} (p : X → Bool) (xs : List X) (i : ℕ) (x : X
     → position p (take (i + 1) xs) ≡ option_or (position p (take i xs)) (cond (p x) (Some (length (take i xs))) None)
 position-more p xs i x within is = ap (position p) (take_more xs i x within) ∙ ap (λ y. position p (take i xs ++ y ∷ [])) (sym is) ∙ position-push p (take i xs) x
 
--- ---- what a test finds
+-- ---- the element that a test finds
 
 pub list_any-position : {X : Type 0} (p : X → Bool) (xs : List X) → list_any p xs ≡ is_some (position p xs)
 list_any-position p [] = refl

@@ -164,7 +164,7 @@ first_of_path-none spaces placed space name homes none =
 pub first_of_path-empty : (all : List Declaration) → first_of_path all [] ≡ None
 first_of_path-empty all = position-none (λ one. is_same_path (path_of one) []) all (λ k d within. is_same_path-none (get_or all k d).space (get_or all k d).name.name)
 
--- ---- what the code keeps of declarations
+-- ---- the data that the code keeps of declarations
 
 pub length-declarations_of : (all : List Declared) → length (declarations_of all) ≡ length all
 length-declarations_of [] = refl
@@ -193,7 +193,7 @@ home-at spaces all i one homes within is =
     length-placed [] = refl
     length-placed (x ∷ xs) = ap (λ n. suc n) (length-placed xs)
 
--- what is found is a declaration
+-- the number that is found is that of a declaration
 pub position-within : {X : Type 0} (p : X → Bool) (xs : List X) → IfSome (position p xs) (λ n. n < length xs)
 position-within p xs = by (ltb (position_or_len p xs) (length xs)) refl
   where

@@ -49,7 +49,7 @@ module _ (meaning : List AstName → Ltype) (ltype : AstType) where
   pub replaced-Path : (path : AstPath) → ltype ≡ written.Path path → replaced meaning (tree.plain ltype) ≡ meaning path.names
   replaced-Path path is = ap (λ (t : AstType). replaced meaning (tree.plain t)) is ∙ ap (replaced meaning) (tree_plain.plain-Path path)
 
-  -- what is made of parts
+  -- the type that is made of parts
   pub made-Group : (parts slice : List AstPart) (made shared : List Part) → ltype ≡ written.Group parts → slice ≡ parts → plain_parts made ≡ replaced_list meaning slice → shared ≡ made
       → plain (types.Group shared) ≡ replaced meaning (tree.plain ltype)
   made-Group parts slice made shared is same so shares =
@@ -88,7 +88,7 @@ made-more meaning parts i one made new last within is pushes name ltype so =
     ∙ ap (λ (n : List ℕ). pushed (replaced_list meaning (take i parts)) n (plain last.ltype)) name
     ∙ ap (pushed (replaced_list meaning (take i parts)) one.name.name) ltype ∙ sym (replaced_list-more meaning parts i one within is)
 
--- ---- what a path means
+-- ---- the meaning of a path
 
 -- a written type is right by a table that is ready for it
 type-written : (all : List Declaration) (space : List (List ℕ)) (t : tree.Ltype) (table : List LType) (depth : ℕ) → IsReady types.Null IsTypeOf all space (paths_in t) table depth

@@ -1,12 +1,12 @@
 -- The project of a tree without faults stands.
-use Rattle.std.proofs.Common.{◌≡◌, ℕ, zero, suc, ◌+◌, ◌<◌, ◌≤◌, ◌⊎◌, inl, inr, Bool, true, false, not, ◌&&◌, ◌||◌, cond, List, [], ◌∷◌, ◌++◌, map, filter, length, get_or, slice_get, take, Option, Some, None, is_some, Contains, refl, sym, ap, subst, ◌∙◌, arith}
+use Rattle.std.proofs.Common.{◌≡◌, ℕ, zero, suc, ◌+◌, ◌<◌, ◌≤◌, ◌⊎◌, inl, inr, Bool, true, false, not, ◌&&◌, ◌||◌, cond, List, [], ◌∷◌, ◌++◌, map, filter, length, get_or, slice_get, take, Option, Some, None, is_some, Contains, refl, sym, ap, subst, ◌∙◌, append_assoc, arith}
 use Rattle.std.specs.List.{filter_map, list_any, range_with_len}
 use Rattle.std.specs.Cmp.Lexicographic.{bytes_decides}
-use Rattle.std.specs.Str.{bytes_eq}
+use Rattle.std.specs.Str.{bytes_eq, str_eq_ignore_ascii_case}
 use Rattle.std.proofs.lemmas.Bool.{cases_lt}
 use Rattle.std.proofs.lemmas.Bool.Decides.{Decides-eqb}
-use Rattle.std.proofs.lemmas.List.{get_or_default}
-use Rattle.std.proofs.lemmas.Option.{slice_get-get_or}
+use Rattle.std.proofs.lemmas.List.{append-nil, get_or_default, take_all}
+use Rattle.std.proofs.lemmas.Option.{get_or_from_slice_get, slice_get-get_or}
 use Rattle.std.proofs.lemmas.List.Elements.{Contains-append_left, Contains-append_right}
 use Rattle.tydi_base.specs.declared.place.Place.{Place}
 use Rattle.til_parser.specs.declared.tree.Ast.{Ast}
@@ -16,17 +16,19 @@ use Rattle.til_parser.specs.declared.tree.AstKind.{AstKind}
 use Rattle.til_parser.specs.declared.tree.AstKind.TheVariants as decls
 use Rattle.til_parser.specs.declared.tree.AstName.{AstName}
 use Rattle.til_parser.specs.declared.tree.AstPath.{AstPath}
+use Rattle.til_parser.specs.declared.tree.AstPort.{AstPort}
+use Rattle.til_parser.specs.declared.tree.AstPorts.TheVariants as ports
 use Rattle.til_parser.specs.declared.tree.AstStmt.{AstStmt}
 use Rattle.til_resolve.specs.declared.fault.ResolveFault.{ResolveFault}
 use Rattle.til_resolve.specs.declared.fault.ResolveFault.TheVariants as faults
 use Rattle.til_resolve.specs.Cycles.{ByWay, ContainsStreamlet, LeadsTo, paths_of_instances}
-use Rattle.til_resolve.specs.Declarations.{Declaration, PortOf, before, declaration, declarations, is_streamlet, kept_as, named, named_as, nowhere, path_of, place_of, ports_of}
+use Rattle.til_resolve.specs.Declarations.{Declaration, PortOf, before, declaration, declarations, is_interface, is_streamlet, kept_as, named, named_as, nowhere, own_ports, path_of, place_of, ports_in, ports_of, ports_of_number, ports_of_streamlet}
 use Rattle.til_resolve.specs.Faults.{HasFault, IsSound}
-use Rattle.til_resolve.specs.Names.{Use, WrittenInstance, declared_again, has_port, implements, instance_at, instances_of, is_impl_of, is_number, is_unknown, is_wrong_kind, port_unknown, port_unknown_in, refused, target_place, twice, twice_at, unknown, uses_in, wrong_kinds}
+use Rattle.til_resolve.specs.Names.{Use, WrittenInstance, again, declared_again, has_port, implements, instance_at, instances_again, instances_named_as_ports, instances_of, is_impl_of, is_number, is_unknown, is_wrong_kind, names_again_in_body, port_unknown, port_unknown_in, ports_again, refused, seconds, target_place, twice, twice_at, unknown, uses_in, wrong_kinds}
 use Rattle.til_resolve.specs.Paths.{is_same_path}
 use Rattle.til_resolve.specs.PlainProject.{PlainPort, PlainProject, PlainStreamlet, port_from, project_of, streamlet_from}
 use Rattle.til_resolve.specs.Project.{body_of, first_of, impl_by, impl_of, instance_of, instances_in, number_of, numbered, streamlet_number, streamlet_numbers, test_of, tests_in}
-use Rattle.til_resolve.specs.SoundProject.{AreDistinct, DrivesPort, HasInstanceOf, IsSoundProject, instances_inside}
+use Rattle.til_resolve.specs.SoundProject.{ArePortsApart, AreDistinct, DrivesPort, HasInstanceOf, HasNamesApart, IsSoundProject, instances_inside}
 use Rattle.til_resolve.specs.declared.project.Impl.{Impl}
 use Rattle.til_resolve.specs.declared.project.Impl.TheVariants as impls
 use Rattle.til_resolve.specs.declared.project.Instance.{Instance}
@@ -104,7 +106,7 @@ module _ {A B : Type 0} where
       same y e = let it : y ≡ x = cc in ap (λ a. Some (f a)) it
   get-map f (first ∷ xs) (suc i) x is = get-map f xs i x is
 
-  -- what a mapped list has at a place
+  -- the element of a mapped list at a place
   get-mapped : (f : A → B) (xs : List A) (i : ℕ) (y : B) → slice_get (map f xs) i ≡ Some y → (x : A) × ((slice_get xs i ≡ Some x) × (f x ≡ y))
   get-mapped f [] zero y is = absurd cc
   get-mapped f [] (suc i) y is = absurd cc
@@ -114,7 +116,7 @@ module _ {A B : Type 0} where
       same z e = cc
   get-mapped f (first ∷ xs) (suc i) y is = get-mapped f xs i y is
 
-  -- what a list that is kept in part has
+  -- the elements of a list that is kept in part
   kept-one : (f : A → Option B) (xs : List A) (y : B) → Contains (filter_map f xs) y → (x : A) × (Contains xs x × (f x ≡ Some y))
   kept-one f [] y there = absurd (omega (arith, there.1))
   kept-one f (first ∷ xs) y there = by (f first) refl there (kept-one f xs y)
@@ -188,6 +190,40 @@ any-take p (first ∷ xs) (suc m) (suc n) d below within test = by (p first) (an
     by : (b : Bool) → list_any p (take m xs) ≡ true → (b || list_any p (take m xs)) ≡ true
     by true rest = refl
     by false rest = rest
+
+-- ---- things that stand twice
+
+any-there : {A : Type 0} (p : A → Bool) (xs : List A) (x : A) → Contains xs x → p x ≡ true → list_any p xs ≡ true
+any-there p xs x there test =
+    sym (ap (list_any p) (take_all (length xs) xs (omega arith))) ∙ any-take p xs (length xs) there.0 x there.1 there.1 (ap p there.2 ∙ test)
+
+module _ {A : Type 0} (same : A → A → Bool) where
+  again-there : (before xs : List A) (j : ℕ) (y : A) → slice_get xs j ≡ Some y → list_any (λ (e : A). same e y) (before ++ take j xs) ≡ true → Contains (again same before xs) y
+  again-there before [] j y is test = absurd (none-there j y is)
+  again-there before (x ∷ xs) zero y is test =
+      let e : x ≡ y = cc in
+      let test_x : list_any (λ (a : A). same a x) before ≡ true =
+      ap (list_any (λ (a : A). same a x)) (sym (append-nil before)) ∙ subst (λ (z : A). list_any (λ (a : A). same a z) (before ++ []) ≡ true) (sym e) test in
+      subst (Contains (again same before (x ∷ xs))) e (found (list_any (λ (a : A). same a x) before) test_x)
+    where
+      found : (t : Bool) → t ≡ true → Contains (cond t (x ∷ again same (before ++ x ∷ []) xs) (again same (before ++ x ∷ []) xs)) x
+      found true high = (0, omega arith, refl)
+      found false high = absurd cc
+  again-there before (x ∷ xs) (suc j) y is test =
+      later (list_any (λ (a : A). same a x) before) (again-there (before ++ x ∷ []) xs j y is (ap (list_any (λ (a : A). same a y)) (append_assoc before (x ∷ []) (take j xs)) ∙ test))
+    where
+      later : (t : Bool) → Contains (again same (before ++ x ∷ []) xs) y → Contains (cond t (x ∷ again same (before ++ x ∷ []) xs) (again same (before ++ x ∷ []) xs)) y
+      later true rest = (suc rest.0, omega (arith, rest.1), rest.2)
+      later false rest = rest
+
+  -- where nothing stands twice, no later one is the same as an earlier
+  none-same : (xs : List A) → ((x : A) → Contains (seconds same xs) x → ⊥) → (i j : ℕ) (one other : A) → i < j → slice_get xs i ≡ Some one → slice_get xs j ≡ Some other → same one other ≡ false
+  none-same xs none i j one other below is_one is_other = by (same one other) refl
+    where
+      by : (b : Bool) → same one other ≡ b → same one other ≡ false
+      by true high = absurd (none other (again-there [] xs j other is_other
+          (any-take (λ (e : A). same e other) xs j i one below (get-within xs i one is_one) (ap (λ (x : A). same x other) (get_or_from_slice_get xs i one one is_one) ∙ high))))
+      by false low = low
 
 -- ---- numbers that pass a test
 
@@ -546,6 +582,175 @@ module _ (all : List Declaration) (sound : (fault : ResolveFault) → ¬ HasFaul
       let placed : n.n ≡ m.n = omega (arith, n.is, m.is, equal) in
       n.at ∙ ap (λ (k : ℕ). length (filter (λ number. is_streamlet (declaration all number)) (range_with_len 0 k))) placed ∙ sym m.at
 
+  -- ---- names are apart
+
+  told-twice : (m : ℕ) (place : Place) → m < length all → Contains (twice_at all m) place → ⊥
+  told-twice m place within there = sound (faults.DeclaredTwice place)
+      (Contains-append_left (before (twice_at all) (length all)) _ place (in-before (twice_at all) (length all) m place within there))
+
+  abbrev alike_ports : AstPort → AstPort → Bool
+  alike_ports first second = str_eq_ignore_ascii_case first.name.name second.name.name
+
+  ports-once : (m : ℕ) → m < length all → (port : AstPort) → Contains (seconds alike_ports (own_ports (declaration all m).kind)) port → ⊥
+  ports-once m within port there = told-twice m port.name.place within
+      (Contains-append_left (declared_again all m ++ ports_again (own_ports (declaration all m).kind)) _ port.name.place
+      (Contains-append_right (declared_again all m) (ports_again (own_ports (declaration all m).kind)) port.name.place
+      (Contains-map (λ (p : AstPort). p.name.place) (seconds alike_ports (own_ports (declaration all m).kind)) port there)))
+
+  -- the ports that a declaration writes out
+  written-apart : (m : ℕ) → m < length all → ArePortsApart (map (port_from all) (ports_in (declaration all m)))
+  written-apart m within = λ i j one other below is_one is_other.
+      let p = get-mapped (port_from all) (ports_in (declaration all m)) i one is_one in
+      let q = get-mapped (port_from all) (ports_in (declaration all m)) j other is_other in
+      let a = get-mapped (λ (port : AstPort). record { space = (declaration all m).space; port = port }) (own_ports (declaration all m).kind) i p.0 p.1.0 in
+      let b = get-mapped (λ (port : AstPort). record { space = (declaration all m).space; port = port }) (own_ports (declaration all m).kind) j q.0 q.1.0 in
+      let first : a.0.name.name ≡ one.name = ap (λ (x : PortOf). x.port.name.name) a.1.1 ∙ ap (λ (x : PlainPort). x.name) p.1.1 in
+      let second : b.0.name.name ≡ other.name = ap (λ (x : PortOf). x.port.name.name) b.1.1 ∙ ap (λ (x : PlainPort). x.name) q.1.1 in
+      ap (λ (name : List ℕ). str_eq_ignore_ascii_case name other.name) (sym first) ∙ ap (str_eq_ignore_ascii_case a.0.name.name) (sym second)
+      ∙ none-same alike_ports (own_ports (declaration all m).kind) (ports-once m within) i j a.0 b.0 below a.1.0 b.1.0
+
+  ports-apart : (n : ℕ) → n < length all → ArePortsApart (map (port_from all) (ports_of all (declaration all n)))
+  ports-apart n within = by (declaration all n).space (declaration all n).name (declaration all n).kind refl
+    where
+      by_number : (found : Option ℕ) → ((k : ℕ) → found ≡ Some k → k < length all) → ArePortsApart (map (port_from all) (ports_of_number all found))
+      by_number None bound = λ i j one other below is_one is_other. absurd (none-there i one is_one)
+      by_number (Some k) bound = written-apart k (bound k refl)
+
+      by : (space : List (List ℕ)) (name : AstName) (kind : AstKind) → declaration all n ≡ record { space = space; name = name; kind = kind }
+          → ArePortsApart (map (port_from all) (ports_of all (record { space = space; name = name; kind = kind })))
+      by space name (decls.Alias ltype) is = λ i j one other below is_one is_other. absurd (none-there i one is_one)
+      by space name (decls.Interface listed) is = λ i j one other below is_one is_other. absurd (none-there i one is_one)
+      by space name (decls.Streamlet (ports.Own listed)) is = subst (λ (d : Declaration). ArePortsApart (map (port_from all) (ports_in d))) is (written-apart n within)
+      by space name (decls.Streamlet (ports.Named path)) is = by_number (named_as is_interface all space path) (λ k some. named-within is_interface all space path k some)
+      by space name (decls.Impl target body) is = λ i j one other below is_one is_other. absurd (none-there i one is_one)
+      by space name (decls.Test target port value plan) is = λ i j one other below is_one is_other. absurd (none-there i one is_one)
+
+  abbrev alike_instances : WrittenInstance → WrittenInstance → Bool
+  alike_instances first second = bytes_eq first.name.name second.name.name
+
+  -- the body of a streamlet is that of an `impl` of it
+  record HasBody (n : ℕ) (body : Impl) : Type 0 where
+    implementation : ℕ
+    within : implementation < length all
+    space : List (List ℕ)
+    name : AstName
+    target : AstPath
+    written : AstBody
+    is : declaration all implementation ≡ record { space = space; name = name; kind = decls.Impl target written }
+    implemented : named_as is_streamlet all space target ≡ Some n
+    body_is : impl_of all space target written ≡ body
+
+  same-body : (one other : Impl) → ◌≡◌ {A = Option Impl} (Some one) (Some other) → one ≡ other
+  same-body one other e = cc
+
+  is-number : (n : ℕ) (found : Option ℕ) → is_number n found ≡ true → found ≡ Some n
+  is-number n None e = absurd cc
+  is-number n (Some k) e = let same : k ≡ n = (Decides-eqb k n).0 e in ap (λ (x : ℕ). Some x) same
+
+  has-body : (n m : ℕ) (space : List (List ℕ)) (name : AstName) (kind : AstKind) (body : Impl) → m < length all
+      → declaration all m ≡ record { space = space; name = name; kind = kind } → impl_by all n (record { space = space; name = name; kind = kind }) ≡ Some body → HasBody n body
+  has-body n m space name (decls.Alias ltype) body within is body_is = absurd cc
+  has-body n m space name (decls.Interface listed) body within is body_is = absurd cc
+  has-body n m space name (decls.Streamlet listed) body within is body_is = absurd cc
+  has-body n m space name (decls.Test target port value plan) body within is body_is = absurd cc
+  has-body n m space name (decls.Impl target written) body within is body_is = by (is_impl_of all n (record { space = space; name = name; kind = decls.Impl target written })) refl body_is
+    where
+      by : (b : Bool) → is_impl_of all n (record { space = space; name = name; kind = decls.Impl target written }) ≡ b → cond b (Some (impl_of all space target written)) None ≡ Some body → HasBody n body
+      by true implemented found = record {
+        implementation = m;
+        within = within;
+        space = space;
+        name = name;
+        target = target;
+        written = written;
+        is = is;
+        implemented = is-number n (named_as is_streamlet all space target) implemented;
+        body_is = same-body (impl_of all space target written) body found;
+      }
+      by false implemented found = absurd cc
+
+  -- the instances that an `impl` writes are reported where their names stand again
+  told-instance : (n : ℕ) (body : Impl) (h : HasBody n body) (place : Place)
+      → Contains (instances_again (instances_of h.written) ++ instances_named_as_ports (ports_of_streamlet all (named_as is_streamlet all h.space h.target)) (instances_of h.written)) place → ⊥
+  told-instance n body h place there = told-twice h.implementation place h.within
+      (Contains-append_right (declared_again all h.implementation ++ ports_again (own_ports (declaration all h.implementation).kind)) (names_again_in_body all (declaration all h.implementation)) place
+      (subst (λ (d : Declaration). Contains (names_again_in_body all d) place) (sym h.is) there))
+
+  -- an instance of a body is one that is written
+  written-instances : (space : List (List ℕ)) (target : AstPath) (written : AstBody) → instances_inside (Some (impl_of all space target written)) ≡ map (instance_of all space) (instances_of written)
+  written-instances space target (bodies.Linked text) = refl
+  written-instances space target (bodies.Structural stmts) = refl
+
+  instances-of-body : (n : ℕ) (body : Impl) (h : HasBody n body) → instances_inside (Some body) ≡ map (instance_of all h.space) (instances_of h.written)
+  instances-of-body n body h = ap (λ (i : Impl). instances_inside (Some i)) (sym h.body_is) ∙ written-instances h.space h.target h.written
+
+  instances-apart : (n : ℕ) (body : Impl) → HasBody n body → AreDistinct (λ (one : Instance). one.name) (instances_inside (Some body))
+  instances-apart n body h = subst (AreDistinct (λ (one : Instance). one.name)) (sym (instances-of-body n body h)) apart
+    where
+      later : (i j : ℕ) (one other : WrittenInstance) → slice_get (instances_of h.written) i ≡ Some one → slice_get (instances_of h.written) j ≡ Some other → one.name.name ≡ other.name.name → i < j → ⊥
+      later i j one other is_one is_other same below =
+          let low = none-same alike_instances (instances_of h.written)
+          (λ w there. told-instance n body h w.name.place (Contains-append_left (instances_again (instances_of h.written)) _ w.name.place
+          (Contains-map (λ (x : WrittenInstance). x.name.place) (seconds alike_instances (instances_of h.written)) w there))) i j one other below is_one is_other in
+          let high : bytes_eq one.name.name other.name.name ≡ true = (bytes_decides one.name.name other.name.name).1 same in
+          let clash : true ≡ false = sym high ∙ low in absurd cc
+
+      by : (i j : ℕ) → ((i < j) → ⊥) → ((j < i) → ⊥) → (i < j) ⊎ (j ≤ i) → (j < i) ⊎ (i ≤ j) → i ≡ j
+      by i j not_below not_above (inl below) other = absurd (not_below below)
+      by i j not_below not_above (inr above) (inl below) = absurd (not_above below)
+      by i j not_below not_above (inr above) (inr not_past) = omega (arith, above, not_past)
+
+      apart : AreDistinct (λ (one : Instance). one.name) (map (instance_of all h.space) (instances_of h.written))
+      apart = λ i j one other is_one is_other same.
+          let a = get-mapped (instance_of all h.space) (instances_of h.written) i one is_one in
+          let b = get-mapped (instance_of all h.space) (instances_of h.written) j other is_other in
+          let names : a.0.name.name ≡ b.0.name.name = ap (λ (x : Instance). x.name) a.1.1 ∙ same ∙ sym (ap (λ (x : Instance). x.name) b.1.1) in
+          by i j (later i j a.0 b.0 a.1.0 b.1.0 names) (later j i b.0 a.0 b.1.0 a.1.0 (sym names)) (cases_lt i j) (cases_lt j i)
+
+  instances-and-ports : (n : ℕ) (body : Impl) → HasBody n body → (instance : Instance) (port : PlainPort) → Contains (instances_inside (Some body)) instance
+      → Contains (map (port_from all) (ports_of all (declaration all n))) port → port.name ≡ instance.name → ⊥
+  instances-and-ports n body h instance port there port_there same =
+      let one = Contains-mapped (instance_of all h.space) (instances_of h.written) instance (subst (λ (l : List Instance). Contains l instance) (instances-of-body n body h) there) in
+      let own = Contains-mapped (port_from all) (ports_of all (declaration all n)) port port_there in
+      let names : own.one.port.name.name ≡ one.one.name.name = ap (λ (x : PlainPort). x.name) own.same ∙ same ∙ sym (ap (λ (x : Instance). x.name) one.same) in
+      let test : has_port (ports_of all (declaration all n)) one.one.name.name ≡ true =
+      any-there (λ (x : PortOf). bytes_eq x.port.name.name one.one.name.name) (ports_of all (declaration all n)) own.one own.inside ((bytes_decides own.one.port.name.name one.one.name.name).1 names) in
+      told-instance n body h one.one.name.place
+      (Contains-append_right (instances_again (instances_of h.written)) (instances_named_as_ports (ports_of_streamlet all (named_as is_streamlet all h.space h.target)) (instances_of h.written)) one.one.name.place
+      (subst (λ (o : Option ℕ). Contains (instances_named_as_ports (ports_of_streamlet all o) (instances_of h.written)) one.one.name.place) (sym h.implemented)
+      (Contains-map (λ (w : WrittenInstance). w.name.place) (filter (λ w. has_port (ports_of all (declaration all n)) w.name.name) (instances_of h.written)) one.one
+      (Contains-filter (λ w. has_port (ports_of all (declaration all n)) w.name.name) (instances_of h.written) one.one one.inside test))))
+
+  names-of : (n : ℕ) → n < length all → HasNamesApart (streamlet_from all n)
+  names-of n within = record {
+    ports = ports-apart n within;
+    instances = by_instances (body_of all n) refl;
+    apart = by_apart (body_of all n) refl;
+  }
+    where
+      of_body : (body : Impl) → body_of all n ≡ Some body → HasBody n body
+      of_body body is =
+          let one = first-kept (impl_by all n) all body is in
+          let number = has-number one.0 one.1.0 in
+          has-body n number.number one.0.space one.0.name one.0.kind body number.within number.is one.1.1
+
+      by_instances : (body : Option Impl) → body_of all n ≡ body → AreDistinct (λ (one : Instance). one.name) (instances_inside body)
+      by_instances None is = λ i j one other is_one is_other same. absurd (none-there i one is_one)
+      by_instances (Some body) is = instances-apart n body (of_body body is)
+
+      by_apart : (body : Option Impl) → body_of all n ≡ body → (instance : Instance) (port : PlainPort) → Contains (instances_inside body) instance
+          → Contains (map (port_from all) (ports_of all (declaration all n))) port → port.name ≡ instance.name → ⊥
+      by_apart None is instance port there = absurd (omega (arith, there.1))
+      by_apart (Some body) is instance port there = instances-and-ports n body (of_body body is) instance port there
+
+  names-apart : (streamlet : PlainStreamlet) → Contains streamlets streamlet → HasNamesApart streamlet
+  names-apart streamlet there =
+      let one = Contains-mapped (streamlet_from all) (streamlet_numbers all) streamlet there in
+      let place : slice_get (streamlet_numbers all) one.inside.0 ≡ Some one.one =
+      slice_get-get_or (streamlet_numbers all) one.inside.0 one.one one.inside.1 ∙ ap (λ (a : ℕ). Some a) one.inside.2 in
+      let number = filter-back (λ number. is_streamlet (declaration all number)) 0 (length all) one.inside.0 one.one place in
+      subst HasNamesApart one.same (names-of one.one (omega (arith, number.is, number.within)))
+
 -- ---- all of it
 
 pub sound-project : (ast : Ast) → IsSound ast → IsSoundProject (project_of ast)
@@ -558,4 +763,5 @@ sound-project ast sound = record {
   ends = ends (declarations ast) sound (project_of ast) refl;
   streamlet_paths = distinct-streamlets (declarations ast) sound;
   test_paths = distinct-kept (test_of (declarations ast)) path_of (λ (one : Test). one.path) (test-path (declarations ast) sound) (declarations ast) (distinct-declarations (declarations ast) sound);
+  names = names-apart (declarations ast) sound;
 }

@@ -1,4 +1,4 @@
--- Each fault of a tree stands at the place of one of its names.
+-- Each error of a tree stands at the place of one of its names.
 use Rattle.std.proofs.Common.{◌≡◌, ℕ, zero, suc, ◌<◌, Bool, true, false, cond, List, [], ◌∷◌, ◌++◌, map, filter, take, length, Option, Some, None, All, Contains, refl, subst, arith}
 use Rattle.std.specs.List.{flat_map, filter_map, list_any, cons_option}
 use Rattle.std.specs.Str.{bytes_eq, str_eq_ignore_ascii_case}
@@ -77,7 +77,7 @@ module _ (At : Place → Type 0) where
   abbrev Stands : AstName → Type 0
   Stands name = At name.place
 
-  -- ---- what the names of a tree are
+  -- ---- the names of a tree
 
   path-stands : (path : AstPath) → PathWith Stands path.names → At (place_of path)
   path-stands path is = by path.names is
@@ -119,7 +119,7 @@ module _ (At : Place → Type 0) where
   one-declares : (all : List Declaration) → All Declares all → (k : ℕ) → k < length all → Declares (declaration all k)
   one-declares all each k within = each k (record { space = []; name = record { name = []; place = nowhere }; kind = decls.Interface [] }) within
 
-  -- ---- what is declared twice
+  -- ---- names that are declared twice
 
   own_ports-stand : (kind : AstKind) → KindWith Stands kind → All (PortWith Stands) (own_ports kind)
   own_ports-stand (decls.Alias ltype) is = All-nil (PortWith Stands)

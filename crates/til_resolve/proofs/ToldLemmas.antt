@@ -1,4 +1,4 @@
--- Of the faults of a tree one is told, where there is any, and of the tree of a text one alone.
+-- A tree with errors has a reported error, and the tree of a text has at most one.
 use Rattle.std.proofs.Common.{◌≡◌, ℕ, zero, suc, ◌<◌, ◌≤◌, ◌⊎◌, inl, inr, Bool, true, false, ◌&&◌, cond, eqb, ltb, List, [], ◌∷◌, length, take, get_or, slice_get, Option, Some, None, is_some, find, Contains, refl, sym, ap, subst, ◌∙◌, arith}
 use Rattle.std.proofs.lemmas.Bool.{ltb-true, ltb-false}
 use Rattle.std.proofs.lemmas.Bool.Decides.{nat_tests}
@@ -22,9 +22,9 @@ less-or_not m n = by (ltb m n) refl
     by true e = inl (ltb-true m n e)
     by false e = inr (ltb-false m n e)
 
--- ---- one is told
+-- ---- one is reported
 
--- what a fault of an order is, by its place
+-- the meaning of an error of an order, by its place
 abbrev IsOfOrder : ℕ → ResolveFault → Type 0
 IsOfOrder (suc zero) fault = fault ≡ faults.DeclaredTwice (place_of_fault fault)
 IsOfOrder (suc (suc zero)) fault = (fault ≡ faults.UnknownName (place_of_fault fault)) ⊎ (fault ≡ faults.WrongKind (place_of_fault fault))
@@ -49,7 +49,7 @@ of_order faults.Memory = refl
 same_bad : (types : List WrittenType) (place : Place) (bad other : TypeFault) → IsChosenBad types place bad → IsChosenBad types place other → bad ≡ other
 same_bad types place bad other is other_is = let one = is.found in let two = other_is.found in let first = is.is in let second = other_is.is in cc
 
--- faults of one order and place are one
+-- errors of one order and place are one
 module _ (all : List Declaration) where
   same : (one other : ResolveFault) → IsTold all one → IsTold all other → order_of other ≡ order_of one → place_of_fault other ≡ place_of_fault one → one ≡ other
   same (faults.DeclaredTwice place) other told other_told order at =
@@ -81,7 +81,7 @@ module _ (all : List Declaration) where
       let is : IsOfOrder 7 other = subst (λ n. IsOfOrder n other) order (of_order other) in sym (is ∙ ap faults.CyclicInstance at)
   same faults.Memory other told other_told order at = absurd told.there
 
--- faults that are told before one another have one order and stand at one offset
+-- errors that are reported before one another have one order and stand at one offset
 both-before : (one other : ResolveFault) → IsToldBefore one other → IsToldBefore other one → (order_of other ≡ order_of one) × (offset_of other ≡ offset_of one)
 both-before one other (inl before) (inl after) = absurd (omega (arith, before, after))
 both-before one other (inl before) (inr after) = absurd (omega (arith, before, after.0))
@@ -97,7 +97,7 @@ one-told text ast one other tree told other_told =
     same (declarations ast) one other told other_told both.0
     (other_stands ∙ ap (λ (n : ℕ). place_past start (take n text)) both.1 ∙ sym stands)
 
--- ---- some is told
+-- ---- some error is reported
 
 -- the first of a list that passes a test
 record IsFirstFound {X : Type 0} (test : X → Bool) (xs : List X) (found : Option X) : Type 0 where
@@ -123,7 +123,7 @@ module _ (all : List Declaration) (none : (fault : ResolveFault) → IsTold all 
   abbrev Least : ResolveFault → Type 0
   Least fault = (other : ResolveFault) → HasFault all other → IsToldBefore fault other
 
-  -- a fault of the same order and place is told before the same
+  -- an error of the same order, at no later place, is reported before the same errors
   as-soon : (one other fault : ResolveFault) → order_of other ≡ order_of one → offset_of other ≤ offset_of one → IsToldBefore one fault → IsToldBefore other fault
   as-soon one other fault order offset (inl before) = inl (omega (arith, order, before))
   as-soon one other fault order offset (inr before) = inr (order ∙ before.0, omega (arith, before.1, offset))

@@ -1,4 +1,4 @@
--- What is declared twice, found by what was seen before.
+-- Names that are declared twice, found by the names before them.
 use Rattle.std.proofs.Common.{◌≡◌, ℕ, zero, suc, ◌+◌, ◌<◌, ◌≤◌, Bool, true, false, cond, ltb, not, ◌||◌, List, [], ◌∷◌, ◌++◌, length, map, filter, take, get_or, position, Option, Some, None, option_map, Contains, refl, sym, ap, subst, ◌∙◌, arith}
 use Rattle.std.specs.Borrow.{Bor}
 use Rattle.std.specs.Bool.{then_some}

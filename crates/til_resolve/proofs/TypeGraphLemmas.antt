@@ -14,9 +14,9 @@ use Rattle.til_resolve.proofs.EarliestLemmas.{Contains-nil, Contains-one}
 use Rattle.til_resolve.specs.Paths.{is_same_path}
 use Rattle.til_resolve.proofs.ScopeLemmas.{position-within}
 
--- ---- what paths name
+-- ---- the declarations that paths name
 
--- what one path more names
+-- the declaration that one more path names
 pub kinds_named-more : (asks : Declaration → Bool) (all : List Declaration) (space : List (List ℕ)) (paths : List (Bor AstPath)) (i : ℕ) (path : Bor AstPath) → i < length paths → path ≡ get_or paths i path
     → kinds_named asks all space (seen (take (i + 1) paths)) ≡ kinds_named asks all space (seen (take i paths)) ++ kinds_named asks all space (path.now ∷ [])
 kinds_named-more asks all space paths i path within is =
@@ -117,7 +117,7 @@ Leads-NamesType all one other step = by (cases_lt one (length all))
         (names-in (named_as is_type all (declaration all one).space) (paths_of_alias (declaration all one).kind) step.path other step.written step.names)
     by (inr above) = absurd (Contains-nil step.path (subst (λ (d : Declaration). Contains (paths_of_alias d.kind) step.path) (past all one (declaration [] 0) above) step.written))
 
--- what a path names is a declaration
+-- a path names a declaration
 pub named-within : (asks : Declaration → Bool) (all : List Declaration) (space : List (List ℕ)) (path : AstPath) (n : ℕ) → named_as asks all space path ≡ Some n → n < length all
 named-within asks all space path n is = by (named all space path) (position-within (λ one. is_same_path (path_of one) (meant space path)) all) is
   where

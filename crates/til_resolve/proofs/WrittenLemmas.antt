@@ -20,7 +20,7 @@ use Rattle.til_resolve.proofs.AgainLemmas.{append_nil}
 use Rattle.til_resolve.proofs.MeaningLemmas.{declared-is}
 use Rattle.til_resolve.proofs.EarliestLemmas.{Contains-nil, Contains-one}
 
--- what stands at an index is of the list
+-- the element at an index is one of the list
 pub Contains-at : {A : Type 0} (xs : List A) (i : ℕ) (x : A) → i < length xs → x ≡ get_or xs i x → Contains xs x
 Contains-at xs i x within is = subst (Contains xs) (sym is) (Contains-get_or xs i x within)
 

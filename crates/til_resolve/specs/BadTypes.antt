@@ -18,7 +18,7 @@ use Rattle.til_resolve.specs.Shapes.{type_at}
 use Rattle.til_resolve.specs.SharedTypes.{AreTypes}
 use Rattle.til_resolve.specs.Written.{place_of, ltype_of}
 
--- the first fault of a type, if it has any
+-- the first error of a type, if it has any
 abbrev pub first_fault : Ltype → Option TypeFault
 first_fault ltype = slice_get (faults_of ltype) 0
 
@@ -33,7 +33,7 @@ pub record HasSomeFault (one : WrittenType) : Type 0 where
   pub fault : TypeFault
   pub first : first_fault one.ltype ≡ Some fault
 
--- one of these types, told of at this place, has this fault as its first
+-- one of these types, with this place, has this error as its first
 abbrev pub IsBadIn : List WrittenType → BadType → Type 0
 IsBadIn types bad = HasTypeAt (λ one. first_fault one.ltype ≡ Some bad.fault) types bad.place
 
@@ -41,7 +41,8 @@ abbrev pub place_found : Option BadType → Option Place
 place_found None = None
 place_found (Some bad) = Some bad.place
 
--- what is found stands at the first place of a type with a fault, and is such a type, the first that is told of there; nothing is found where there is none
+-- the finding stands at the first place of a type with an error, and is the first such type that is reported there; nothing is
+-- found where there is none
 pub record IsFirstBad (types : List WrittenType) (found : Option BadType) : Type 0 where
   pub first : IsEarliest (HasTypeAt HasSomeFault types) (place_found found)
   pub bad : IfSome found (IsBadIn types)
@@ -61,12 +62,12 @@ earlier_bad None other = other
 earlier_bad (Some first) None = Some first
 earlier_bad (Some first) (Some second) = if nat_lt second.place.offset first.place.offset then Some second else Some first
 
--- ---- what is kept of the types of declarations
+-- ---- the findings kept about the types of declarations
 
 abbrev pub verdict_at : List Verdict → ℕ → Verdict
 verdict_at kept one = slice_index_or kept one verdicts.Unknown
 
--- what is known of a declaration's type is its first fault
+-- a known verdict on a declaration's type is the first error of the type
 pub record AreVerdicts (all : List Declaration) (kept : List Verdict) : Type 0 where
   pub each : (one : ℕ) (fault : Option TypeFault) → verdict_at kept one ≡ verdicts.Known fault → fault ≡ first_fault (type_at all (suc (length all)) one)
 

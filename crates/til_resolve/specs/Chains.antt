@@ -35,7 +35,7 @@ abbrev pub chain_from : List Chain → ℕ → Option ℕ → Chain
 chain_from chains one (Some target) = with_one_more (chain_at chains target)
 chain_from chains one None = own_chain one
 
--- ---- what is tested
+-- ---- the tests
 
 -- the number of the type declaration that a type written in a namespace names, if it is only a path
 abbrev pub named_alone : List Declaration → List (List ℕ) → tree.Ltype → Option ℕ

@@ -46,7 +46,7 @@ declarations ast = flat_map declared_in ast.namespaces
 abbrev pub declaration : List Declaration → ℕ → Declaration
 declaration all number = slice_index_or all number (record { space = []; name = record { name = []; place = nowhere }; kind = decls.Interface [] })
 
--- what stands at the declarations before a number, in text order
+-- the list gathered at the declarations before a number, in text order
 abbrev pub before : {A : Type 0} → (ℕ → List A) → ℕ → List A
 before of zero = []
 before of (suc number) = before of number ++ of number

@@ -1,4 +1,4 @@
--- Of places in a text, the first. This project's own.
+-- The first of some places in a text. This project's own.
 use Rattle.std.specs.Prelude.{ℕ, ◌<◌, ◌≤◌, nat_lt, nat_le, Bool, false, Option, Some, None, MatchOption, if◌then◌else◌}
 use Rattle.tydi_base.specs.declared.place.Place.{Place}
 

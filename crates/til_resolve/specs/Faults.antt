@@ -1,4 +1,4 @@
--- What is wrong with a tree, each fault at its place, and which is told. This project's own.
+-- The errors of a tree, each at its place, and the one that is reported. This project's own.
 use Rattle.std.specs.Prelude.{◌≡◌, ◌≤◌, ◌<◌, ◌⊎◌, ℕ, Bool, true, false, not, ◌&&◌, ◌==◌, List, [], ◌∷◌, map, length, slice_get, find, is_some, Option, Some, IfSome, MatchOption, Contains, IsTrue}
 use Rattle.std.specs.List.{flat_map}
 use Rattle.tydi_base.specs.declared.place.Place.{Place}
@@ -23,7 +23,7 @@ use Rattle.til_resolve.specs.Earliest.{IsBelow}
 
 -- ---- the types that a tree writes: those of type declarations and of ports
 
--- a type, where it is told of, and whether it is that of a port
+-- a type, the place at which its errors are reported, and whether it is that of a port
 pub record WrittenType : Type 0 where
   pub place : Place
   pub ltype : Ltype
@@ -54,7 +54,7 @@ written_types all = flat_map (types_in all) all
 abbrev pub IsTooLarge : Ltype → Type 0
 IsTooLarge ltype = (65536 < number_of_nodes ltype) ⊎ (64 < depth_of ltype)
 
--- one of these types, told of at this place, is such a type
+-- one of these types, with this place, is such a type
 pub record HasTypeAt (Is : WrittenType → Type 0) (types : List WrittenType) (place : Place) : Type 0 where
   pub one : WrittenType
   pub written : Contains types one
@@ -73,7 +73,7 @@ pub record IsCyclicAtTarget (all : List Declaration) (one : ℕ) (place : Place)
   pub implements : implements all (declaration all one) ≡ Some streamlet
   pub leads : LeadsTo (ContainsStreamlet all) streamlet streamlet
 
--- ---- the faults of a tree, in the order in which they are looked for
+-- ---- the errors of a tree, in the order in which they are looked for
 
 -- the tree of these declarations has such a fault
 abbrev pub HasFault : List Declaration → ResolveFault → Type 0
@@ -114,11 +114,11 @@ place_of_fault faults.Memory = nowhere
 abbrev pub offset_of : ResolveFault → ℕ
 offset_of fault = (place_of_fault fault).offset
 
--- one fault is told before another: it is looked for before, or stands no later in the text
+-- one error is reported before another: it is looked for before, or stands no later in the text
 abbrev pub IsToldBefore : ResolveFault → ResolveFault → Type 0
 IsToldBefore one other = (order_of one < order_of other) ⊎ ((order_of one ≡ order_of other) × (offset_of one ≤ offset_of other))
 
--- a type with a fault, told of at this offset
+-- a type with an error, reported at this offset
 abbrev pub is_bad_at : ℕ → WrittenType → Bool
 is_bad_at offset one = one.place.offset == offset && is_some (slice_get (faults_of one.ltype) 0)
 
@@ -129,8 +129,8 @@ pub record IsChosenBad (types : List WrittenType) (place : Place) (fault : TypeF
   pub at : one.place ≡ place
   pub is : slice_get (faults_of one.ltype) 0 ≡ Some fault
 
--- of two faults of one order and place that is told: a name that is unknown before one of a wrong kind, and of types with faults the
--- first. In the tree of a text no two stand at one place.
+-- the choice between two errors of one order and place: a name that is unknown comes before one of a wrong kind, and the first of
+-- the types with errors is reported. In the tree of a text no two stand at one place.
 abbrev pub IsChosen : List Declaration → ResolveFault → Type 0
 IsChosen all (faults.DeclaredTwice place) = Unit {0}
 IsChosen all (faults.UnknownName place) = Unit {0}
@@ -142,13 +142,13 @@ IsChosen all (faults.PortNotStream place) = Unit {0}
 IsChosen all (faults.CyclicInstance place) = Unit {0}
 IsChosen all faults.Memory = Unit {0}
 
--- the fault that is told of declarations
+-- the reported error of declarations
 pub record IsTold (all : List Declaration) (fault : ResolveFault) : Type 0 where
   pub there : HasFault all fault
   pub first : (other : ResolveFault) → HasFault all other → IsToldBefore fault other
   pub chosen : IsChosen all fault
 
--- the fault that is told of a tree
+-- the reported error of a tree
 abbrev pub IsToldOf : Ast → ResolveFault → Type 0
 IsToldOf ast fault = IsTold (declarations ast) fault
 
@@ -156,7 +156,7 @@ IsToldOf ast fault = IsTold (declarations ast) fault
 abbrev pub IsSound : Ast → Type 0
 IsSound ast = (fault : ResolveFault) → ¬ HasFault (declarations ast) fault
 
--- the first fault of a tree, of those up to this place in the order
+-- the first error of a tree, of those up to this place in the order
 pub record IsToldUpTo (all : List Declaration) (order : ℕ) (found : Option ResolveFault) : Type 0 where
   pub told : MatchOption found ((fault : ResolveFault) → order_of fault ≤ order → ¬ HasFault all fault)
       (λ fault. HasFault all fault × ((other : ResolveFault) → HasFault all other → IsToldBefore fault other))

@@ -1,5 +1,5 @@
--- What types come to, by what the types in them come to, and tables of what declarations come to. It serves the searches for types
--- that are too large, no Stream or at fault, and no public clause.
+-- The values of types by a fold over the types in them, and tables of the values of declarations. They serve the searches for types
+-- that are too large, are no Stream or have an error, and no public clause.
 use Rattle.std.specs.Prelude.{◌≡◌, ℕ, List, [], ◌∷◌, map}
 use Rattle.til_parser.specs.declared.ltype.AstPart.{AstPart}
 use Rattle.til_parser.specs.declared.tree.AstName.{AstName}
@@ -19,7 +19,7 @@ names_in (tree.part name ltype more) = name.name ∷ names_in more
 abbrev pub written_names : List AstPart → List (List ℕ)
 written_names parts = map (λ one. one.name.name) parts
 
--- what a written type comes to, where its paths come to this
+-- the value of a written type, where its paths have these values
 abbrev mutual
   pub fold_by : {X Y : Type 0} → Layers X Y → (List AstName → X) → tree.Ltype → X
   fold_by layers of tree.null = layers.of_null
@@ -29,7 +29,7 @@ abbrev mutual
   fold_by layers of (tree.stream element user settings) = layers.of_stream (settings_of settings) (fold_by layers of element) (fold_by layers of user)
   fold_by layers of (tree.path names) = of names
 
-  -- what parts come to after others
+  -- the value of parts after others
   pub fold_by_parts : {X Y : Type 0} → Layers X Y → (List AstName → X) → Y → tree.Parts → Y
   fold_by_parts layers of before tree.no_parts = before
   fold_by_parts layers of before (tree.part name ltype more) = fold_by_parts layers of (layers.of_part before (fold_by layers of ltype)) more

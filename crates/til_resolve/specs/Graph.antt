@@ -47,7 +47,7 @@ pub record Searches (graph : List (List ℕ)) (start : ℕ) (reached : List Bool
 abbrev pub rank_of : List ℕ → ℕ → ℕ
 rank_of ranks one = slice_index_or ranks one 0
 
--- what a number leads to at once has a lower rank
+-- the numbers that a number leads to at once have lower ranks
 abbrev pub Falls : List ℕ → List (List ℕ) → ℕ → Type 0
 Falls ranks graph one = (other : ℕ) → Leads graph one other → rank_of ranks other < rank_of ranks one
 

@@ -1,4 +1,4 @@
--- What a place asks of a declaration that a path names there. It serves the look-ups, and no public clause.
+-- The kind of declaration that the place of a path needs. It serves the look-ups, and no public clause.
 use Rattle.std.specs.Prelude.{Bool}
 use Rattle.til_resolve.specs.declared.kinds.Asked.{Asked}
 use Rattle.til_resolve.specs.declared.kinds.Asked.TheVariants as asked

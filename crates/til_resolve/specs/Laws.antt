@@ -1,4 +1,4 @@
--- What holds of the faults of trees, of their projects, and of the types of ports.
+-- The laws of the errors of trees, of their projects, and of the types of ports.
 use Rattle.std.specs.Prelude.{◌≡◌, ℕ, List, Some, find, option_map}
 use Rattle.til_parser.specs.declared.tree.Ast.{Ast}
 use Rattle.til_parser.specs.Laws.{IsTreeOf}
@@ -14,11 +14,11 @@ use Rattle.til_resolve.specs.PortTypes.{IsPortType}
 use Rattle.til_resolve.specs.Project.{IsProjectOf}
 use Rattle.til_resolve.specs.SoundProject.{IsSoundProject}
 
--- of the tree of a text one fault is told
+-- the tree of a text has at most one reported error
 abbrev pub OneFaultIsTold : Type 0
 OneFaultIsTold = (text : List ℕ) (ast : Ast) (one other : ResolveFault) → IsTreeOf text ast → IsToldOf ast one → IsToldOf ast other → one ≡ other
 
--- a tree of which none is told has none
+-- a tree without a reported error has no error
 abbrev pub SomeFaultIsTold : Type 0
 SomeFaultIsTold = (ast : Ast) → ((fault : ResolveFault) → IsToldOf ast fault → ⊥) → IsSound ast
 

@@ -1,4 +1,4 @@
--- What the look-ups of a project find. This project's own.
+-- The results of the look-ups of a project. This project's own.
 use Rattle.std.specs.Prelude.{ℕ, List, [], ◌∷◌, ◌++◌, Option, Some, None, find}
 use Rattle.til_resolve.specs.Paths.{is_same_path}
 use Rattle.til_resolve.specs.declared.project.Streamlet.{Streamlet}

@@ -1,4 +1,4 @@
--- What a project is made from. It serves the making, and no public clause.
+-- The data that a project is made from. It serves the making, and no public clause.
 use Rattle.std.specs.Prelude.{◌≡◌, ℕ, ◌∷◌, [], List, map, position, take, true, Option, Some, None}
 use Rattle.til_parser.specs.declared.tree.AstKind.{AstKind}
 use Rattle.til_parser.specs.declared.tree.AstKind.TheVariants as decls

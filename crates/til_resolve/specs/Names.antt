@@ -19,7 +19,7 @@ use Rattle.til_resolve.specs.Paths.{is_same_path}
 use Rattle.til_resolve.specs.Declarations.{Declaration, PortOf, declaration, before, nowhere, place_of, path_of}
 use Rattle.til_resolve.specs.Declarations.{named, named_as, own_ports, ports_of, ports_of_streamlet, is_type, is_interface, is_streamlet}
 
--- ---- what stands twice
+-- ---- names that stand twice
 
 -- the things of a list that have an equal one before them
 abbrev pub again : {A : Type 0} → (A → A → Bool) → List A → List A → List A
@@ -118,7 +118,7 @@ implements_again all number (Some streamlet) = if list_any (is_impl_of all strea
 abbrev pub implemented_again : List Declaration → ℕ → List Place
 implemented_again all number = implements_again all number (implements all (declaration all number))
 
--- what a declaration declares twice by itself, or after those before it
+-- the places of the names that a declaration declares again, by itself or after those before it
 abbrev pub twice_at : List Declaration → ℕ → List Place
 twice_at all number = declared_again all number ++ ports_again (own_ports (declaration all number).kind) ++ names_again_in_body all (declaration all number)
 

@@ -14,7 +14,7 @@ use Rattle.til_resolve.specs.declared.kinds.Asked.{Asked}
 use Rattle.til_resolve.specs.declared.kinds.Asked.TheVariants as asked
 use Rattle.til_resolve.specs.Names.{paths_in, paths_in_ports, instance_at, instances_of}
 
--- what references to paths refer to
+-- the paths that references refer to
 abbrev pub seen : List (Bor AstPath) → List AstPath
 seen paths = map (λ path. path.now) paths
 
@@ -43,7 +43,7 @@ paths_of_kind (decls.Streamlet (ports.Named path)) = path ∷ []
 paths_of_kind (decls.Impl target body) = target ∷ paths_of_body body
 paths_of_kind (decls.Test target port value plan) = target ∷ []
 
--- what the places of these paths ask
+-- the kind of declaration that the places of these paths need
 abbrev pub asked_in : AstKind → Asked
 asked_in (decls.Alias ltype) = asked.Type
 asked_in (decls.Interface listed) = asked.Type

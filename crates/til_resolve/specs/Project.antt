@@ -52,7 +52,7 @@ abbrev pub numbered : List Declaration → Option ℕ → ℕ
 numbered all None = 0
 numbered all (Some streamlet) = streamlet_number all streamlet
 
--- the number of the streamlet that a path names; 0 where it names none, which is told before
+-- the number of the streamlet that a path names; 0 where it names none, which is reported before
 abbrev pub number_of : List Declaration → List (List ℕ) → AstPath → ℕ
 number_of all space path = numbered all (named_as is_streamlet all space path)
 

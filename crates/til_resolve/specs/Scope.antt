@@ -24,7 +24,7 @@ placed_at home one = record { declaration = one; home = home }
 abbrev pub texts_of : List AstName → List (List ℕ)
 texts_of names = map (λ one. one.name) names
 
--- what the code keeps of a declaration stands for
+-- the declaration and its home that the data kept of it stands for
 abbrev pub placed_of : Declared → Placed
 placed_of one = record { declaration = record { space = texts_of one.space.now; name = one.name.now; kind = one.kind.now }; home = one.home }
 
@@ -62,7 +62,7 @@ AreHome spaces all = All (λ one. home_of spaces one.declaration.space ≡ Some 
 abbrev pub FindsFirst : (Key → Option ℕ) → List Placed → Type 0
 FindsFirst find all = (key : Key) → find key ≡ first_at all key.0 key.1.now.name
 
--- what look-ups stand on
+-- the facts that look-ups rest on
 pub record IsScope (spaces : List (Bor (List AstName))) (find : Key → Option ℕ) (all : List Placed) : Type 0 where
   pub homes : AreHome spaces all
   pub finds : FindsFirst find all

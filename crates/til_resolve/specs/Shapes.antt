@@ -18,23 +18,23 @@ use Rattle.til_resolve.specs.Types.{is_stream, type_by, meaning_of}
 abbrev pub shape_of : Ltype → Shape
 shape_of ltype = record { nodes = min (number_of_nodes ltype) 65537; depth = min (depth_of ltype) 65; stream = is_stream ltype }
 
--- of a type with none in it
+-- the shape of a type without types in it
 abbrev pub leaf : Shape
 leaf = record { nodes = 1; depth = 1; stream = false }
 
--- of no types
+-- the shape of no types
 abbrev pub nothing : Shape
 nothing = record { nodes = 0; depth = 0; stream = false }
 
--- of types beside one another
+-- the shape of types beside one another
 abbrev pub beside : Shape → Shape → Shape
 beside one other = record { nodes = min (one.nodes + other.nodes) 65537; depth = max one.depth other.depth; stream = false }
 
--- of a type around others
+-- the shape of a type around others
 abbrev pub around : Bool → Shape → Shape
 around is_stream inside = record { nodes = min (inside.nodes + 1) 65537; depth = min (inside.depth + 1) 65; stream = is_stream }
 
--- what types come to as shapes
+-- the fold that gives each type its shape
 abbrev pub shape_layers : Layers Shape Shape
 shape_layers = record {
   of_null = leaf;
@@ -62,7 +62,7 @@ abbrev pub type_at : List Declaration → ℕ → ℕ → Ltype
 type_at all zero one = null
 type_at all (suc less) one = type_by (meaning_of all less) (declaration all one)
 
--- ---- what is wrong with a shape
+-- ---- the errors of a shape
 
 abbrev pub is_misshapen : Sort → Bool → Shape → Bool
 is_misshapen sorts.TooLarge in_port shape = nat_lt 65536 shape.nodes || nat_lt 64 shape.depth

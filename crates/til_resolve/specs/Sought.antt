@@ -1,4 +1,4 @@
--- Which of the faults of a path is looked for. It serves the search, and no public clause.
+-- The error of a path that is looked for. It serves the search, and no public clause.
 use Rattle.std.specs.Prelude.{ℕ, nat_lt, Bool, List, [], ◌++◌, Option, Some, None, if◌then◌else◌}
 use Rattle.tydi_base.specs.declared.place.Place.{Place}
 use Rattle.til_parser.specs.declared.tree.AstPath.{AstPath}

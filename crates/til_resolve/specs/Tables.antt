@@ -20,7 +20,7 @@ pub record IsReady {X : Type 0} (least : X) (Is : Ltype → X → Type 0) (all :
   pub named : (path : AstPath) (one : ℕ) → Contains paths path → named_as is_type all space path ≡ Some one → Is (type_at all depth one) (slice_index_or table one least)
   pub rest : (one : ℕ) → one < length all → (slice_index_or table one least ≡ least) ⊎ Is (type_at all depth one) (slice_index_or table one least)
 
--- what is made of a table for a written type is its entry, where the table is ready for that
+-- the entry made of a table for a written type is the type's entry, where the table is ready for that
 abbrev pub IsMadeOf : {X : Type 0} → X → (Ltype → X → Type 0) → List Declaration → List (List ℕ) → tree.Ltype → List X → X → Type 0
 IsMadeOf least Is all space t table made = (depth : ℕ) → IsReady least Is all space (paths_in t) table depth → Is (replaced (meaning_of all depth space) t) made
 

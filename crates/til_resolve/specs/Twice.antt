@@ -22,7 +22,7 @@ abbrev pub instance_again : List WrittenInstance → Option WrittenInstance → 
 instance_again earlier None = []
 instance_again earlier (Some one) = if list_any (λ other. bytes_eq other.name.name one.name.name) earlier then one.name.place ∷ [] else []
 
--- an instance, if there is one, was added to these, and is told where it stands again
+-- an instance, if there is one, was added to these, and is reported where it stands again
 pub record AddsInstance (find : Bor AstName → Bool) (earlier : List WrittenInstance) (one : Option WrittenInstance) (found : Option Place) : Type 0 where
   pub seen : FindsNames find (earlier ++ option_to_list one)
   pub again : IsEarliest (Contains (instance_again earlier one)) found

@@ -61,7 +61,7 @@ type_of_number meaning all None = null
 type_of_number meaning all (Some number) = type_by meaning (declaration all number)
 
 -- the type that a path means in a namespace, with so many names replaced inside one another at most. As many as there are
--- declarations are enough where no type leads to itself; Null stands where a path names no type. Both faults are told before.
+-- declarations are enough where no type leads to itself; Null stands where a path names no type. Both errors are reported before.
 abbrev pub meaning_of : List Declaration → ℕ → List (List ℕ) → List AstName → Ltype
 meaning_of all zero space names = null
 meaning_of all (suc less) space names = type_of_number (λ inner. meaning_of all less inner) all (named all space (record { names = names }))

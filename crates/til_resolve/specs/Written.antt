@@ -1,5 +1,5 @@
--- The types that a tree writes, by the numbers of the declarations in which they stand. It serves the search for faults of types, and
--- no public clause.
+-- The types that a tree writes, by the numbers of the declarations in which they stand. It serves the search for errors of types,
+-- and no public clause.
 use Rattle.std.specs.Prelude.{◌≡◌, ℕ, suc, ◌<◌, ◌++◌, Bool, false, true, List, length, map, Contains}
 use Rattle.tydi_base.specs.declared.place.Place.{Place}
 use Rattle.til_parser.specs.Tree.{plain}
@@ -19,7 +19,7 @@ number_of (Port number port) = number
 abbrev pub IsWithin : List Declaration → Written → Type 0
 IsWithin all one = number_of one < length all
 
--- where it is told of
+-- the place at which its errors are reported
 abbrev pub place_of : List Declaration → Written → Place
 place_of all (Declared number) = (declaration all number).name.place
 place_of all (Port number port) = port.now.name.place

@@ -1,6 +1,6 @@
-//! Types that have a fault. The types of declarations are made, and a type is checked, only where a summary does not show that it has
-//! none: then it nearly always has one, and no type behind it is looked at. What was found of a declaration's type serves all that
-//! name it alone.
+//! Types that have an error. The types of declarations are made, and a type is checked, only where a summary does not show that it
+//! has none: then it nearly always has one, and no type behind it is looked at. The finding about a declaration's type serves all
+//! declarations that name it alone.
 
 ghost use Rattle.std.specs.Prelude.{◌≡◌, ◌<◌, ◌↔◌, List, All, length, slice_set, IsTrue, IfOk, None};
 ghost use Rattle.logical_types.specs.Summary.{IsShownValid, summarized};
@@ -29,18 +29,19 @@ use std::alloc::Global;
 use til_parser::AstType;
 use tydi_base::{List, Memory, Place};
 
-/// A written type that has a fault, and its first.
+/// A written type that has an error, with its place and its first error.
 #[derive(Clone, Copy)]
 pub struct BadType {
     pub place: Place,
     pub fault: TypeFault,
 }
 
-/// What is known of a declaration's type.
+/// The finding about a declaration's type.
 #[derive(Clone, Copy)]
 pub enum Verdict {
+    /// It was not checked.
     Unknown,
-    /// Its first fault, if it has any.
+    /// Its first error; None where it has none.
     Known(Option<TypeFault>),
 }
 
@@ -52,7 +53,7 @@ pub struct Findings {
     verdicts: Vec<Verdict>,
 }
 
-/// The first written type that has a fault.
+/// The first written type that has an error. None where no type has one.
 pub fn first_bad_type<'a>(
     alloc: Global,
     scope: &Scope<'a>,
@@ -119,7 +120,7 @@ fn nothing_found(alloc: Global, scope: &Scope<'_>) -> Result<Findings, Memory>
     })
 }
 
-// What was found, or this type where it stands before and has a fault.
+// The earlier of the bad type that was found and this type, where this one has an error.
 fn or_bad<'a>(
     alloc: Global,
     scope: &Scope<'a>,
@@ -154,7 +155,7 @@ fn place_found(found: Option<BadType>) -> Option<Place>
     }
 }
 
-// The first fault of a written type.
+// The first error of a written type.
 fn fault_of<'a>(
     alloc: Global,
     scope: &Scope<'a>,
@@ -179,7 +180,7 @@ fn fault_of<'a>(
     }
 }
 
-// The first fault of a port's type: of the declaration that it names alone, or of the type that it writes.
+// The first error of a port's type: of the declaration that it names alone, or of the type that it writes.
 fn fault_of_port<'a>(
     alloc: Global,
     scope: &Scope<'a>,
@@ -202,7 +203,7 @@ fn fault_of_port<'a>(
     }
 }
 
-// The first fault of a declaration's type. It is kept for all declarations that have one root.
+// The first error of a declaration's type. It is kept for all declarations that have one root.
 fn fault_at(findings: &mut Findings, number: usize) -> Option<TypeFault>
     ensures fault { (all : List Declaration) → AreAcyclic all → number < length all → AreFindings all findings.old → result ≡ first_fault (type_at all (length all) number) }
     ensures findings { (all : List Declaration) → AreAcyclic all → number < length all → AreFindings all findings.old → AreFindings all findings.new }
@@ -216,7 +217,7 @@ fn fault_at(findings: &mut Findings, number: usize) -> Option<TypeFault>
     fault
 }
 
-// The first fault of the type that a table has of a number.
+// The first error of the type that a table has of a number.
 fn fault_of_entry(types: &[LType], number: usize) -> Option<TypeFault>
     ensures { result ≡ first_fault (ltype_at types.now number) }
 {

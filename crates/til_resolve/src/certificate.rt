@@ -1,4 +1,5 @@
-//! What ranks show of a graph: a number whose targets all have lower ranks does not lead to itself, where no target has a higher one.
+//! Ranks that certify that a graph has few cycles: where no rank rises along an edge, a number whose targets all have lower ranks
+//! does not lead to itself.
 
 ghost use Rattle.std.specs.Prelude.{◌≡◌, ◌<◌, ◌≤◌, ◌↔◌, ℕ, IsTrue, IfOk, length, slice_index};
 ghost use Rattle.til_resolve.specs.Cycles.{LeadsTo};

@@ -115,7 +115,7 @@ fn goes_on(chain: Chain, next: Chain) -> bool
     chain.skipped > 0 && chain.skipped - 1 == next.skipped && chain.root == next.root
 }
 
-// A table by one walk in the order of the ranks. That it has an entry for each declaration is promised of it, and not which.
+// A table by one walk in the order of the ranks. The contract promises an entry for each declaration, not its value.
 fn by_ranks(alloc: Global, scope: &Scope<'_>, ranks: &[usize]) -> Result<List<Chain>, Memory>
     ensures { IfOk result (λ chains. length chains ≡ length (declarations_of scope.now.declared)) }
 {

@@ -19,7 +19,7 @@ use std::alloc::Global;
 use til_parser::AstKind;
 use tydi_base::{List, Memory, Place};
 
-/// Where a declaration tells of a cycle.
+/// Where a cycle at a declaration is reported.
 #[derive(Clone, Copy)]
 pub enum Site {
     /// At its name, if it leads to itself.
@@ -28,10 +28,12 @@ pub enum Site {
     Target,
 }
 
-/// What may lead to itself, if there is anything, and where that is told.
+/// A declaration that may lead to itself, and the place of the report.
 #[derive(Clone, Copy)]
 pub struct Suspect {
+    /// The number of the declaration. None where there is none.
     pub number: Option<usize>,
+    /// Where a cycle is reported.
     pub place: Place,
 }
 
@@ -51,7 +53,7 @@ pub fn first_cyclic_instance(alloc: Global, scope: &Scope<'_>) -> Result<Option<
     first_cycle(alloc, scope, graph.as_slice(), Site::Target)
 }
 
-// The first place at which a declaration tells of a cycle of a graph.
+// The first place at which a declaration reports a cycle of a graph.
 fn first_cycle(
     alloc: Global,
     scope: &Scope<'_>,
@@ -100,7 +102,7 @@ fn target_place(kind: &AstKind) -> Place
     }
 }
 
-// The place that was found, or that of this declaration where it stands before and tells of a cycle.
+// The place that was found, or that of this declaration where it stands before and reports a cycle.
 fn or_cyclic(
     alloc: Global,
     scope: &Scope<'_>,

@@ -4,8 +4,8 @@ ghost use Rattle.til_resolve.specs.declared.fault.ResolveFault.TheVariants as fa
 use logical_types::TypeFault;
 use tydi_base::{Memory, Place};
 
-/// Why a tree stands for no project. Faults earlier in this list are looked for over the whole text before those later, but
-/// `UnknownName` and `WrongKind` together; of one kind the first place in the text is told.
+/// Why a tree stands for no project. Errors earlier in this list are looked for over the whole text before those later, but
+/// `UnknownName` and `WrongKind` together; of one kind the first place in the text is reported.
 #[derive(Clone, Copy, Debug, PartialEq, Eq)]
 pub enum ResolveFault {
     /// At the second: a declaration with the name of another of its namespace; a port with a name of its interface or streamlet,
@@ -16,7 +16,7 @@ pub enum ResolveFault {
     /// At the first byte of a path that names nothing, or of the port of a test that its streamlet lacks.
     UnknownName(Place),
 
-    /// At the first byte of a path that names a declaration of another kind than its place asks.
+    /// At the first byte of a path that names a declaration of another kind than its place needs.
     WrongKind(Place),
 
     /// At the name of a type declaration that leads to itself.
@@ -25,7 +25,7 @@ pub enum ResolveFault {
     /// At the name of a type declaration or of a port: its type has over 65,536 nodes, or is nested deeper than 64, names replaced.
     TypeTooLarge(Place),
 
-    /// At the name of a type declaration or of a port: its type has this fault.
+    /// At the name of a type declaration or of a port: its type has this error.
     BadType(Place, TypeFault),
 
     /// At the name of a port whose type is no Stream.

@@ -1,4 +1,4 @@
-//! The first fault of a tree.
+//! The first error of a tree.
 
 ghost use Rattle.std.specs.Prelude.{◌≡◌, length, IfOk, None};
 ghost use Rattle.til_resolve.specs.Faults.{IsToldUpTo};
@@ -23,7 +23,7 @@ use crate::written::{Written, written_types};
 use std::alloc::Global;
 use tydi_base::{Memory, Place};
 
-/// The first fault of a tree.
+/// The first error of a tree.
 pub fn first_fault(alloc: Global, scope: &Scope<'_>) -> Result<Option<ResolveFault>, Memory>
     ensures { IfOk result (IsToldUpTo (declarations_of scope.now.declared) 7) }
 {
@@ -60,7 +60,7 @@ fn first_type_fault<'a>(
     }
 }
 
-// The first fault of names, or else the first type declaration that leads to itself.
+// The first error of names, or else the first type declaration that leads to itself.
 fn first_early_fault(alloc: Global, scope: &Scope<'_>) -> Result<Option<ResolveFault>, Memory>
     ensures { IfOk result (IsToldUpTo (declarations_of scope.now.declared) 3) }
 {
@@ -73,7 +73,7 @@ fn first_early_fault(alloc: Global, scope: &Scope<'_>) -> Result<Option<ResolveF
     }
 }
 
-// The first fault of names: what is declared twice, or else a path that names nothing, or another kind than its place asks.
+// The first error of names: a name that is declared twice, or else a path that names nothing, or another kind than its place needs.
 fn first_name_fault(alloc: Global, scope: &Scope<'_>) -> Result<Option<ResolveFault>, Memory>
     ensures { IfOk result (IsToldUpTo (declarations_of scope.now.declared) 2) }
 {

@@ -15,7 +15,7 @@ use tydi_base::Memory;
 /// The number of the first declaration by the number of its namespace's path and its name.
 pub type Firsts<'a> = IndexMap<(usize, &'a AstName), usize>;
 
-/// What finds the first of these declarations that has a name.
+/// A map from each name in a namespace to the first of these declarations that has it. `Memory` comes where there is none for it.
 pub fn first_of_each<'a>(alloc: Global, declared: &[Declared<'a>]) -> Result<Firsts<'a>, Memory>
     ensures { IfOk result (λ firsts. FindsFirst (get is_same_key firsts) (placed declared.now)) }
 {

@@ -1,4 +1,4 @@
-//! What a written type comes to, by what the types in it come to and a table of what declarations come to.
+//! The value of a written type, from the values of the types in it and a table of the values of declarations.
 
 ghost use Rattle.std.specs.Prelude.{◌≡◌, ◌<◌, length, slice_index_or};
 ghost use Rattle.logical_types.specs.Fold.{Layers, fold};
@@ -18,44 +18,47 @@ use crate::scope::Scope;
 use crate::written::Written;
 use til_parser::{AstPart, AstPath, AstStream, AstType};
 
-/// What types come to, by what the types in them come to.
+/// A fold: it gives each type a value, from the values of the types in it.
 pub trait Fold {
-    /// What a type comes to.
+    /// The value of a type.
     type Value: Copy;
 
-    /// What the parts of a Group or a Union come to together.
+    /// The value of the parts of a Group or a Union together.
     type Sum: Copy;
 
-    /// What each kind of type comes to.
+    /// The value of each kind of type.
     ghost layers: { Layers Self.Value Self.Sum };
 
+    /// The value of Null.
     fn null() -> Self::Value
         ensures { result ≡ layers.of_null };
 
+    /// The value of a Bits of this width in bits.
     fn bits(width: u64) -> Self::Value
         ensures { result ≡ layers.of_bits width };
 
-    /// A Group of parts that come to this.
+    /// The value of a Group of these parts, whose values together are `sum`.
     fn group(parts: &[AstPart], sum: Self::Sum) -> Self::Value
         ensures { result ≡ layers.of_group (written_names parts.now) sum };
 
-    /// A Union of parts that come to this.
+    /// The value of a Union of these parts, whose values together are `sum`.
     fn union(parts: &[AstPart], sum: Self::Sum) -> Self::Value
         ensures { result ≡ layers.of_union (written_names parts.now) sum };
 
-    /// A Stream whose data type and user type come to this.
+    /// The value of a Stream, from the values of its data type and its user type.
     fn stream(stream: &AstStream, element: Self::Value, user: Self::Value) -> Self::Value
         ensures { result ≡ layers.of_stream (settings_of (tree.settings_of stream.now)) element user };
 
+    /// The value of no parts.
     fn no_parts() -> Self::Sum
         ensures { result ≡ layers.of_no_parts };
 
-    /// Parts that come to this, and one more.
+    /// The value of parts and one more: `sum` is that of the parts, `part` that of the one more.
     fn and(sum: Self::Sum, part: Self::Value) -> Self::Sum
         ensures { result ≡ layers.of_part sum part };
 }
 
-/// What a written type comes to.
+/// The value of a written type.
 pub fn value_of<'a, F: Fold>(scope: &Scope<'a>, one: &Written<'a>, table: &[F::Value]) -> F::Value
     requires within { IsWithin (declarations_of scope.now.declared) one.now }
     requires acyclic { AreAcyclic (declarations_of scope.now.declared) }
@@ -68,7 +71,7 @@ pub fn value_of<'a, F: Fold>(scope: &Scope<'a>, one: &Written<'a>, table: &[F::V
     }
 }
 
-/// What a type comes to that is written in the declaration of a number, as the entry of a table.
+/// The value of a type that is written in the declaration of this number, as the entry of a table.
 pub fn entry_in<'a, F: Fold>(
     scope: &Scope<'a>,
     number: usize,
@@ -82,7 +85,7 @@ pub fn entry_in<'a, F: Fold>(
     value_in::<F>(scope, number, ltype, table)
 }
 
-// What a written type comes to, where its paths come to what the table has of them.
+// The value of a written type, where each path has the value that the table has for it.
 #[cycle(value_in)]
 fn value_in<'a, F: Fold>(
     scope: &Scope<'a>,
@@ -115,7 +118,7 @@ fn value_in<'a, F: Fold>(
     }
 }
 
-// What parts come to together.
+// The value of parts together.
 #[cycle(value_in)]
 fn sum_in<'a, F: Fold>(
     scope: &Scope<'a>,
@@ -135,7 +138,7 @@ fn sum_in<'a, F: Fold>(
     sum
 }
 
-// What the type comes to that a path names.
+// The value of the type that a path names, or of Null where it names no type.
 fn value_named<'a, F: Fold>(
     scope: &Scope<'a>,
     number: usize,
@@ -151,7 +154,7 @@ fn value_named<'a, F: Fold>(
     }
 }
 
-// What a table has of a number.
+// The entry of a number in a table, or the value of Null where it has none.
 fn value_at<F: Fold>(table: &[F::Value], number: usize) -> F::Value
     ensures { result ≡ slice_index_or table.now number F.layers.of_null }
 {

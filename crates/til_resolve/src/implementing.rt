@@ -19,7 +19,7 @@ use tydi_base::Memory;
 /// The number of the first `impl` by the number of its streamlet.
 pub type FirstImpls = IndexMap<usize, usize>;
 
-/// What finds the first `impl` of a streamlet.
+/// A map from each streamlet to its first `impl`. `Memory` comes where there is none for it.
 pub fn first_impls(alloc: Global, scope: &Scope<'_>) -> Result<FirstImpls, Memory>
     ensures { IfOk result (λ impls. FindsFirstImpl (get nat_eq impls) (declarations_of scope.now.declared) (length (declarations_of scope.now.declared))) }
 {

@@ -8,15 +8,18 @@ ghost use Rattle.til_resolve.specs.Scope.{placed_of};
 use crate::declared::Declared;
 use til_parser::{AstKind, AstPort, AstPorts};
 
-/// The kind of declaration that the place of a path asks.
+/// The kind of declaration that the place of a path needs.
 #[derive(Clone, Copy)]
 pub enum Asked {
+    /// A type declaration.
     Type,
+    /// An interface.
     Interface,
+    /// A streamlet.
     Streamlet,
 }
 
-/// Whether a declaration is of the kind that is asked.
+/// Whether a declaration is of the needed kind.
 pub fn is_asked(asked: Asked, one: &Declared<'_>) -> bool
     ensures { result ≡ asks asked (placed_of one.now).declaration }
 {

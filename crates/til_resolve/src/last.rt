@@ -1,4 +1,4 @@
-//! The faults that are looked for last: ports whose type is no Stream, and streamlets that contain themselves.
+//! The errors that are looked for last: ports whose type is no Stream, and streamlets that contain themselves.
 
 ghost use Rattle.std.specs.Prelude.{◌≡◌, length, None, IfOk};
 ghost use Rattle.til_resolve.specs.Faults.{IsToldUpTo};

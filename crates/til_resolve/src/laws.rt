@@ -1,4 +1,4 @@
-//! The laws of the faults of trees, of their projects, and of the types of ports.
+//! The laws of the errors of trees, of their projects, and of the types of ports.
 
 ghost use Rattle.til_resolve.specs.Laws.{
   FoundPortsAreValid,
@@ -12,7 +12,7 @@ ghost use Rattle.til_resolve.specs.Laws.{
   TestsAreFound,
 };
 
-/// The law of faults: of the tree of a text one fault is told, and of each tree that has any.
+/// The law of errors: the tree of a text has at most one reported error, and each tree with an error has one.
 pub fn faults_are_told()
     ensures one { OneFaultIsTold }
     ensures some { SomeFaultIsTold }
@@ -27,13 +27,13 @@ pub fn projects_are_plain()
     ensures tests { TestsAreFound }
 {}
 
-/// The law of projects of trees without faults: types of ports are valid, tests drive ports that are there, instances are of
-/// streamlets that are there, containment ends, and paths are distinct.
+/// The law of projects of trees without errors: types of ports are valid, tests drive ports that are there, instances are of
+/// streamlets that are there, containment ends, paths are distinct, and the names inside each streamlet are apart.
 pub fn projects_are_sound()
     ensures { SoundProjects }
 {}
 
-/// The law of ports: in a tree without faults the types of ports are valid, and have at most 65,536 nodes.
+/// The law of ports: in a tree without errors the types of ports are valid, and have at most 65,536 nodes.
 pub fn port_types_are_valid()
     ensures each { PortTypesAreValid }
     ensures found { FoundPortsAreValid }

@@ -1,4 +1,4 @@
-//! The project of a tree without faults.
+//! The project of a tree without errors.
 
 ghost use Rattle.std.specs.Prelude.{◌≡◌, None, IfOk};
 ghost use Rattle.til_resolve.specs.Faults.{IsToldUpTo};
@@ -13,7 +13,7 @@ use crate::written_tests::all_tests;
 use std::alloc::Global;
 use tydi_base::Memory;
 
-/// The project of declarations without faults.
+/// The project of declarations without errors.
 pub fn project_of(alloc: Global, scope: &Scope<'_>) -> Result<Project, Memory>
     requires { IsToldUpTo (declarations_of scope.now.declared) 7 None }
     ensures streamlets { IfOk result (λ project. Pairwise (IsStreamletOf (declarations_of scope.now.declared))

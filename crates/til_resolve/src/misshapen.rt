@@ -18,7 +18,7 @@ use crate::shapes::ShapeFold;
 use crate::written::{Written, place_of};
 use tydi_base::Place;
 
-/// What is wrong with the shape of a type.
+/// An error in the shape of a type.
 #[derive(Clone, Copy)]
 pub enum Sort {
     /// It has too many nodes, or is nested too deep.
@@ -27,7 +27,7 @@ pub enum Sort {
     PortNotStream,
 }
 
-/// The first written type with which this is wrong, where it is told.
+/// The place of the first written type that has this error. None where there is no such type.
 pub fn first_misshapen<'a>(
     scope: &Scope<'a>,
     written: &[Written<'a>],

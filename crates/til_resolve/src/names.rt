@@ -19,12 +19,12 @@ use std::alloc::Global;
 use til_parser::{AstKind, AstPath};
 use tydi_base::{Memory, Place};
 
-/// Which fault of a path is looked for.
+/// The error of a path that is looked for.
 #[derive(Clone, Copy)]
 pub enum Sought {
-    /// That it names nothing.
+    /// It names nothing.
     Unknown,
-    /// That it names a declaration of another kind than its place asks.
+    /// It names a declaration of another kind than its place needs.
     WrongKind,
 }
 

@@ -20,7 +20,7 @@ pub fn paths_of<'a>(alloc: Global, kind: &'a AstKind) -> Result<List<&'a AstPath
     Ok(paths)
 }
 
-/// What the places of the paths in a declaration of a kind ask.
+/// The kind of declaration that the paths in a declaration of this kind have to name.
 pub fn asked_in(kind: &AstKind) -> Asked
     ensures { result ≡ asked_in kind.now }
 {

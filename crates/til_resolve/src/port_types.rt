@@ -36,7 +36,7 @@ pub fn type_of_port<'a>(
 {
     match replaced_type(alloc, scope, number, &port.ltype, types)? {
         LType::Stream(stream) => Ok(stream.into_rc()),
-        // A port whose type is no Stream was told before.
+        // A port whose type is no Stream was reported before.
         LType::Null | LType::Bits(_) | LType::Group(_) | LType::Union(_) => unreachable!(),
     }
 }

@@ -28,7 +28,7 @@ pub fn all_ports<'a>(alloc: Global, scope: &Scope<'a>) -> Result<Ports<'a>, Memo
     Ok(ports)
 }
 
-// The ports of one declaration more.
+// Adds the ports of one more declaration.
 fn add_ports<'a>(ports: &mut Ports<'a>, owner: usize, added: &'a [AstPort]) -> Result<(), Memory>
     ensures { OnOk result ((key : Key) → contains is_same_key ports.new key
         ≡ (contains is_same_key ports.old key || (nat_eq owner key.0 && is_port_name added.now key.1.now.name))) }

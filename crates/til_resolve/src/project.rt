@@ -1,4 +1,4 @@
-//! A project: what its streamlets and tests are, and the look-ups of ports, streamlets and tests by their paths.
+//! A project: its streamlets and tests, and the look-ups of ports, streamlets and tests by their paths.
 
 ghost use Rattle.std.specs.Prelude.{◌≡◌, find};
 ghost use Rattle.std.specs.Option.{option_copied};

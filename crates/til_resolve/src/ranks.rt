@@ -1,10 +1,10 @@
 //! Ranks by which a graph is seen to have few cycles. They are found by a walk that numbers what leads to one another alike, and
 //! lower than what leads to it (Tarjan, Depth-first search and linear graph algorithms, 1972).
 //!
-//! That there is one for each number is promised of them, and not which, since no answer rests on them. `certificate` tests that no
-//! rank rises along an edge, and searches where ranks don't show that a number is on no cycle; `chains` tests the table that is made
-//! in the order of ranks, `tables` tests the order itself, and each has another way where a test fails. What rests on ranks is time:
-//! with those that are found every test passes, so that one walk is enough.
+//! Contracts promise a rank for each number, not its value, since no answer rests on ranks. `certificate` tests that no rank rises
+//! along an edge, and searches where ranks don't show that a number is on no cycle; `chains` tests the table that is made in the
+//! order of ranks, `tables` tests the order itself, and each has another way where a test fails. Only time rests on ranks: with
+//! those that are found every test passes, so that one walk is enough.
 
 ghost use Rattle.std.specs.Prelude.{◌≡◌, ◌+◌, ◌-◌, ◌^◌, length, min, slice_get, slice_set, IfOk};
 ghost use Rattle.til_resolve.specs.Graph.{AreByRank, rank_of, steps_over, targets_of};

@@ -1,4 +1,4 @@
-//! The project of a tree, or its first fault.
+//! The project of a tree, or its first error.
 
 ghost use Rattle.std.specs.Prelude.{◌≡◌, ◌≢◌, Some, None, IfOk, IfErr};
 ghost use Rattle.til_resolve.specs.Faults.{IsSound, IsToldOf, IsToldUpTo};
@@ -14,8 +14,8 @@ use crate::scope::Scope;
 use std::alloc::Global;
 use til_parser::Ast;
 
-/// The project that a tree stands for. Apart from `Memory` it fails exactly where the tree has a fault, and the error is the fault
-/// that is looked for first, at its first place in the text: see `ResolveFault`. It takes time and memory in proportion to the text
+/// The project that a tree stands for. Apart from `Memory` it fails exactly where the tree has an error, and reports the one that
+/// is looked for first, at its first place in the text: see `ResolveFault`. It takes time and memory in proportion to the text
 /// and to the types of its ports, where a type that ports name is built once.
 pub fn resolve(alloc: Global, ast: &Ast) -> Result<Project, ResolveFault>
     ensures sound { IfOk result (λ project. IsSound ast.now) }

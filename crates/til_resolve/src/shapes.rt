@@ -13,7 +13,7 @@ use std::alloc::Global;
 use til_parser::{AstPart, AstStream, AstType};
 use tydi_base::{List, Memory};
 
-/// What types come to as shapes.
+/// The fold that gives each type its shape.
 pub struct ShapeFold;
 
 impl Fold for ShapeFold {

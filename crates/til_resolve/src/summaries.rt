@@ -37,7 +37,7 @@ impl Named for WrittenParts<'_> {
     }
 }
 
-/// What types come to as summaries, as far as they have any.
+/// The fold that gives each type its summary, or None where it has none.
 pub struct SummaryFold;
 
 impl Fold for SummaryFold {

@@ -18,11 +18,12 @@ use std::alloc::Global;
 use til_parser::{AstKind, AstType};
 use tydi_base::{List, Memory};
 
-/// What a table has of the type of each declaration.
+/// The entries that a table has for the types of declarations.
 pub trait Entries {
+    /// The entry of a type.
     type Entry: Drop;
 
-    /// The entry of Null, and of what is no type.
+    /// The entry of Null, and of a declaration that is no type.
     ghost least: { Self.Entry };
 
     /// This is the entry of a type.
@@ -43,7 +44,7 @@ pub trait Entries {
         requires { number < length (declarations_of scope.now.declared) }
         ensures { IfOk result (IsMadeOf least is_entry (declarations_of scope.now.declared) (declaration (declarations_of scope.now.declared) number).space (plain ltype.now) table.now) };
 
-    /// The least is that.
+    /// The least entry is an entry of Null.
     ghost is_least: { is_entry null least };
 }
 

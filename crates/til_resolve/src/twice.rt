@@ -1,4 +1,4 @@
-//! What is declared twice.
+//! Names that are declared twice, and streamlets that are implemented twice.
 
 ghost use Rattle.std.specs.Prelude.{◌≡◌, ◌+◌, ◌<◌, List, [], ◌∷◌, length, map, IfOk, IfSome, OnOk, Contains, nat_eq};
 ghost use Rattle.std.specs.Char.{to_ascii_lowercase};
@@ -24,7 +24,8 @@ use std::alloc::Global;
 use til_parser::{AstBody, AstKind, AstName, AstPath, AstPort, AstStmt};
 use tydi_base::{List, Memory, Name, Place};
 
-/// The first place of what is declared twice.
+/// The first place where a name is declared again, or a streamlet implemented again. None where there is no such place; `Memory`
+/// comes where there is none for the look-ups.
 pub fn first_twice<'a>(
     alloc: Global,
     scope: &Scope<'a>,
@@ -40,7 +41,7 @@ pub fn first_twice<'a>(
     Ok(earlier(found, first_implemented_again(alloc, scope)?))
 }
 
-// What a declaration declares twice, by itself or after those before it.
+// The first place where a declaration declares a name again, by itself or after those before it.
 fn twice_at<'a>(
     alloc: Global,
     scope: &Scope<'a>,

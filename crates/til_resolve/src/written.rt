@@ -16,9 +16,9 @@ use tydi_base::{List, Memory, Place};
 /// A type that is written.
 #[derive(Clone, Copy)]
 pub enum Written<'a> {
-    /// That of the type declaration of a number.
+    /// The type of the type declaration of this number.
     Declared(usize),
-    /// That of a port of the declaration of a number.
+    /// The type of a port of the declaration of this number.
     Port { number: usize, port: &'a AstPort },
 }
 
@@ -33,7 +33,7 @@ pub fn written_types<'a>(alloc: Global, scope: &Scope<'a>) -> Result<List<Writte
     Ok(written)
 }
 
-// Those of one declaration more.
+// Adds the types of one more declaration.
 fn add_declaration<'a>(
     scope: &Scope<'a>,
     number: usize,
@@ -65,7 +65,7 @@ fn add_ports<'a>(
     Ok(())
 }
 
-/// Where a written type is told of: at the name of its declaration or of its port.
+/// The place at which an error of a written type is reported: the name of its declaration or of its port.
 pub fn place_of<'a>(scope: &Scope<'a>, one: &Written<'a>) -> Place
     requires { IsWithin (declarations_of scope.now.declared) one.now }
     ensures { result ≡ place_of (declarations_of scope.now.declared) one.now }

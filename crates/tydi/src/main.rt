@@ -47,7 +47,7 @@ fn run_with(rt: &HostRuntime, words: &[Text]) -> ExitCode
 }
 
 /// Runs the tool over this store and these sinks, and answers the exit status: that of the run, which reads from the store, writes
-/// its answer to out, and the line of a fault to err.
+/// its answer to out, and the line of an error to err.
 fn exit_of_run<S: Store, O: Sink, E: Sink>(
     alloc: Global,
     words: &[Text],

@@ -25,7 +25,7 @@ unfolding bits_of
 bits_of-zero zero = refl
 bits_of-zero (suc count) = ap (λ (bits : List Bool). false ∷ bits) (bits_of-zero count)
 
--- what a bit of a number adds to it
+-- the value that a bit of a number adds to it
 bit_value : (number : ℕ) → cond (eqb (number % 2) 1) 1 0 ≡ number % 2
 bit_value number = grind (arith, nat_tests)
 
@@ -185,7 +185,7 @@ take-unpack-zeros width count is_count =
     let room : width ≤ 8 * count = omega arith
     in rw unpack-replicate_zero (take-replicate width (8 * count) false room)
 
--- the bytes of two words tell whether the words are the same
+-- the bytes of two words decide whether the words are the same
 pub packed_decides : (width : ℕ) (a b : List ℕ) (result : Bool)
     → IsPacked width a
     → IsPacked width b
@@ -235,7 +235,7 @@ other_width width other a b word other_word word_is other_is packed_a packed_b d
   λ same. absurd (differ (sym (length_packed width a packed_a) ∙ ap length (word_is ∙ same ∙ sym other_is) ∙ length_packed other b packed_b)),
 )
 
--- what decides whether two words are the same is what `==` of their bits answers
+-- the decision whether two words are the same equals the answer of `==` on their bits
 pub compared : (a b : List Bool) {result : Bool} → Decides result (a ≡ b) → result ≡ pointwise beq a b
 compared a b {result = result} decides =
     one_answer result (pointwise beq a b) decides (slice_eq-Decides booleans_Decides a b (pointwise beq a b) refl)

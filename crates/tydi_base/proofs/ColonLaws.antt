@@ -109,7 +109,7 @@ pub record Searched (text : List ℕ) (at : ℕ) : Type 0 where
 pub Searched-none : (text : List ℕ) → Searched text 0
 Searched-none text = record { pieces = refl }
 
--- what is looked at is as `&text[at..]` reads
+-- the bytes that are looked at are those of `&text[at..]`
 pub Searched-more : (text : List ℕ) (at : ℕ) → at < length text → Searched text at → begins_with_colons (take (length text - at) (drop at text)) ≡ false → Searched text (at + 1)
 Searched-more text at lt h e =
     let rest : take (length text - at) (drop at text) ≡ drop at text = take_rest text at in

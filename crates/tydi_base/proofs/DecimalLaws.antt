@@ -1,4 +1,4 @@
--- Decimal numbers: what is spelled is read, and what is read is spelled so.
+-- Decimal numbers: each spelling is read, and each text that is read is a spelling.
 use Rattle.std.proofs.Math.ListN.{get_or-append}
 use Rattle.std.proofs.Math.Seq.{drop-cons}
 use Rattle.std.proofs.lemmas.List.{drop_all}
@@ -18,7 +18,7 @@ use Rattle.tydi_base.specs.Decimal.{read_on, is_decimal, decimal_of, below, padd
 pub own : IsNumeralModel (λ digits. list_all is_ascii_digit digits ≡ true) (read_on 0)
 own = numerals_by_fold _ (search rules) read_on (search rules)
 
--- what the test of digits says
+-- the meaning of the test of digits
 pub record IsDecimal (digits : List ℕ) : Type 0 where
   pub some : 0 < length digits
   pub each : list_all is_ascii_digit digits ≡ true

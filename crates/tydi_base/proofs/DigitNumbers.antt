@@ -85,7 +85,7 @@ none_in : (digits : List ℕ) (read : Option (List Bool)) → bits_of_digits dig
 none_in digits None is none = is
 none_in digits (Some bits) is none = absurd (let some : ◌≡◌ {A = Option ℕ} (Some (number_of_bits bits)) None = sym (ap (option_map number_of_bits) is) ∙ none in cc)
 
--- what stands from a place on, as a part of a slice is seen
+-- the digits from a place on, as contracts see a part of a slice
 pub number_of_rest : (digits : List ℕ) (place : ℕ) → number_in (take (length digits - place) (drop place digits)) ≡ number_in (drop place digits)
 number_of_rest digits place = ap number_in (take_all (length digits - place) (drop place digits) (omega (arith, length-drop place digits)))
 

@@ -27,7 +27,7 @@ common_divides a b c h pos coprime greatest =
     let times : k * c ∣ 1 * c = mul-dvd-mul_right k in-one c in
     subst (λ (n : ℕ). n ∣ c) whole (subst (λ (n : ℕ). k * c ∣ n) (one-mul c) times)
 
--- what divides a product, and has no common divisor with the one factor, divides the other
+-- a divisor of a product that has no common divisor with the one factor divides the other
 pub coprime_divides : (a b c : ℕ) → IsGcd a b 1 → a ∣ b * c → a ∣ c
 coprime_divides a b zero coprime divides = dvd-zero a
 coprime_divides a b (suc c) coprime divides =

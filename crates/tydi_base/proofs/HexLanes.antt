@@ -24,7 +24,7 @@ less a b = (a + (2 ^ 8 - b)) % 2 ^ 8
 abbrev where_letter : ℕ → List ℕ → ℕ → ℕ → List ℕ
 where_letter n digits letter other = sel_l (map (top 7) (zip2 at_most (replicate n 97) digits)) (replicate n letter) (replicate n other)
 
--- what the operations on vectors give
+-- the results of the operations on vectors
 abbrev pub marked_lanes : ℕ → List ℕ → List ℕ
 marked_lanes n digits =
     sel_l (map (top 7) (zip2 below (zip2 less digits (where_letter n digits 87 48)) (where_letter n digits 16 10)))

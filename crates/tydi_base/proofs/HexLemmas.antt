@@ -1,4 +1,4 @@
--- Words of bits in hexadecimal: what is spelled is read, and what is read is spelled so.
+-- Words of bits in hexadecimal: each spelling is read, and each text that is read is a spelling.
 use Rattle.std.proofs.Common.{◌≡◌, ◌∙◌, sym, ℕ, zero, suc, ◌+◌, ◌-◌, ◌*◌, ◌/◌, ◌^◌, ◌<◌, ◌≤◌, Bool, true, false, eqb, if◌then◌else◌, List, [], ◌∷◌, ◌++◌, length, take, drop, Option, Some, None, option_map, option_and_then, refl, ap, arith, length-append, append_assoc}
 use Rattle.std.proofs.lemmas.Bool.{eqb-true, eq-eqb}
 use Rattle.std.proofs.lemmas.Bool.Decides.{nat_tests}
@@ -99,7 +99,7 @@ bits_of_digits-push (top ∷ digits) digit value high is_value are_high =
     in bits_of_digits-cons top p.value (digits ++ digit ∷ []) (bits_of 4 value ++ p.low) rest p.value_is
     ∙ ap (λ (bits : List Bool). Some bits) (append_assoc (bits_of 4 value) p.low (bits_of 4 p.value) ∙ ap (λ (bits : List Bool). bits_of 4 value ++ bits) (sym p.bits_are))
 
--- ---- what is spelled is read
+-- ---- a spelling is read
 
 -- the digit of up to four bits
 nibble_digit : (nibble : List Bool) (pad : ℕ)
@@ -155,7 +155,7 @@ word_at-hex_of bits =
     in let many : eqb (length (hex_of bits)) ((length bits + 3) / 4) ≡ true = eq-eqb _ _ (length-hex_of bits)
     in rw (many, s.spelled) (fitted-padded bits s.pad)
 
--- ---- what is read is spelled so
+-- ---- a text that is read is a spelling
 
 pub hex_of-append : (low : List Bool) (count : ℕ) (high : List Bool)
     → length low ≡ 4 * count
@@ -205,7 +205,7 @@ hex_of-padded (a ∷ b ∷ c ∷ []) pad count few whole = let one : pad ≡ 1 =
 hex_of-padded (a ∷ b ∷ c ∷ d ∷ bits) pad count few whole =
     rw (hex_of-padded bits pad (count - 1) few (omega arith)) refl
 
--- what it takes to read a word
+-- the facts that a word is read from
 record Read (width : ℕ) (digits : List ℕ) (word : List Bool) : Type 0 where
   bits : List Bool
   many : length digits ≡ (width + 3) / 4

@@ -65,7 +65,7 @@ filled_low digits filled old true bits count is_count long room zeros told are =
 
 -- ---- the word
 
--- what packing digits comes to
+-- the result of packing digits
 pub record Packing (width used count : ℕ) (digits new : List ℕ) (bits : List Bool) : Type 0 where
   pub is_used : used ≡ min (width / 4 + min 1 (width % 4)) (length digits)
   pub is_count : count ≡ width / 8 + min 1 (width % 8)

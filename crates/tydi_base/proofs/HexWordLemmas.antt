@@ -259,7 +259,7 @@ pub hex_word-not_hex : (width index : ℕ) (digits : List ℕ)
 unfolding hex_word value_in_width
 hex_word-not_hex width index digits first = rw first (refl, refl)
 
--- what it takes to be a word
+-- the conditions on a word
 pub record Word (width : ℕ) (digits : List ℕ) : Type 0 where
   pub word : hex_word width digits ≡ Ok (resized width (hex_bits digits))
   pub high : no_ones (drop width (hex_bits digits)) ≡ true

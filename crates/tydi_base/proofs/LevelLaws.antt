@@ -1,4 +1,4 @@
--- The text of a level: what is spelled is read, and what is read is spelled so.
+-- The text of a level: each spelling is read, and each text that is read is a spelling.
 use Rattle.std.proofs.Common.{◌≡◌, ℕ, ◌^◌, ◌<◌, ◌≤◌, Bool, true, false, ◌&&◌, ◌==◌, cond, nat_le, List, [], ◌∷◌, ◌++◌, length, append-nil, Option, Some, None, refl, sym, ap, ◌∙◌, arith}
 use Rattle.std.specs.Prelude.{codes, option_map, IsSome, IfSome, ◌↔◌}
 use Rattle.std.specs.Fmt.{decimal}
@@ -24,7 +24,7 @@ number-spelled last n small not_zero =
     let read : below 256 (decimal_of (decimal n)) ≡ Some n = rw (decimal_of-decimal n (omega arith)) (grind (arith, nat_tests)) in
     rw (read, not_zero) refl
 
--- what a piece spells
+-- the number that a piece spells
 record IsNumber (last : Bool) (piece : List ℕ) (n : ℕ) : Type 0 where
   spelled : piece ≡ decimal n
   small : n ≤ 255
@@ -197,7 +197,7 @@ no_more : (pieces : List (List ℕ)) → (length pieces == 0) ≡ true → piece
 no_more [] e = refl
 no_more (piece ∷ pieces) e = absurd (grind (arith, nat_tests))
 
--- what was read of pieces
+-- the numbers that were read of pieces
 record AreRead (pieces : List (List ℕ)) (level : LevelNumbers) : Type 0 where
   pieces_are : pieces ≡ left_of (level.first ∷ level.second ∷ level.third ∷ level.fourth ∷ [])
   level_is : IsLevel level
@@ -330,7 +330,7 @@ pub left-there : (text : List ℕ) → (length (pieces_left (Some text)) == 0) �
 unfolding pieces_left
 left-there text = let some = length-slice_split (λ b. b == 46) text in grind (arith, nat_tests)
 
--- what the code writes
+-- the texts that the code writes
 and_none : (one : Bool) → (one && false) ≡ false
 and_none true = refl
 and_none false = refl

@@ -109,7 +109,7 @@ numbers_rise level other e =
     ⊎_elim (λ lt. omega arith) (λ is. let first = is.0 in omega arith)
     (taken level.first other.first (are_at_most (level.second ∷ level.third ∷ level.fourth ∷ []) (other.second ∷ other.third ∷ other.fourth ∷ [])) e)
 
--- what the code compares
+-- the comparisons of the code
 last_number : (n m : ℕ) → nat_le n m ≡ (nat_lt n m || (n == m && true))
 last_number n m = by_tests (nat_lt n m) (n == m) refl refl
   where

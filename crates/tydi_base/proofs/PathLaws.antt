@@ -1,4 +1,4 @@
--- Paths: what is spelled is read, and what is read is spelled so.
+-- Paths: each spelling is read, and each text that is read is a spelling.
 use Rattle.std.proofs.Common.{◌≡◌, ◌≢◌, ℕ, ◌<◌, Bool, true, false, ◌&&◌, cond, eqb, List, [], ◌∷◌, length, get_or, Some, refl, sym, ap, ◌∙◌, arith, All}
 use Rattle.std.specs.List.{list_all, join_with_byte}
 use Rattle.std.specs.Str.{bytes_eq}
@@ -14,7 +14,7 @@ use Rattle.tydi_base.specs.Path.{names_of, path_text, colon_pieces, colon_text, 
 use Rattle.tydi_base.proofs.ColonLaws.{colon_pieces-join, join-colon_pieces, colon_pieces-some}
 use Rattle.tydi_base.proofs.PieceLaws.{pieces_of-join, join-pieces_of}
 
--- what this page reads in a name
+-- the facts about a name that this page uses
 record NameHas (name : List ℕ) : Type 0 where
   letter : begins_with_letter name ≡ true
   bytes : list_all is_name_byte name ≡ true

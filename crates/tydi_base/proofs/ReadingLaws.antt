@@ -49,9 +49,9 @@ chosen false x y z e = inr (refl, e)
 pub ok_is : {A F : Type 0} (x y : A) → ◌≡◌ {A = Result A F} (Ok x) (Ok y) → x ≡ y
 ok_is x y e = cc
 
--- ---- the faults of a reading
+-- ---- the errors of a reading
 
--- each fault of a reading is such
+-- each error of a reading is such
 pub record FaultsAre {A F : Type 0} (P : F → Type 0) (read : Result A F) : Type 0 where
   pub are : IfErr read P
 
@@ -70,5 +70,5 @@ pub FaultsAre-cond : {A F : Type 0} {P : F → Type 0} (b : Bool) (one other : R
 FaultsAre-cond true one other first second = first
 FaultsAre-cond false one other first second = second
 
--- for the faults of a reader, by those of its steps
+-- for the errors of a reader, by those of its steps
 pub ruleset faults_are = (FaultsAre-ok, FaultsAre-err, FaultsAre-bind, FaultsAre-cond)

@@ -22,7 +22,7 @@ or_swap true true c = refl
 or_swap true false c = refl
 or_swap false b c = refl
 
--- a test that tells equal keys alike holds of a key that is inserted, or of one that was there
+-- a test with one answer for equal keys holds for a key that is inserted, or of one that was there
 pub insert_key-any : {K : Type 0} (cmp : K → K → Ordering) (test : K → Bool) → ((one other : K) → cmp one other ≡ orderings.Equal → test one ≡ test other) → (keys : List K) (key : K)
     → list_any test (insert_key cmp keys key) ≡ (test key || list_any test keys)
 insert_key-any cmp test alike [] key = refl

@@ -34,13 +34,13 @@ module _ (text rest : List ℕ) (size : ℕ) (le : size ≤ length text) (is : r
       let same : rest ≡ tail = rest_is ∙ ap (drop size) whole ∙ ap (λ (n : ℕ). drop n (value ++ tail)) (sym long) ∙ drop-append_seam value tail in
       none (subst IsEnd (sym same) end)
 
--- what stands after the first word of a text
+-- the rest of a text after its first word
 first_word : (text word : List ℕ) (words : List (List ℕ)) → words_of text ≡ word ∷ words → (tail : List ℕ) × (text ≡ word ++ tail) × IsEnd tail
 first_word text word [] is = ([], sym (join-pieces_of 32 text) ∙ ap (join_with_byte 32) is ∙ sym (append-nil word), inl refl)
 first_word text word (next ∷ words) is =
     (32 ∷ join_with_byte 32 (next ∷ words), sym (join-pieces_of 32 text) ∙ ap (join_with_byte 32) is, inr (join_with_byte 32 (next ∷ words), refl))
 
--- what stands after a signal at the front of a text
+-- the rest of a text after a signal at its front
 first_signal : (key : ℕ) (after value : List ℕ) (words : List (List ℕ)) → words_of (key ∷ 61 ∷ after) ≡ (key ∷ 61 ∷ value) ∷ words → (tail : List ℕ) × (after ≡ value ++ tail) × IsEnd tail
 first_signal key after value words is =
     let first = first_word (key ∷ 61 ∷ after) (key ∷ 61 ∷ value) words is in

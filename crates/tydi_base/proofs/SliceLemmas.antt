@@ -35,7 +35,7 @@ length-written_at at word bits within =
     counts : (front rest : ℕ) → front ≡ min at (length bits) → rest ≡ length bits - (at + length word) → front + length word + rest ≡ length bits
     counts front rest front_is rest_is = omega arith
 
--- what stands past the bits that are written stays
+-- the bits past those that are written stay
 pub drop-written_at : (at past : ℕ) (word bits : List Bool)
     → at + length word ≤ past
     → at + length word ≤ length bits

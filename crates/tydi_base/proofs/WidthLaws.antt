@@ -35,7 +35,7 @@ least_next n low more (inl short) from later =
 least_next n low more (inr here) from later =
     rw (least_power-here n low (suc more) here) (record { enough = here; least = from })
 
--- what the search finds is enough, and no less is, where nothing below its start is
+-- the width that the search finds is enough, and no smaller one is, where no width below its start is
 least_by : (n low more : ℕ) → n ≤ low + more → ((other : ℕ) → n ≤ 2 ^ other → low ≤ other) → IsIndexWidth n (least_power n low more)
 least_by n low zero room from = record { enough = omega (arith, below_power low); least = from }
 least_by n low (suc more) room from =

@@ -3,7 +3,7 @@ use Rattle.std.proofs.Common.{◌∙◌, ℕ, ◌++◌, ◌≤◌, List, length,
 use Rattle.std.proofs.lemmas.List.{length-take, take-append-le}
 use Rattle.tydi_base.specs.Writing.{StandsInFront}
 
--- what stands in front stays there when more is written
+-- a front stays a front when more is written
 pub front_stays : (old new more : List ℕ) → StandsInFront old new → StandsInFront old (new ++ more)
 front_stays old new more front =
     let within : length old ≤ length new = omega (arith, ap length front, length-take (length old) new)

@@ -32,6 +32,6 @@ binary_word_at width digits = if length digits == width then binary_word digits 
 abbrev pub BinaryIsReadAsSpelled : Type 0
 BinaryIsReadAsSpelled = (bits : List Bool) → binary_word (binary_of bits) ≡ Some bits
 
--- what is read as a word is its one spelling, with a digit for each of its bits
+-- a text that is read as a word is its one spelling, with a digit for each of its bits
 abbrev pub BinaryIsSpelledAsRead : Type 0
 BinaryIsSpelledAsRead = (digits : List ℕ) (bits : List Bool) → binary_word digits ≡ Some bits → (digits ≡ binary_of bits) × (length bits ≡ length digits)

@@ -8,7 +8,7 @@ abbrev pub read_on : ℕ → List ℕ → ℕ
 read_on n [] = n
 read_on n (digit ∷ digits) = read_on (10 * n + (digit - 48)) digits
 
--- digits that spell a number: at least one, each of them `0` to `9`, and the first is `0` only where it stands alone
+-- digits that spell a number: at least one, each of them `0` to `9`, and the first is `0` only where it is the only one
 abbrev pub is_decimal : List ℕ → Bool
 is_decimal digits = nat_lt 0 (length digits) && list_all is_ascii_digit digits && (not (slice_index digits 0 == 48) || length digits == 1)
 
@@ -25,11 +25,11 @@ below limit (Some n) = if nat_lt n limit then Some n else None
 abbrev pub padded_decimal_of : List ℕ → Option ℕ
 padded_decimal_of digits = if nat_lt 0 (length digits) && list_all is_ascii_digit digits then Some (read_on 0 digits) else None
 
--- what spells a number is read as that number
+-- a text that spells a number is read as that number
 abbrev pub DecimalsAreReadAsSpelled : Type 0
 DecimalsAreReadAsSpelled = (n : ℕ) → n < 2 ^ 128 → decimal_of (decimal n) ≡ Some n
 
--- what is read as a number is its one spelling
+-- a text that is read as a number is its one spelling
 abbrev pub DecimalsAreSpelledAsRead : Type 0
 DecimalsAreSpelledAsRead = (digits : List ℕ) (n : ℕ) → n < 2 ^ 128 → decimal_of digits ≡ Some n → digits ≡ decimal n
 
@@ -37,6 +37,6 @@ DecimalsAreSpelledAsRead = (digits : List ℕ) (n : ℕ) → n < 2 ^ 128 → dec
 abbrev pub PaddedDecimalsAreReadAsSpelled : Type 0
 PaddedDecimalsAreReadAsSpelled = (zeros n : ℕ) → n < 2 ^ 128 → padded_decimal_of (replicate zeros 48 ++ decimal n) ≡ Some n
 
--- what is read as a number with leading zeros is zeros and its one spelling
+-- a text that is read as a number with leading zeros is zeros and its one spelling
 abbrev pub PaddedDecimalsAreSpelledAsRead : Type 0
 PaddedDecimalsAreSpelledAsRead = (digits : List ℕ) (n : ℕ) → n < 2 ^ 128 → padded_decimal_of digits ≡ Some n → (zeros : ℕ) × (digits ≡ replicate zeros 48 ++ decimal n)

@@ -13,7 +13,7 @@ hex_fault (faults.NotHex index) = Some (faults.NotHex index)
 hex_fault (faults.TooWide index) = Some (faults.TooWide index)
 hex_fault faults.Memory = None
 
--- what a fault is written as
+-- the text of an error
 abbrev pub fault_text : BitsFault → List ℕ
 fault_text (faults.NotHex index) = codes "no hexadecimal digit at " ++ decimal index
 fault_text (faults.TooWide index) = codes "a one above the width, at " ++ decimal index

@@ -1,4 +1,4 @@
--- What becomes of a list of which a part is lent for writing. This project's own.
+-- The value of a list after a part of it was lent for writing. This project's own.
 use Rattle.std.specs.Prelude.{ℕ, List, Option, slice_set}
 use Rattle.std.specs.Borrow.{Fml, LendsIf, MutBor, RattleType}
 use Rattle.tydi_base.specs.contracts.list.List.{the_row}

@@ -1,4 +1,4 @@
--- Complexity levels (Tydi specification, complexity). That a level has at most four numbers, and its text, is this project's own.
+-- Complexity levels (Tydi specification, complexity). The limit of four numbers, and the text of a level, are this project's own.
 use Rattle.std.specs.Prelude.{◌≡◌, ℕ, ◌≤◌, ◌⊎◌, Bool, true, false, IsTrue, ◌==◌, ◌&&◌, ◌||◌, nat_lt, nat_le, List, [], ◌∷◌, ◌++◌, length, get_or, Option, Some, None, option_map, option_and_then, if◌then◌else◌, codes, decimal}
 use Rattle.std.specs.List.{list_all}
 use Rattle.tydi_base.specs.Decimal.{below, decimal_of}
@@ -44,7 +44,7 @@ of_numbers numbers = record { first = get_or numbers 0 0; second = get_or number
 
 -- ---- the order
 
--- of two lists of numbers, the first is at most the second: the first number in which they differ decides
+-- the first of two lists of numbers is at most the second: the first number in which they differ decides
 unfoldable pub are_at_most : List ℕ → List ℕ → Bool
 are_at_most [] others = true
 are_at_most (n ∷ numbers) [] = false
@@ -66,11 +66,11 @@ OrderIsReflexive = (level : LevelNumbers) → IsAtMost level level
 abbrev pub OrderIsAntisymmetric : Type 0
 OrderIsAntisymmetric = (level other : LevelNumbers) → IsAtMost level other → IsAtMost other level → level ≡ other
 
--- what is at most a level that is at most another is at most the other
+-- a level that is at most another is at most every level that the other is at most
 abbrev pub OrderIsTransitive : Type 0
 OrderIsTransitive = (low level high : LevelNumbers) → IsAtMost low level → IsAtMost level high → IsAtMost low high
 
--- of two levels one is at most the other
+-- one of two levels is at most the other
 abbrev pub OrderIsTotal : Type 0
 OrderIsTotal = (level other : LevelNumbers) → IsAtMost level other ⊎ IsAtMost other level
 
@@ -132,6 +132,6 @@ level_of text = level_of_pieces (pieces_of 46 text)
 abbrev pub LevelsAreReadAsSpelled : Type 0
 LevelsAreReadAsSpelled = (level : LevelNumbers) → IsLevel level → level_of (level_text level) ≡ Some level
 
--- what is read is a level, and the text is its one spelling
+-- a text that is read gives a level, and is the level's one spelling
 abbrev pub LevelsAreSpelledAsRead : Type 0
 LevelsAreSpelledAsRead = (text : List ℕ) (level : LevelNumbers) → level_of text ≡ Some level → (text ≡ level_text level) × IsLevel level

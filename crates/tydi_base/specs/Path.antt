@@ -45,22 +45,22 @@ colon_text (name ∷ names) = name ++ flat_map (λ next. 58 ∷ 58 ∷ next) nam
 abbrev pub spelled_path : Bool → List (List ℕ) → List ℕ
 spelled_path colons names = if colons then colon_text names else path_text names
 
--- what stands between two names
+-- the bytes between two names
 abbrev pub separator_of : Bool → List ℕ
 separator_of colons = if colons then codes "::" else codes "."
 
--- what is spelled of names is read as these names
+-- a spelling of names is read as these names
 abbrev pub PathsAreReadAsSpelled : Type 0
 PathsAreReadAsSpelled = (names : List (List ℕ)) → All (λ name. IsTrue (is_name name)) names → path_of (path_text names) ≡ Some names
 
--- what is read is names, and the text is their one spelling
+-- a text that is read gives names, and is their one spelling
 abbrev pub PathsAreSpelledAsRead : Type 0
 PathsAreSpelledAsRead = (text : List ℕ) (names : List (List ℕ)) → path_of text ≡ Some names → (text ≡ path_text names) × All (λ name. IsTrue (is_name name)) names
 
--- what is spelled of names with `::`, of one at least, is read as these names
+-- a spelling of names with `::`, one name at least, is read as these names
 abbrev pub ColonPathsAreReadAsSpelled : Type 0
 ColonPathsAreReadAsSpelled = (names : List (List ℕ)) → 0 < length names → All (λ name. IsTrue (is_name name)) names → path_at true (colon_text names) ≡ Some names
 
--- what is read between `::` is names, one at least, and the text is their one spelling
+-- a text that is read between `::` gives names, one at least, and is their one spelling
 abbrev pub ColonPathsAreSpelledAsRead : Type 0
 ColonPathsAreSpelledAsRead = (text : List ℕ) (names : List (List ℕ)) → path_at true text ≡ Some names → (text ≡ colon_text names) × (0 < length names) × All (λ name. IsTrue (is_name name)) names

@@ -12,8 +12,8 @@ abbrev pub or_fault : {A F : Type 0} → F → Option A → Result A F
 or_fault fault None = Err fault
 or_fault fault (Some x) = Ok x
 
--- What a function returned, seen by view, is what reading gives, unless memory ran out. The first argument says which
--- fault an error is: None for want of memory.
+-- A function's result, seen by view, equals the result of reading, unless memory ran out. The first argument maps an error to
+-- its fault, and want of memory to None.
 abbrev pub Gives : {X Y E F : Type 0} → (E → Option F) → (X → Y) → Result X E → Result Y F → Type 0
 Gives fault view (Ok x) read = read ≡ Ok (view x)
 Gives fault view (Err e) read = MatchOption (fault e) (Unit {0}) (λ f. read ≡ Err f)

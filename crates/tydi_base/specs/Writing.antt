@@ -1,6 +1,6 @@
 -- Texts as they are written, part after part. This project's own.
 use Rattle.std.specs.Prelude.{◌≡◌, ℕ, List, length, take}
 
--- what was there still stands in front
+-- the old bytes still stand in front of the new ones
 abbrev pub StandsInFront : List ℕ → List ℕ → Type 0
 StandsInFront old new = take (length old) new ≡ old

@@ -13,7 +13,7 @@ use std::alloc::Global;
 
 impl Bits {
     /// The word that these digits spell, the highest first, with a bit for each. None exactly where one of them is neither `0`
-    /// nor `1`.
+    /// nor `1`. `Memory` comes where there is none for the word.
     #[tactic(auto, unfolding(crate::specs::Binary::binary_word))]
     pub fn from_binary(alloc: Global, digits: &[u8]) -> Result<Option<Bits>, Memory>
         ensures { IfOk result (λ read. read ≡ spec.binary_word digits.now) }
@@ -27,7 +27,7 @@ impl Bits {
     }
 
     /// The word of this width that these digits spell, the highest first. None exactly where they are not as many, or one of
-    /// them is neither `0` nor `1`.
+    /// them is neither `0` nor `1`. `Memory` comes where there is none for the word.
     #[tactic(auto, unfolding(crate::specs::Binary::binary_word_at))]
     pub fn from_exact_binary(
         alloc: Global,

@@ -45,7 +45,7 @@ impl Model for Bits {
 }
 
 impl Bits {
-    /// The word of this width that is all zeros.
+    /// The word of this width that is all zeros. `Memory` comes where there is none for the word.
     pub fn zeros(alloc: Global, width: usize) -> Result<Bits, Memory>
         ensures { IfOk result (λ bits. bits ≡ zero_bits width) }
     {
@@ -54,7 +54,8 @@ impl Bits {
     }
 
     /// The word of this width that these hexadecimal digits spell, the highest first. None exactly where they are not as many
-    /// as spell such a word, one of them is no digit, or a one stands at or above the width.
+    /// as spell such a word, one of them is no digit, or a one stands at or above the width. `Memory` comes where there is none for
+    /// the word.
     pub fn from_exact_hex(
         alloc: Global,
         width: usize,
@@ -97,7 +98,8 @@ impl Bits {
         fill_or_clear(self.len, digits, self.bytes.as_mut_slice())
     }
 
-    /// The word of this width that these hexadecimal digits spell, the highest first: any number of them, and none are zero.
+    /// The word of this width that these hexadecimal digits spell, the highest first: any number of them, and none are zero. It
+    /// fails with the first byte that is no digit; else with the highest one at or above the width; and with `Memory`.
     pub fn from_hex(alloc: Global, width: usize, digits: &[u8]) -> Result<Bits, BitsFault>
         ensures { Gives hex_fault (λ bits. bits) result (hex_word width digits.now) }
     {
@@ -172,7 +174,7 @@ impl Bits {
         copy_bits(bytes, at, source.bytes.as_slice(), from, count);
     }
 
-    /// The bits from one place up to another, as a word.
+    /// The bits from one place up to another, as a word. `Memory` comes where there is none for the word.
     pub fn slice(&self, alloc: Global, from: usize, to: usize) -> Result<Bits, Memory>
         requires order { from ≤ to }
         requires within { to ≤ length self.now }
@@ -214,7 +216,8 @@ impl Bits {
         number_of(self.bytes.as_slice())
     }
 
-    /// The word of this width that spells this number. None exactly where the number has a one at or above the width.
+    /// The word of this width that spells this number. None exactly where the number has a one at or above the width. `Memory`
+    /// comes where there is none for the word.
     pub fn from_number(alloc: Global, width: usize, number: u128) -> Result<Option<Bits>, Memory>
         ensures { IfOk result (λ made. made ≡ word_of_number width number) }
     {

@@ -26,6 +26,7 @@ impl<T> Boxed<T> {
         &self.inner
     }
 
+    /// The value that the box holds. Its memory is given back.
     pub fn into_inner(self) -> T
         ensures { result ≡ self }
     {
@@ -35,7 +36,7 @@ impl<T> Boxed<T> {
 }
 
 impl<T: Drop> Boxed<T> {
-    /// A box with this value in it.
+    /// A box with this value in it. `Memory` comes where there is none for the box.
     pub fn new(alloc: Global, value: T) -> Result<Boxed<T>, Memory>
         ensures { IfOk result (λ boxed. boxed ≡ value) }
     {

@@ -32,7 +32,7 @@ fn number_of_many(digits: &[u8]) -> Option<u128>
     Some((u128::from(high) << 64) + u128::from(low))
 }
 
-/// The number that hexadecimal digits spell, the highest first. Most strobes have one digit.
+/// The number that hexadecimal digits spell, the highest first. Most strobes have one digit. None exactly where a byte is no digit.
 #[inline(always)]
 pub fn hex_number(digits: &[u8]) -> Option<u128>
     requires { length digits.now ≤ 32 }

@@ -17,7 +17,7 @@ pub fn hexadecimal_is_read_as_spelled()
 /// The first digit that is a letter.
 pub(crate) const LETTER_A: u8 = b'a';
 
-/// What stands for the value of a byte that is no digit.
+/// The table's entry for a byte that is no hexadecimal digit.
 pub(crate) const NO_DIGIT: u8 = 255;
 
 /// For each byte, the value of the digit that it is, or `NO_DIGIT`.

@@ -39,7 +39,8 @@ impl fmt::Display for BitsFault {
 
 impl Error for BitsFault {}
 
-/// What keeps digits from being a word of this width.
+/// Why digits are no word of this width: their first byte that is no digit, or the highest 1 at or above the width. None where they
+/// are one.
 pub(crate) fn hex_fault_of(width: usize, digits: &[u8]) -> Option<BitsFault>
     ensures value { MatchOption result (hex_word width digits.now ≡ Ok (resized width (hex_bits digits.now))) (λ fault. (hex_word width digits.now ≡ Err fault) × (hex_fault fault ≡ Some fault)) }
     ensures digits { result ≡ None → bits_of_digits digits.now ≡ Some (hex_bits digits.now) }

@@ -5,6 +5,7 @@ ghost use Rattle.std.specs.Option.{option_copied};
 ghost use Rattle.tydi_base.specs.Level as spec;
 ghost use Rattle.tydi_base.specs.Level.{
   IsFirst,
+  IsLevel,
   LevelNumbers,
   number_of,
   numbers_of,
@@ -22,7 +23,7 @@ use crate::writing::Written;
 use std::alloc::Global;
 use std::marker::Model;
 
-/// What stands between two numbers of a level.
+/// The byte between two numbers of a level.
 const POINT: u8 = b'.';
 
 /// A complexity level of a stream: four numbers of 0 to 255, the first 1 to 8 (Tydi specification, complexity; that there are
@@ -74,10 +75,10 @@ impl Level {
         self.first
     }
 
-    /// Its four numbers.
+    /// Its four numbers, as they stand in a text: the first is 1 to 8, the others are 0 to 255.
     pub fn numbers(self) -> [u8; 4]
         ensures value { result ≡ numbers_of self }
-        ensures first { IsFirst (number_of self) }
+        ensures level { IsLevel self }
     {
         [self.first, self.second, self.third, self.fourth]
     }

@@ -37,7 +37,7 @@ impl<T> List<T> {
         }
     }
 
-    /// The empty list, with room for so many elements.
+    /// The empty list, with room for so many elements. `Memory` comes where there is none for them.
     pub fn with_capacity(alloc: Global, count: usize) -> Result<List<T>, Memory>
         ensures { IfOk result (λ list. list ≡ []) }
     {
@@ -60,24 +60,28 @@ impl<T> List<T> {
         self.elements
     }
 
+    /// Its elements, as a slice.
     pub fn as_slice(&self) -> &[T]
         ensures { result.now ≡ self.now }
     {
         self.elements.as_slice()
     }
 
+    /// The number of its elements.
     pub fn len(&self) -> usize
         ensures { result ≡ length self.now }
     {
         self.elements.len()
     }
 
+    /// Whether it has no element.
     pub fn is_empty(&self) -> bool
         ensures { IsTrue result ↔ (self.now ≡ []) }
     {
         self.elements.is_empty()
     }
 
+    /// The element at this place, counted from 0. None exactly where there is none.
     pub fn get(&self, index: usize) -> Option<&T>
         ensures value { option_copied result ≡ slice_get self.now index }
         ensures within { OnSome result (index < length self.now) }
@@ -94,6 +98,7 @@ impl<T> List<T> {
         self.elements.get_mut(index)
     }
 
+    /// Its elements in order, one after another.
     pub fn iter(&self) -> slice::Iter<'_, T>
         ensures { iter_rest result ≡ self.now }
     {
@@ -102,7 +107,7 @@ impl<T> List<T> {
 }
 
 impl<T: Drop> List<T> {
-    /// Makes room for so many elements more. The list stays as it is.
+    /// Makes room for so many more elements. The list stays as it is. `Memory` comes where there is none for them.
     pub fn reserve(&mut self, count: usize) -> Result<(), Memory>
         ensures { self.new ≡ self.old }
     {
@@ -135,7 +140,7 @@ impl<T: Drop> List<T> {
 }
 
 impl<T: Copy> List<T> {
-    /// A copy of these elements.
+    /// A copy of these elements. `Memory` comes where there is none for the copy.
     pub fn from_slice(alloc: Global, elements: &[T]) -> Result<List<T>, Memory>
         ensures { IfOk result (λ list. list ≡ elements.now) }
     {

@@ -4,7 +4,7 @@ use std::alloc::{AllocError, AllocFailed};
 use std::error::Error;
 use std::fmt;
 
-/// Memory was wanted and there was none. It comes from nothing else, and says nothing else.
+/// Memory was needed and there was none. It comes from nothing else, and says nothing else.
 #[derive(Clone, Copy, Debug, PartialEq, Eq)]
 pub struct Memory;
 

@@ -12,7 +12,7 @@ use crate::try_clone::TryClone;
 use std::alloc::Global;
 use std::marker::Model;
 
-/// What may join the words of a name.
+/// The byte that may join the words of a name.
 const UNDERSCORE: u8 = b'_';
 
 /// A name (Tydi specification, names): ASCII letters, digits and `_`, with a letter first, no two `_` together, no `_`

@@ -32,10 +32,10 @@ use std::alloc::Global;
 use std::marker::Model;
 use std::slice;
 
-/// What stands between the names of a dotted path.
+/// The byte between two names of a dotted path.
 const POINT: u8 = b'.';
 
-/// What stands twice between the names of a path of the language.
+/// The byte that stands twice between two names of a path in TIL.
 const COLON: u8 = b':';
 
 /// A path (Tydi specification, paths): a list of names, which may be empty. Contracts see the list of their bytes.
@@ -60,7 +60,8 @@ impl Model for Path {
 
 impl Path {
     /// The path that a text spells: the names between `::` where `colons` is true, else the names between `.`, where `-`
-    /// is the empty path. `Ok(None)` exactly where it spells none. With `::` no text spells the empty path.
+    /// is the empty path. `Ok(None)` exactly where it spells none. With `::` no text spells the empty path. `Memory` comes where
+    /// there is none for the path.
     pub fn read(alloc: Global, text: &[u8], colons: bool) -> Result<Option<Path>, Memory>
         ensures { IfOk result (λ found. found ≡ spec.path_at colons text.now) }
     {
@@ -76,7 +77,7 @@ impl Path {
     }
 
     /// The path that a text spells with `.` between the names, or with `-` for the empty path. `Ok(None)` exactly where
-    /// it spells none.
+    /// it spells none. `Memory` comes where there is none for the path.
     pub fn read_dotted(alloc: Global, text: &[u8]) -> Result<Option<Path>, Memory>
         ensures { IfOk result (λ found. found ≡ spec.path_of text.now) }
     {

@@ -8,10 +8,10 @@ ghost use Rattle.tydi_base.specs.Pieces as spec;
 use memchr::memchr;
 use std::simd::prelude::*;
 
-/// What stands between two words of a line.
+/// The byte between two words of a line.
 pub const SPACE: u8 = b' ';
 
-/// What ends a line.
+/// The byte that ends a line.
 pub const LINE_FEED: u8 = b'\n';
 
 /// The text up to its first separator, and what follows that. None exactly where it has none. It reads no byte past the

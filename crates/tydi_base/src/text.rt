@@ -19,7 +19,7 @@ impl Model for Text {
 }
 
 impl Text {
-    /// A copy of this text.
+    /// A copy of this text. `Memory` comes where there is none for the copy.
     pub fn new(alloc: Global, text: &str) -> Result<Text, Memory>
         ensures { IfOk result (λ made. made ≡ text.now) }
     {
@@ -35,12 +35,14 @@ impl Text {
         Text { string }
     }
 
+    /// The text, as UTF-8.
     pub fn as_str(&self) -> &str
         ensures { result.now ≡ self.now }
     {
         self.string.as_str()
     }
 
+    /// The bytes of the text in UTF-8.
     pub fn as_bytes(&self) -> &[u8]
         ensures { result.now ≡ self.now }
     {

@@ -8,7 +8,7 @@ use crate::memory::Memory;
 use crate::text::Text;
 use std::alloc::Global;
 
-/// What can be copied where there is memory for it.
+/// A value that can be copied where there is memory for the copy.
 pub trait TryClone: Sized {
     /// A copy of it, or `Memory` where there was none for it.
     fn try_clone(&self, alloc: Global) -> Result<Self, Memory>

@@ -14,7 +14,7 @@ pub const EQUALS: u8 = b'=';
 /// The words of a line that are left, with one space between each two.
 #[derive(Clone, Copy)]
 pub struct WordsLeft<'a> {
-    /// What is left of the line, with the space before its first word. Empty where no word is left.
+    /// The rest of the line, with the space before its first word. Empty where no word is left.
     text: &'a [u8],
 }
 
@@ -77,7 +77,7 @@ impl<'a> WordsLeft<'a> {
     }
 
     /// The value of the first word, where that is this key, `=` and one byte or two; and the words after it. It is not searched
-    /// for.
+    /// for. None where it is no such word.
     #[inline(always)]
     pub fn short_value(self, key: u8) -> Option<(&'a [u8], WordsLeft<'a>)>
         ensures { IfSome result (λ x. words_left self.entry ≡ (key ∷ EQUALS ∷ x.0.now) ∷ words_left x.1) }
@@ -103,7 +103,7 @@ impl<'a> WordsLeft<'a> {
     }
 }
 
-/// What follows a first byte, this key and `=` in a text.
+/// The rest of a text after a first byte, this key and `=`. None where the text does not begin so.
 #[inline(always)]
 fn after_key(key: u8, text: &[u8]) -> Option<&[u8]>
     ensures { MatchOption result ((first : ℕ) (after : List ℕ) → text.now ≡ first ∷ key ∷ EQUALS ∷ after → ⊥) (λ after. (first : ℕ) × (text.now ≡ first ∷ key ∷ EQUALS ∷ after.now)) }

@@ -15,9 +15,9 @@ use crate::name::Name;
 use crate::path::Path;
 use crate::text::Text;
 
-/// What can be written as a text.
+/// A value that has a text.
 pub trait Written {
-    // The text that it is written as.
+    /// The text that it is written as.
     ghost text: { Self → List ℕ };
 
     /// Adds its text at the end. After `Memory` a front of its text may stand there.

@@ -1,7 +1,7 @@
 -- The store over the system's files, as far as a contract can see it.
 use Rattle.std.specs.Prelude.{ℕ, List, Bool, false, Option, Result, Ok, Err}
 
--- whether a file is started, what it has left where its reader tells, and how many calls failed
+-- whether a file is started, the bytes that it has left where its reader reports them, and how many calls failed
 pub record FileStoreState : Type 0 where
   pub is_started : Bool
   pub left : Option (List ℕ)

@@ -1,11 +1,11 @@
--- What a store that tells its files answers.
+-- The answers of a store that reports its files.
 use Rattle.std.specs.Prelude.{◌≡◌, ℕ, ◌+◌, ◌<◌, ◌≤◌, ◌↔◌, List, [], Bool, Option, Some, None, Result, Ok, Err, length, take, drop, unwrap_or, option_map, IsTrue, IsSome}
 
 -- the bytes of a file by its name, None where no file has that name
 abbrev pub Files : Type 0
 Files = List ℕ → Option (List ℕ)
 
--- what is started once the file of this name was: none where there is none
+-- the started file after a start by this name: none where there is no such file
 abbrev pub started_at : Files → List ℕ → Option (List ℕ × ℕ)
 started_at told name = option_map (λ _. (name, 0)) (told name)
 

@@ -42,7 +42,7 @@ impl Calls {
         Ok(())
     }
 
-    /// Counts a fault.
+    /// Counts a failed call.
     pub(crate) fn fault(&mut self) -> Failed
         ensures state { self.new ≡ record self.old { faults = one_more self.old.faults } }
         ensures later { self.old.faults ≤ self.new.faults }

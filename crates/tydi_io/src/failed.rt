@@ -3,7 +3,7 @@ ghost use Rattle.std.specs.Prelude.{Some, codes};
 use std::error::Error;
 use std::fmt;
 
-/// A call of a store or a sink failed, and its count of faults rose. What the call left as it was, its contract says.
+/// A call of a store or a sink failed, and its count of faults rose. The contract of the call says which state it leaves unchanged.
 #[derive(Clone, Copy, Debug, PartialEq, Eq)]
 pub struct Failed;
 

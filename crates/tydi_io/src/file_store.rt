@@ -11,8 +11,8 @@ use std::io::{Error, ErrorKind, Read};
 use std::marker::Model;
 use std::rt::Files;
 
-/// The system's files, by their paths. As a `Store` it does not tell what they hold. An error of the system is `Failed`, but
-/// that no such file is there is an answer. A folder may be started, and its pull fails.
+/// The system's files, by their paths. As a `Store` it does not report what they hold. An error of the system is `Failed`,
+/// but a missing file is an answer. A folder may be started, and its pull fails.
 #[derive(Drop)]
 pub struct FileStore<'a, R: Files> {
     files: &'a R,
@@ -45,7 +45,7 @@ impl<'a, R: Files> FileStore<'a, R> {
         }
     }
 
-    /// Counts a fault.
+    /// Counts a failed call.
     fn fault(&mut self) -> Failed
         ensures state { self.new ≡ record self.old { faults = one_more self.old.faults } }
         ensures later { self.old.faults ≤ self.new.faults }
@@ -87,7 +87,7 @@ impl<'a, R: Files> Store for FileStore<'a, R> {
         ensures within { IfOk result (λ n. n ≤ length into.new) }
         ensures started { self.new.is_started ≡ self.old.is_started }
 
-        // What is read is handed on as it comes.
+        // The bytes that the reader gives are passed on unchanged.
         ensures bytes { ReadConsumes self.old.left self.new.left result into.new }
         ensures faults { self.new.faults ≡ faults_after self.old.faults result }
         ensures cause { HasCause self.old.faults self.new.faults result }
@@ -102,7 +102,7 @@ impl<'a, R: Files> Store for FileStore<'a, R> {
     }
 }
 
-/// Whether the system says that there is no such file. Any other error, as that it may not be read, is a fault.
+/// Whether the system says that there is no such file. Any other error, for instance a file that may not be read, is a failure.
 fn is_missing(error: &Error) -> bool
     ensures { IsTrue result ↔ (error_kind error.now ≡ ErrorKind.NotFound) }
 {

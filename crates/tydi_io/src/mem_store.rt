@@ -35,8 +35,8 @@ impl Model for MemStore {
 }
 
 impl MemStore {
-    /// A store of these files, none of them started. Of two files of one name the first counts. A pull gives at most `most`
-    /// bytes. The calls of `start` and `pull` are numbered together from 0, and the number stays at the greatest `u64` once
+    /// A store of these files, none of them started. Where two files have one name, the first counts. A pull gives at most
+    /// `most` bytes. The calls of `start` and `pull` are numbered together from 0, and the number stays at the greatest `u64` once
     /// it is reached; a call fails exactly where its number is in `failing`. Nothing is copied, so memory is never missing.
     pub fn new(
         _alloc: Global,

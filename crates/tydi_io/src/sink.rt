@@ -6,7 +6,7 @@ use crate::failed::Failed;
 
 /// Takes bytes, in the order that they come.
 pub trait Sink {
-    /// The bytes taken so far, or `None` where the sink does not tell.
+    /// The bytes taken so far, or `None` where the sink does not report them.
     ghost taken: { Self → Option (List ℕ) };
 
     /// How many calls failed so far. It never falls, and at the greatest `u64` it may stand.

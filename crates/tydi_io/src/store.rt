@@ -9,11 +9,11 @@ pub trait Store {
     /// The names that may be started.
     ghost allowed: { Self → List ℕ → Bool };
 
-    /// The bytes of each file by its name, or `None` where the store does not tell what it holds.
+    /// The bytes of each file by its name, or `None` where the store does not report what it holds.
     ghost files: { Self → Option Files };
 
     /// The name of the started file, with the number of its bytes that were given since its start. `None` where no file is
-    /// started. It has a meaning where `files` is told.
+    /// started. It has a meaning where the store reports its files.
     ghost started: { Self → Option (List ℕ × ℕ) };
 
     /// How many calls failed so far. It never falls, and at the greatest `u64` it may stand.
@@ -31,7 +31,7 @@ pub trait Store {
         ensures started { IfSome (files self.old) (λ told. started self.new ≡ started_at told name.now) }
         ensures found { IfSome (files self.old) (λ told. Finds told name.now result) }
 
-        // That a file is missing is an answer, and no fault.
+        // A missing file is an answer, not an error.
         ensures missing { IfOk result (λ found. found ≡ false → faults self.new ≡ faults self.old) }
         ensures cause { HasCause (faults self.old) (faults self.new) result };
 

@@ -7,7 +7,7 @@ use crate::sink::Sink;
 use std::io::Write;
 use std::marker::Model;
 
-/// A writer that takes bytes. As a `Sink` it does not tell them.
+/// A writer that takes bytes. As a `Sink` it does not report them.
 #[derive(Drop)]
 pub struct StreamSink<W: Write> {
     writer: W,
@@ -41,7 +41,7 @@ impl<W: Write> Sink for StreamSink<W> {
         ensures within { IfOk result (λ n. n ≤ length piece.now) }
         ensures some { IfOk result (λ n. 0 < length piece.now → 0 < n) }
 
-        // What is written is the piece as it came.
+        // The sink writes the bytes of the piece unchanged.
         ensures written { WriteAppends self.old.written self.new.written result piece.now }
         ensures faults { self.new.faults ≡ faults_after self.old.faults result }
         ensures cause { HasCause self.old.faults self.new.faults result }

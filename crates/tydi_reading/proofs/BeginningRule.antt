@@ -1,4 +1,4 @@
--- What begins with such a thing is a rule, and so are items one after another, each but the first beginning so.
+-- An item with a given first thing is a rule, and so is a list of items of which each but the first begins so.
 use Rattle.std.proofs.Common.{◌≡◌, ◌⊎◌, inl, inr, ◌<◌, Bool, true, false, List, [], ◌∷◌, ◌++◌, length, refl, sym, ap, ◌∙◌, subst, append_assoc, arith}
 use Rattle.tydi_reading.specs.declared.fault.Fault.{Fault}
 use Rattle.tydi_reading.specs.declared.fault.Fault.TheVariants as faults
@@ -10,7 +10,7 @@ use Rattle.tydi_reading.proofs.ChoiceRules.{chosen, choose-rule, local-choose}
 use Rattle.tydi_reading.proofs.RepeatedRule.{Adds, Repeats, each_unit, repeated_from-rule}
 use Rattle.tydi_reading.proofs.StepRules.{Only, pure-rule, then-rule}
 
--- what begins so, whatever follows it
+-- a list that begins so does, whatever follows it
 pub tells-front : {T : Type 0} (test : T → Bool) (front rest : List T) → tells test false front ≡ true → tells test false (front ++ rest) ≡ true
 tells-front test [] rest is = absurd cc
 tells-front test (t ∷ front) rest is = is

@@ -1,4 +1,4 @@
--- What is read and is to have a meaning.
+-- Things that are read and need a meaning.
 use Rattle.std.proofs.Common.{◌≡◌, ℕ, ◌≤◌, ◌⊎◌, inl, inr, ⊎_elim, List, [], ◌∷◌, ◌++◌, All, length, Option, Some, None, refl, sym, ap, ◌∙◌, subst, arith, append_assoc}
 use Rattle.std.proofs.lemmas.List.Elements.{All-append}
 use Rattle.tydi_reading.specs.declared.fault.Fault.{Fault}

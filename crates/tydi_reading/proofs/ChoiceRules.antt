@@ -27,7 +27,7 @@ pub record Chooses {T A : Type 0} (test : T → Bool) (last : Bool) (One : A →
   pub one_unfit_begins : (front rest : List T) → OneUnfit front → tells test last (front ++ rest) ≡ true
   pub other_unfit_begins : (front rest : List T) → OtherUnfit front → tells test last (front ++ rest) ≡ false
 
--- a test tells the same of the next thing, whatever follows it
+-- a test gives the same answer about the next thing, whatever follows it
 tells-same : {T : Type 0} (test : T → Bool) (last : Bool) (front after more : List T) (next : T) (ts : List T) → ts ≡ front ++ next ∷ after
     → tells test last (front ++ next ∷ more) ≡ tells test last ts
 tells-same test last [] after more next ts is = ap (tells test last) (sym is)
@@ -194,7 +194,7 @@ both-rule {E} {T} {A} {B} Good p q One OneNext OneWithin OneUnfit Other OtherNex
     Second : A → A × B → Form T
     Second x z ts = (x ≡ z.0) × Other z.1 ts
 
--- ---- what may not stand here
+-- ---- things that may not stand here
 
 pub unfit-rule : {E T A : Type 0} (Good : T → Type 0) (why : E) (begins : T → Bool) (Spelled : A → Form T) (Next : A → Form T) (Within : A → Type 0)
     → ((x : A) → Within x → ⊥) → GoesOn Good Spelled [] → ((t : T) → begins t ≡ true → GoesOn Good Spelled (t ∷ []))

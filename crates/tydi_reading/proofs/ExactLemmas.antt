@@ -25,7 +25,7 @@ front-take ts front rest k split count =
 
 module _ {E T A : Type 0} (Good : T → Type 0) (read : Reader E T A) (Spelled : A → Form T) (Next : A → Form T) (Within : A → Type 0) (Unfit : Form T)
     (rule : IsRule E Good read Spelled Next Within Unfit) (closed : (x : A) → Next x []) where
-  -- what stopped did not stop later than something unfit begins
+  -- a reader that stops does not stop later than something unfit begins
   fit : (ts rest : List T) (e : Fault E) → All Good ts → read ts ≡ stopped e rest → (k : ℕ) → k + length rest ≡ length ts → AreFit Unfit k ts
   fit ts rest e good is k count j less unfit =
       let s = rule.stops (take j ts) (drop j ts) (All-front Good ts (take j ts) (drop j ts) (sym (take-append-drop j ts)) good) unfit in
@@ -114,7 +114,7 @@ split-take (suc i) (suc j) [] le = ([], refl)
 split-take (suc i) (suc j) (t ∷ ts) le = let m = split-take i j ts (omega arith) in (m.0, ap (λ l. t ∷ l) m.1)
 
 module _ {T A : Type 0} (Good : T → Type 0) (Spelled : A → Form T) (Unfit : Form T) where
-  -- what goes on does not reach past a thing that is refused
+  -- things that go on do not reach past a refused thing
   refused-last : (k j : ℕ) (ts : List T) → All Good ts → IsRefusedAt Good Spelled Unfit k ts → suc k ≤ j → GoesOn Good Spelled (take j ts) → ⊥
   refused-last k j ts good r le g =
       let m = split-take (suc k) j ts le in

@@ -15,7 +15,7 @@ shrinks-rule Good p Spelled Next Within Unfit filled rule = record {
       omega arith;
 }
 
--- what begins with a form that is not empty, or ends with one, is not empty
+-- a list that begins or ends with a form that is not empty is not empty
 pub filled-first : {T : Type 0} (First Second : Form T) (ts : List T) → ((front : List T) → First front → 0 < length front) → (First ⋯ Second) ts → 0 < length ts
 filled-first First Second ts filled b = let some = filled b.front b.begins in let whole = ap length b.all ∙ length-append b.front b.back in omega arith
 

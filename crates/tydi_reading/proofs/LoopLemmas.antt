@@ -11,7 +11,7 @@ use Rattle.tydi_reading.specs.Reading.{Outcome, took, stopped, Reader, Reads, Sh
 pub record Advances {E T S : Type 0} (turn : S → Reader E T (Turn S)) : Type 0 where
   pub less : (s : S) (ts rest : List T) (next : S) → turn s ts ≡ took (again next) rest → length rest < length ts
 
--- what follows a turn matters only where the loop goes on
+-- the reader after a turn matters only where the loop goes on
 turned-same : {E T S : Type 0} (made : Outcome E T (Turn S)) (f g : S → Reader E T S)
     → ((next : S) (rest : List T) → made ≡ took (again next) rest → f next rest ≡ g next rest) → and_then made (turned f) ≡ and_then made (turned g)
 turned-same (stopped e rest) f g same = refl
@@ -170,7 +170,7 @@ no_done : {E T A B : Type 0} (made : Outcome E T A) (f : A → B) (end : B) (res
 no_done {E} {T} {A} {B} (stopped e middle) f end rest is = cc
 no_done {E} {T} {A} {B} (took x middle) f end rest is = let turns : again (f x) ≡ done end = (took-both (again (f x)) (done end) middle rest is).0 in cc
 
--- what is read up to the end leaves nothing
+-- a reading up to the end leaves nothing
 pub repeated-all : {E T A : Type 0} (item : Reader E T A) (items : List A) (ts rest : List T) → repeated (λ _. false) true item ts ≡ took items rest → rest ≡ []
 unfolding repeated repeated_turn
 repeated-all {E} {T} {A} item items ts rest is = loop-ends (λ rest. rest ≡ []) (repeated_turn (λ _. false) true item) ends [] items ts rest is

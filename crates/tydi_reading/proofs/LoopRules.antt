@@ -41,7 +41,7 @@ module _ {E T S : Type 0} (Good : T → Type 0) (turn : S → Reader E T (Turn S
   unfolds : (s : S) (ts : List T) → loop turn s ts ≡ and_then (turn s ts) (turned (loop turn))
   unfolds s ts = loop_unfolds turn turns-advance s ts
 
-  -- what follows a turn, up to the end of the loop
+  -- the form after a turn, up to the end of the loop
   abbrev More : Turn S → S → Form T
   More (again next) end = Loop Spelled next end
   More (done x) end = Only x end

@@ -33,7 +33,7 @@ module _ {E T K G S : Type 0} (Good : T → Type 0) (f : Fields K G S) (a : Argu
   abbrev IsGivenOr : S → G → K → Type 0
   IsGivenOr s given k = (f.field k given ≡ Some (f.value s k)) ⊎ ((f.field k given ≡ None) × f.IsDefault s k)
 
-  -- what is given is the whole's
+  -- the given arguments are those of the whole
   abbrev Agrees : S → G → Type 0
   Agrees s given = (k : K) (x : f.Value k) → f.field k given ≡ Some x → f.value s k ≡ x
 
@@ -44,7 +44,7 @@ module _ {E T K G S : Type 0} (Good : T → Type 0) (f : Fields K G S) (a : Argu
   agrees-made : (s : S) (given : G) → f.made given ≡ Some s → Agrees s given
   agrees-made s given is k x e = agrees-or s given k x e (f.made-is given s is k)
 
-  -- ---- what is read is as the form has it
+  -- ---- a reading is as the form has it
 
   module _ (s : S) (final : G) (agrees : Agrees s final) where
     -- arguments in this form, that are given in the end and were not before
@@ -148,7 +148,7 @@ module _ {E T K G S : Type 0} (Good : T → Type 0) (f : Fields K G S) (a : Argu
       default k none (inl e) = absurd (none-some (f.value s k) (sym none ∙ e))
       default k none (inr h) = h.1
 
-  -- ---- what the form has is read
+  -- ---- a spelling of the form is read
 
   step-of : (s : S) (k : K) (given : G) (ts : List T) → f.field k given ≡ None → Argument s k ts → Step given (f.put k (f.value s k) given) ts
   step-of s k given ts none i = record { name = k; is = f.value s k; absent = none; added = refl; spelled = a.of_argument s k ts i }
@@ -263,7 +263,7 @@ module _ {E T K G S : Type 0} (Good : T → Type 0) (f : Fields K G S) (a : Argu
     | inr more ↦ filled names (fill_one j (f.field j given) given) k more none
   ]
 
-  -- what all that is missing makes a whole of
+  -- the whole that all missing arguments make
   whole : (given : G) → (s : S) × (f.made (fill f.all given) ≡ Some s)
   whole given = of_made (f.made (fill f.all given)) refl
     where
@@ -351,7 +351,7 @@ module _ {E T K G S : Type 0} (Good : T → Type 0) (f : Fields K G S) (a : Argu
       let w = whole final in
       record { value = w.0; more = m.more; good = m.good; spelled = made-of (fill f.all final) w.0 (ts ++ m.more) w.1 m.walk }
 
-  -- ---- what leads to something unfit
+  -- ---- things that lead to something unfit
 
   abbrev pub To : K → Form T
   To k = a.Name k ⋯ a.Unfit k

@@ -17,7 +17,7 @@ use Rattle.tydi_reading.proofs.Rule.{Made, as_rule, made-rule}
 use Rattle.tydi_reading.proofs.StepRules.{IsLeaf, leaf-rule, then-rule, read-rule}
 use Rattle.tydi_reading.proofs.StepsRule.{IsStuck, Separates, TurnOf, steps-rule}
 
--- what is given of the arguments of such names, and the whole that is made of it
+-- the given arguments of such names, and the whole that is made of them
 pub record Fields (K G S : Type 0) : Type 1 where
   pub Value : K → Type 0
   pub field : (k : K) → G → Option (Value k)
@@ -59,7 +59,7 @@ pub record Arguments (E : Type 0) {T K G S : Type 0} (Good : T → Type 0) (f : 
   pub added-is : (k : K) (given : G) (ts : List T) → ((λ x. f.put k x given) <$> read k) ts ≡ added k given ts
   pub rule : (k : K) → IsRule E Good (read k) (Spelled k) (λ _. Next) (Within k) (Unfit k)
 
--- what stands between arguments, and after them
+-- the separators between arguments, and the things after them
 pub record Between {T K : Type 0} (Good : T → Type 0) (test : T → Bool) (last : Bool) (separates : T → Bool) (Separator : Form T) (name : T → Option K) (Next : Form T) : Type 0 where
   pub mark : IsMark Good separates Separator
   pub starts : (k : K) (t : T) → name t ≡ Some k → test t ≡ false
@@ -100,11 +100,11 @@ module _ {E T K G S : Type 0} (Good : T → Type 0) (f : Fields K G S) (a : Argu
     pub added : next ≡ f.put name is given
     pub spelled : Spelled name is ts
 
-  -- what is added is within its bounds
+  -- the added argument is within its bounds
   abbrev pub StepWithin : G → G → Type 0
   StepWithin given next = (k : K) → f.field k given ≡ None → In k (f.field k next)
 
-  -- what leads to something unfit in one argument more
+  -- the things that lead to something unfit in one more argument
   pub record StepUnfit (given : G) (ts : List T) : Type 0 where
     pub name : K
     pub absent : f.field name given ≡ None
@@ -222,7 +222,7 @@ module _ {E T K G S : Type 0} (Good : T → Type 0) (f : Fields K G S) (a : Argu
 
   -- ---- arguments, one after another
 
-  -- what is given is within its bounds
+  -- the given arguments are within their bounds
   abbrev pub AreIn : G → Type 0
   AreIn given = (k : K) → In k (f.field k given)
 
@@ -286,7 +286,7 @@ module _ {E T K G S : Type 0} (Good : T → Type 0) (f : Fields K G S) (a : Argu
         steps-rule Good test last separates Separator step Step (λ _. a.Next) StepWithin StepUnfit AreIn separates-arguments step-rule f.none
         (λ k. subst (In k) (sym (f.field-none k)) tt)
 
--- ---- what a name that stands next says of an argument
+-- ---- the facts that a next name gives about an argument
 
 module _ {E T K G : Type 0} (name : T → Option K) (is_given : K → G → Bool) (value : K → G → Reader E T G) (given : G) where
   abbrev told : Option K → List T → List T → Outcome E T G

@@ -88,12 +88,12 @@ pub record Repeats {T A : Type 0} (test : T → Bool) (last : Bool) (Item : A �
   pub starts : (x : A) (front rest : List T) → Item x front → tells test last (front ++ rest) ≡ false
   pub starts_unfit : (front rest : List T) → Unfit front → tells test last (front ++ rest) ≡ false
 
--- what is spelled, and what leads to something unfit, begins with such a thing
+-- the spelled things, and those that lead to something unfit, begin with such a thing
 pub record Begins {T A : Type 0} (lead : T → Bool) (Item : A → Form T) (Unfit : Form T) : Type 0 where
   pub item : (x : A) (front rest : List T) → Item x front → tells lead false (front ++ rest) ≡ true
   pub unfit : (front rest : List T) → Unfit front → tells lead false (front ++ rest) ≡ true
 
--- a test that no such thing passes tells no of it
+-- a test that no such thing passes answers no about it
 pub begins-apart : {T : Type 0} (lead test : T → Bool) (last : Bool) → ((t : T) → lead t ≡ true → test t ≡ false) → (ts : List T) → tells lead false ts ≡ true → tells test last ts ≡ false
 begins-apart lead test last apart [] is = absurd cc
 begins-apart lead test last apart (t ∷ ts) is = apart t is

@@ -34,7 +34,7 @@ pub record Mark {T : Type 0} (Good : T → Type 0) : Type 1 where
   pub Spelled : Form T
   pub is : IsMark Good test Spelled
 
--- what is shown to be a rule, as one thing
+-- the facts that make a rule, as one value
 abbrev pub as_rule : {E T A : Type 0} {Good : T → Type 0} {read : Reader E T A} {Spelled Next : A → Form T} {Within : A → Type 0} {Unfit : Form T}
     → IsRule E Good read Spelled Next Within Unfit → Rule E Good A
 as_rule {read = read} {Spelled = Spelled} {Next = Next} {Within = Within} {Unfit = Unfit} one =
@@ -141,7 +141,7 @@ pub mapped : {E T A B : Type 0} {Good : T → Type 0} (f : A → B) (r : Rule E 
     → Maps f r.Spelled r.Next r.Within r.Unfit Whole Next Within Unfit → IsRule E Good (f <$> r.read) Whole Next Within Unfit
 mapped {Good = Good} f r Whole Next Within Unfit maps = map-rule Good f r.read r.Spelled r.Next r.Within r.Unfit Whole Next Within Unfit maps r.is
 
--- what is read under another view, which loses nothing
+-- a rule for the same things under another view, which loses nothing
 pub viewed : {E T A B : Type 0} {Good : T → Type 0} (f : A → B) (g : B → A) (r : Rule E Good A) → ((x : A) → g (f x) ≡ x) → ((y : B) → y ≡ f (g y))
     → IsRule E Good (f <$> r.read) (λ y. r.Spelled (g y)) (λ y. r.Next (g y)) (λ y. r.Within (g y)) r.Unfit
 viewed f g r same back = mapped f r (λ y. r.Spelled (g y)) (λ y. r.Next (g y)) (λ y. r.Within (g y)) r.Unfit (record {
@@ -158,7 +158,7 @@ viewed f g r same back = mapped f r (λ y. r.Spelled (g y)) (λ y. r.Next (g y))
 abbrev pub Made : {T A B : Type 0} → (A → B) → (A → Form T) → B → Form T
 Made {A = A} f Spelled y ts = (x : A) × (y ≡ f x) × Spelled x ts
 
--- what is made of what is read
+-- a rule for a value that is made of the one that is read
 pub made-rule : {E T A B : Type 0} {Good : T → Type 0} (f : A → B) (r : Rule E Good A) (Next : B → Form T) (Within : B → Type 0)
     → ((x : A) (rest : List T) → Next (f x) rest → r.Next x rest) → ((x : A) → r.Within x → Within (f x)) → ((x : A) → Within (f x) → r.Within x)
     → IsRule E Good (f <$> r.read) (Made f r.Spelled) Next Within r.Unfit
@@ -174,7 +174,7 @@ made-rule f r Next Within follow to from = mapped f r (Made f r.Spelled) Next Wi
 
 -- ---- a choice
 
--- how the whole is what is made of the one or of the other: a test of the next thing tells which
+-- how the whole is what is made of the one or of the other: a test of the next thing decides which
 pub record IsEither {E T A B C : Type 0} {Good : T → Type 0} (test : T → Bool) (f : A → C) (a : Rule E Good A) (g : B → C) (b : Flat E Good B)
     (Whole Next : C → Form T) (Within : C → Type 0) : Type 0 where
   pub one : (x : A) (ts : List T) → a.Spelled x ts → Whole (f x) ts
@@ -189,7 +189,7 @@ pub record IsEither {E T A B C : Type 0} {Good : T → Type 0} (test : T → Boo
   pub one_within : (x : A) → a.Within x → Within (f x)
   pub other_within : (y : B) → Within (g y)
 
--- what is made of the one rule where a test of the next thing holds, and else of the other
+-- a rule by the one rule where a test of the next thing holds, and else by the other
 pub either-rule : {E T A B C : Type 0} {Good : T → Type 0} (test : T → Bool) (f : A → C) (a : Rule E Good A) (g : B → C) (b : Flat E Good B)
     (Whole Next : C → Form T) (Within : C → Type 0) → IsEither test f a g b Whole Next Within
     → IsRule E Good (choose test false (f <$> a.read) (g <$> b.read)) Whole Next Within a.Unfit
@@ -212,7 +212,7 @@ either-rule {E} {T} {A} {B} {C} {Good} test f a g b Whole Next Within is =
     (made-rule f a Next Within is.one_next is.one_within is.within_one)
     (made-rule g (of_flat b) Next Within is.other_next (λ y w. is.other_within y) (λ y w. tt))
 
--- what a flat rule reads, where a test of the next thing holds
+-- a rule for the value of a flat rule, where a test of the next thing holds
 pub optional-rule : {E T A : Type 0} {Good : T → Type 0} (test : T → Bool) (a : Flat E Good A)
     → ((x : A) (front rest : List T) → a.Spelled x front → tells test false (front ++ rest) ≡ true) → ((x : A) (rest : List T) → a.Next x rest)
     → IsRule E Good (optional test a.read) (Optional a.Spelled) (λ _ rest. tells test false rest ≡ false) (λ _. Unit {0}) Never
@@ -236,7 +236,7 @@ optional-rule {E} {T} {A} {Good} test a begins next =
     which None ts s = inr (tt, refl, (refl, s))
     which (Some x) ts s = inl (x, refl, s)
 
--- ---- what takes a thing at least
+-- ---- readers that take a thing at least
 
 pub shrinks : {E T A : Type 0} {Good : T → Type 0} {lead : T → Bool} {Unfit : Form T} (r : Rule E Good A) → Begins lead r.Spelled Unfit → Shrinks r.read
 shrinks {Good = Good} {lead = lead} r begins =

@@ -8,7 +8,7 @@ use Rattle.tydi_reading.specs.Forms.{Form, GoesOn}
 use Rattle.tydi_reading.specs.Reading.{Outcome, took, stopped, Reader, and_then, ◌>>=◌}
 use Rattle.tydi_reading.specs.Rules.{left, leaving, Local, Found, Reached, Finishes, Stops}
 
--- what holds of each of a list holds of each of its parts
+-- a property of all elements of a list holds for those of each of its parts
 pub All-front : {X : Type 0} (P : X → Type 0) (all front back : List X) → all ≡ front ++ back → All P all → All P front
 All-front P all [] back is each = All-nil P
 All-front P all (x ∷ front) back is each =
@@ -19,7 +19,7 @@ pub All-back : {X : Type 0} (P : X → Type 0) (all front back : List X) → all
 All-back P all [] back is each = subst (All P) is each
 All-back P all (x ∷ front) back is each = All-back P (front ++ back) front back refl (All-tail P x (front ++ back) (subst (All P) is each))
 
--- what was read stays where the next thing stays
+-- the value that was read stays where the next thing stays
 pub lookahead : {E T A : Type 0} (p : Reader E T A) (ts rest : List T) (x : A) (l : Local p ts (took x rest)) (front after more : List T) (next : T)
     → rest ≡ front ++ next ∷ after → p (l.front ++ (front ++ next ∷ more)) ≡ took x (front ++ next ∷ more)
 lookahead p ts rest x l [] after more next is = l.stays next after more is

@@ -10,7 +10,7 @@ use Rattle.tydi_reading.specs.Rules.{Local, Found, Reached, Finishes, Stops, IsR
 use Rattle.tydi_reading.proofs.FormLemmas.{goes_as}
 use Rattle.tydi_reading.proofs.StepLemmas.{All-front, All-back, local-then, sound-then, finishes-then, complete-then, stops-first, stops-second}
 
--- ---- what takes nothing
+-- ---- readers that take nothing
 
 took-pair : {E T A : Type 0} (x y : A) (ts rest : List T) → ◌≡◌ {A = Outcome E T A} (took x ts) (took y rest) → (x ≡ y) × (ts ≡ rest)
 took-pair x y ts rest is = (cc, cc)
@@ -45,7 +45,7 @@ read-rule {E = E} Good p q Spelled Next Within Unfit same rule = subst (λ r. Is
 
 -- ---- one thing
 
--- what holds of the one thing holds of each
+-- a property of the one thing holds for each of a list of it alone
 pub All-one : {X : Type 0} (P : X → Type 0) (x : X) → P x → All P (x ∷ [])
 All-one P x p = All-cons P x [] p (All-nil P)
 
@@ -179,7 +179,7 @@ then-rule {E} {T} {A} {B} Good p f Spelled Follow Within First Second Follows In
         (one.complete b.front (b.back ++ rest) x (All-front Good front b.front b.back b.all good) b.begins (joins.follow_unfit x b.back rest b.ends))
         ((two x).stops b.back rest (All-back Good front b.front b.back b.all good) b.ends)))
 
--- what asks for the rule of what follows, and what follows
+-- a thing that asks for the rule after it, and the things after it
 module _ {T K A : Type 0} (First : K → Form T) (Second : K → A → Form T) where
   abbrev pub Chained : A → Form T
   Chained x ts = (k : K) × ((First k ⋯ Second k x) ts)

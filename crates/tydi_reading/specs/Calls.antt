@@ -1,4 +1,4 @@
--- What the calls of a closure do, over a source of which `left` is seen. This project's own.
+-- The calls of a closure over a source that contracts see through `left`. This project's own.
 use Rattle.std.specs.Fn.{Shared}
 use Rattle.std.specs.Prelude.{◌≡◌, ◌<◌, ◌≤◌, Bool, List, length, Option, Result, OnOk}
 use denote.Ref.{Bor, MutBor}
@@ -18,7 +18,7 @@ abbrev pub DecidesPair : {F K G : Type 0} → Shared F (Bor K × (Bor G × Unit 
 DecidesPair {F} {K} {G} calls f test = (k : Bor K) (g : Bor G) (b : Bool) → calls.post f (k, (g, tt)) b → b ≡ test k.now g.now
 
 module _ {S T : Type 0} (left : S → List T) where
-  -- each call gives what a test tells of the next thing
+  -- each call gives the answer of a test about the next thing
   abbrev pub DoesTell : {F : Type 0} → Shared F (Bor S × Unit {0}) Bool → F → (T → Bool) → Bool → Type 0
   DoesTell {F} calls f test last = (p : Bor S) (b : Bool) → calls.post f (p, tt) b → b ≡ tells test last (left p.now)
 

@@ -1,4 +1,4 @@
--- What a fault of a text says, by the texts of a form alone. Things are counted from 0. This project's own.
+-- The meaning of each error of a reader, stated by the texts of a form alone. Things are counted from 0. This project's own.
 use Rattle.std.specs.Prelude.{◌<◌, ◌-◌, ℕ, zero, suc, List, ◌++◌, take, length, All}
 use Rattle.tydi_reading.specs.Forms.{Form, GoesOn}
 use Rattle.tydi_reading.specs.declared.fault.Fault.{Fault}
@@ -34,7 +34,7 @@ pub data Stop : Type 0 where
   cut_off : Stop
   unfit : ℕ → Stop
 
--- what it says that things stop there
+-- the things stop so
 abbrev pub IsStop : {T A : Type 0} → (T → Type 0) → (A → Form T) → Form T → List T → Stop → Type 0
 IsStop Good Spelled Unfit ts (refused k) = IsRefusedAt Good Spelled Unfit k ts
 IsStop Good Spelled Unfit ts cut_off = IsCutOff Good Spelled Unfit ts

@@ -38,6 +38,6 @@ argument name is_given value given = leaf (awaited name is_given given) >>= (λ 
 unfoldable pub named : {E T K G : Type 0} → (T → Bool) → Bool → (T → Bool) → (T → Option K) → (K → G → Bool) → (K → G → Reader E T G) → G → Reader E T G
 named test last separates name is_given value = steps test last separates (argument name is_given value)
 
--- what is read of a value is no more than what was there
+-- reading a value leaves no more things than there were
 pub record NeverGrows {E T K G : Type 0} (value : K → G → Reader E T G) : Type 0 where
   pub least : (k : K) (given : G) (ts rest : List T) (next : G) → value k given ts ≡ took next rest → length rest ≤ length ts

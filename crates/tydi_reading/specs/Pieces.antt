@@ -1,4 +1,4 @@
--- What is left of the pieces of a text. This project's own.
+-- The pieces of a text that are left to read. This project's own.
 use Rattle.std.specs.Prelude.{◌≡◌, ℕ, List, [], ◌∷◌, Option, Some, None}
 use denote.Ref.{Bor}
 use Rattle.tydi_base.specs.Pieces.{pieces_of}

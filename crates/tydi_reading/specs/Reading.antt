@@ -3,8 +3,8 @@ use Rattle.std.specs.Prelude.{◌≡◌, ◌≢◌, ◌<◌, ℕ, zero, suc, Boo
 use Rattle.tydi_reading.specs.declared.fault.Fault.{Fault}
 use Rattle.tydi_reading.specs.declared.fault.Fault.TheVariants as faults
 
--- what is read, or why nothing is; and the things that are left, which begin with the one at which reading stopped. E is what a text's own
--- refusals are, T what the things are
+-- the value that is read, or why there is none; and the things that are left, which begin with the one at which reading stopped. E
+-- is the type of a text's own refusals, T that of the things
 pub data Outcome (E T A : Type 0) : Type 0 where
   took : A → List T → Outcome E T A
   stopped : Fault E → List T → Outcome E T A
@@ -18,12 +18,12 @@ abbrev pub Reads : {E T A : Type 0} → Outcome E T A → Result A (Fault E) →
 Reads outcome (Ok x) new = outcome ≡ took x new
 Reads outcome (Err e) new = e ≢ faults.Memory → outcome ≡ stopped e new
 
--- a function that wants no memory did what the reader does
+-- a function that needs no memory did what the reader does
 abbrev pub ReadsAlways : {E T A : Type 0} → Outcome E T A → Result A (Fault E) → List T → Type 0
 ReadsAlways outcome (Ok x) new = outcome ≡ took x new
 ReadsAlways outcome (Err e) new = (e ≢ faults.Memory) × (outcome ≡ stopped e new)
 
--- what is read takes a thing at least
+-- a reading takes a thing at least
 pub record Shrinks {E T A : Type 0} (read : Reader E T A) : Type 0 where
   pub less : (ts rest : List T) (x : A) → read ts ≡ took x rest → length rest < length ts
 
@@ -44,7 +44,7 @@ abbrev pub rest_of : {T : Type 0} → List T → List T
 rest_of [] = []
 rest_of (_ ∷ rest) = rest
 
--- what a test says of the next thing, and what is said where none is left
+-- the answer of a test of the next thing, and the answer where none is left
 abbrev pub tells : {T : Type 0} → (T → Bool) → Bool → List T → Bool
 tells test last [] = last
 tells test last (next ∷ _) = test next
@@ -72,7 +72,7 @@ pure x = λ ts. took x ts
 abbrev pub refuse : {E T A : Type 0} → Reader E T A
 refuse = λ ts. stopped faults.Refused ts
 
--- what is read is handed on, with the things after it; a fault stays
+-- the next reader gets the value that is read, and the things after it; a fault stays
 abbrev pub and_then : {E T A B : Type 0} → Outcome E T A → (A → Reader E T B) → Outcome E T B
 and_then (took x rest) f = f x rest
 and_then (stopped e rest) f = stopped e rest
@@ -106,11 +106,11 @@ p << q = p >>= (λ x. (λ _. x) <$> q)
 abbrev pub choose : {E T A : Type 0} → (T → Bool) → Bool → Reader E T A → Reader E T A → Reader E T A
 choose test last p q = λ ts. (if tells test last ts then p else q) ts
 
--- what is read where a test of the next thing holds
+-- an optional value: it is read where a test of the next thing holds
 abbrev pub optional : {E T A : Type 0} → (T → Bool) → Reader E T A → Reader E T (Option A)
 optional test p = choose test false (Some <$> p) (pure None)
 
--- what is read where the next thing is such a one; else nothing goes on
+-- a value that is read where a test of the next thing holds; else nothing goes on
 abbrev pub beginning : {E T A : Type 0} → (T → Bool) → Reader E T A → Reader E T A
 beginning test p = choose test false p refuse
 
@@ -119,7 +119,7 @@ abbrev pub meant : {E T A : Type 0} → Option A → List T → List T → Outco
 meant (Some x) rest all = took x rest
 meant None rest all = stopped faults.Refused all
 
--- what is read is to have a meaning, else nothing goes on after it
+-- a value that needs a meaning; else nothing goes on after it
 abbrev pub checked : {E T A B : Type 0} → (A → Option B) → Reader E T A → Reader E T B
 checked meaning p = p >>= (λ x. λ rest. meant (meaning x) rest rest)
 
@@ -131,7 +131,7 @@ leaf meaning = λ ts. meant (option_and_then meaning (first ts)) (rest_of ts) ts
 abbrev pub told_by : {T K : Type 0} → (T → Option K) → List T → Option K
 told_by meaning ts = option_and_then meaning (first ts)
 
--- what a meaning asks for, after the thing that has it, or the other reader where there is none
+-- the reader that the meaning of the next thing asks for, after that thing, or the other reader where it has none
 abbrev pub led_by : {E T K A : Type 0} → Option K → (K → Reader E T A) → Reader E T A → Reader E T A
 led_by (Some k) p q = λ ts. p k (rest_of ts)
 led_by None p q = q
@@ -140,14 +140,14 @@ led_by None p q = q
 abbrev pub led : {E T K A : Type 0} → (T → Option K) → (K → Reader E T A) → Reader E T A → Reader E T A
 led meaning p q = λ ts. led_by (told_by meaning ts) p q ts
 
--- what may not stand here: told where it begins, and why
+-- things that may not stand here: the error comes where they begin, and says why
 abbrev pub unfit : {E T A : Type 0} → E → (T → Bool) → Reader E T A
 unfit why begins [] = refuse []
 unfit why begins (next ∷ rest) = stopped (if begins next then faults.Unfit why else faults.Refused) (next ∷ rest)
 
 -- ---- loops
 
--- what a turn of a loop gives: what is read so far, with which the loop goes on or ends
+-- the result of a turn of a loop: the value so far, with which the loop goes on or ends
 pub data Turn (S : Type 0) : Type 0 where
   again : S → Turn S
   done : S → Turn S

@@ -1,4 +1,5 @@
--- What makes a reader a rule: it reads exactly what its form spells, and where it stops nothing of the form goes on. This project's own.
+-- A reader is a rule where it reads exactly the texts of its form, and nothing of the form goes on where it stops. This project's
+-- own.
 use Rattle.std.specs.Prelude.{◌≡◌, ◌≤◌, ◌⊎◌, List, [], ◌∷◌, ◌++◌, length, All}
 use Rattle.tydi_reading.specs.declared.fault.Fault.{Fault}
 use Rattle.tydi_reading.specs.declared.fault.Fault.TheVariants as faults
@@ -15,13 +16,13 @@ abbrev pub leaving : {E T A : Type 0} → Outcome E T A → List T → Outcome E
 leaving (took x rest) other = took x other
 leaving (stopped e rest) other = stopped e other
 
--- what was read of the front, or refused, stays whatever follows the next thing
+-- the value or the refusal of the front stays, whatever follows the next thing
 pub record Local {E T A : Type 0} (read : Reader E T A) (ts : List T) (outcome : Outcome E T A) : Type 0 where
   pub front : List T
   pub split : ts ≡ front ++ left outcome
   pub stays : (next : T) (after more : List T) → left outcome ≡ next ∷ after → read (front ++ next ∷ more) ≡ leaving outcome (next ∷ more)
 
--- what was taken spells what is read
+-- the things that were taken spell the value
 pub record Found {T A : Type 0} (Spelled : A → Form T) (Within : A → Type 0) (ts rest : List T) (x : A) : Type 0 where
   pub front : List T
   pub split : ts ≡ front ++ rest
@@ -36,7 +37,7 @@ pub record TooFar {E T A : Type 0} (Within : Type 0) (rest : List T) (outcome : 
   pub before : length rest ≤ length at
   pub beyond : Within → ⊥
 
--- what is spelled is read, or has something unfit
+-- a spelled value is read, or has something unfit
 abbrev pub Reached : {E T A : Type 0} → (A → Type 0) → List T → A → Outcome E T A → Type 0
 Reached Within rest x outcome = (outcome ≡ took x rest) ⊎ TooFar (Within x) rest outcome
 
@@ -56,7 +57,7 @@ pub record CutUnfit {T A : Type 0} (Good : T → Type 0) (Spelled : A → Form T
   pub unfit : Unfit front
   pub goes : GoesOn Good Spelled (front ++ next ∷ [])
 
--- what was taken before a fault can go on
+-- the things that were taken before a fault can go on
 abbrev pub Finishes : {E T A : Type 0} → (T → Type 0) → (A → Form T) → Form T → List T → List T → Fault E → Type 0
 Finishes Good Spelled Unfit ts rest faults.Refused = Cut Good Spelled ts rest
 Finishes Good Spelled Unfit ts rest (faults.Unfit _) = CutUnfit Good Spelled Unfit ts rest

@@ -10,7 +10,8 @@ use crate::fault::Fault;
 use crate::lists::steps;
 use crate::source::Source;
 
-/// One argument more: its name, which is not given yet, and its value, which is added to what is given.
+/// One more argument: its name, which is not given yet, and its value, which is added to what is given. It fails with `Refused`
+/// where the next thing names no argument, or one that is given, and where the value fails.
 #[tactic(auto, unfolding(crate::specs::Named::argument))]
 pub fn argument<
     S: Source,

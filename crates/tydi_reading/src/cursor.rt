@@ -1,4 +1,4 @@
-//! What is left to read, and the steps that take one thing.
+//! The things that are left to read, and the steps that take one of them.
 
 ghost use Rattle.std.specs.Prelude.{◌≡◌, Bool, length, option_map};
 ghost use Rattle.tydi_reading.specs.Calls.{Decides};
@@ -55,7 +55,7 @@ impl<'a, T> Cursor<'a, T> {
         self.rest.is_empty()
     }
 
-    /// The next thing, which stays.
+    /// The next thing, which stays. None where none is left.
     pub fn peek(&self) -> Option<&'a T>
         ensures { option_map (λ next. next.now) result ≡ spec.first self.now }
     {

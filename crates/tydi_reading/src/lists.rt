@@ -85,7 +85,7 @@ pub fn separated<
     )
 }
 
-/// One item more, behind those that are found.
+/// The items found so far, and one more behind them. It fails where the item does, and with `Memory`.
 pub fn one_more<S: Source, E: Drop, A: Drop, P: Fn(&mut S) -> Result<A, Fault<E>>>(
     source: &mut S,
     found: List<A>,

@@ -20,7 +20,7 @@ pub struct Pieces<'a, const SEPARATOR: u8> {
     /// The next piece.
     next: Option<&'a [u8]>,
 
-    /// What follows it and its separator. None where it is the last piece.
+    /// The text after it and its separator. None where it is the last piece.
     after: Option<&'a [u8]>,
 }
 

@@ -1,11 +1,11 @@
-//! What is left to read, of whatever it is made.
+//! A source of things to read, whatever it is made of.
 
 ghost use Rattle.std.specs.Prelude.{◌≡◌, List};
 ghost use Rattle.tydi_reading.specs.Reading.{rest_of};
 
 /// Something from which things are taken, one after another: contracts see the list of those that are left.
 pub trait Source {
-    /// What the things are.
+    /// The type of one thing.
     ghost Thing: { Type 0 };
 
     /// The things that are left.

@@ -23,7 +23,7 @@ pub fn mark<S: Source, E: Drop, F: Fn(&S) -> bool>(source: &mut S, is: F) -> Res
     Ok(())
 }
 
-/// Takes the next thing, which is to have a meaning, and gives the meaning.
+/// Takes the next thing, which needs a meaning, and gives the meaning. `Refused` comes where it has none or no thing is left.
 pub fn leaf<S: Source, E: Drop, A: Drop, F: Fn(&S) -> Option<A>>(
     source: &mut S,
     meaning: F,
@@ -38,7 +38,7 @@ pub fn leaf<S: Source, E: Drop, A: Drop, F: Fn(&S) -> Option<A>>(
     Ok(found)
 }
 
-/// What stands where the next thing is such a one, if it is.
+/// The item, where the next thing begins one. None, with nothing taken, where it begins none. It fails exactly where the item does.
 pub fn optional<
     S: Source,
     E: Drop,
@@ -57,7 +57,8 @@ pub fn optional<
     Ok(Some(item(source)?))
 }
 
-/// What begins with the next thing, which is to be such a one: as one before which white space stands.
+/// The item that the next thing begins, for instance one after white space. It fails with `Refused` where the next thing begins
+/// none, and where the item fails.
 pub fn beginning<
     S: Source,
     E: Drop,

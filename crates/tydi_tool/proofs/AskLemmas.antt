@@ -1,4 +1,4 @@
--- What a command asks for, replies and says, whatever its files are.
+-- The files that a command asks for, its reply and its answer, whatever its files are.
 use Rattle.std.proofs.Common.{refl, sym, ◌≡◌, ℕ, ◌≤◌, ◌⊎◌, inl, inr, List, Option, None, Some, IfSome, ◌∙◌, subst, arith, Result, Ok, Err, ⊎_elim}
 use Rattle.tydi_io.specs.Faults.{Rose}
 use Rattle.tydi_io.specs.Store.{Files}
@@ -35,7 +35,7 @@ DecidedBy-weaken told new rose rose' here here' (Asks file X Reads next) reply m
 says_of : (a b : Answer) → replies.Says a ≡ replies.Says b → a ≡ b
 says_of a b e = cc
 
--- what is decided is what is said
+-- a decided answer is the answer that the command says
 pub SaysBy-decided : (told : Option Files) (new : Option (List ℕ × ℕ)) (rose here : Type 0) (ask : Ask) (a : Answer) →
     DecidedBy told new rose here ask (replies.Says a) → SaysBy told ask a
 SaysBy-decided told new rose here (Ends Tells) a d = d.0
@@ -109,12 +109,12 @@ DecidedBy-rest file X Reads next told told' old mid new f g h here x reply same 
 
 -- ---- a step of a command
 
--- a command that wants memory before it starts a file more
+-- a command that runs out of memory before it starts one more file
 wanted_before : (told : Option Files) (new : Option (List ℕ × ℕ)) (rose here : Type 0) (ask : Ask) → here → DecidedBy told new rose here ask replies.Memory
 wanted_before told new rose here (Ends Tells) at = (tt, at)
 wanted_before told new rose here (Asks file X Reads next) at = inl (inl at)
 
--- a step gave what is wanted, and the command goes on with it
+-- a step gave the expected value, and the command goes on with it
 pub DecidedBy-goes_on : {V : Type 0} (told : Option Files) (new : Option (List ℕ × ℕ)) (rose here : Type 0) (wanted : Result V Refusal) (next : V → Ask) (v : V) (reply : Reply) →
     wanted ≡ Ok v → DecidedBy told new rose here (next v) reply → DecidedBy told new rose here (goes_on wanted next) reply
 DecidedBy-goes_on {V} told new rose here wanted next v reply is rest = subst (λ (w : Result V Refusal). DecidedBy told new rose here (goes_on w next) reply) (sym is) rest

@@ -1,4 +1,4 @@
--- Each answer is told exactly where its cause stands.
+-- Each answer comes exactly where its cause stands.
 use Rattle.std.proofs.Common.{◌≡◌, ℕ, ◌<◌, ◌≤◌, ◌⊎◌, inl, inr, ◌++◌, Bool, true, false, cond, nat_lt, List, [], ◌∷◌, length, slice_get, Option, Some, None, option_map, Result, Ok, Err, codes, decimal, refl, sym, ap, ◌∙◌, subst, append_assoc, arith}
 use Rattle.std.proofs.lemmas.Bool.Decides.{nat_tests}
 use Rattle.std.proofs.lemmas.List.{append-nil}
@@ -240,7 +240,7 @@ same_line l m e = cc
 no_tree : (ast : Ast) (line : List ℕ) → ◌≡◌ {A = Result Ast (List ℕ)} (Err line) (Ok ast) → ⊥
 no_tree ast line e = cc
 
--- ---- what is found of a file
+-- ---- the bytes that are found of a file
 
 found_bytes : (limit : ℕ) (found : Option (List ℕ)) (bytes : List ℕ) → bytes_within limit found ≡ Ok bytes → (found ≡ Some bytes) × (length bytes ≤ limit)
 found_bytes limit None bytes is = absurd cc
@@ -530,7 +530,7 @@ told known (Split project port) a says = by says.0 says.1.0 says.1.1
     by (Ok bytes) is (inl refused) = refuses_project known project port bytes refused.0 a (has_bytes known project 4194304 bytes is) refused.1.0 refused.1.1
     by (Ok bytes) is (inr read) = splits_port known project port bytes a read.0 (has_bytes known project 4194304 bytes is) read.1.0 read.1.1
 
--- ---- a cause is told
+-- ---- a cause gives its answer
 
 file_there : (known : Files) (word : List ℕ) (limit : ℕ) (bytes : List ℕ) → HasBytes known word limit bytes → file_of known (record { word = word; limit = limit }) ≡ Ok bytes
 file_there known word limit bytes has = file_of-there known (record { word = word; limit = limit }) bytes has.there has.within

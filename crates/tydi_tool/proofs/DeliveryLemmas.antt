@@ -38,7 +38,7 @@ AddsFront-all old new whole adds = record {
   added = subst (λ (bytes : List ℕ). Adds old new bytes) (sym (take_all (length whole) whole (omega arith))) adds;
 }
 
--- what is not all is a front
+-- a part that is shorter than a text is a front of it
 pub AddsFront-part : (old new : Option (List ℕ)) (whole : List ℕ) → AddsPart old new whole → AddsFront old new whole
 AddsFront-part old new whole part = record { count = part.count; within = omega (arith, part.shorter); added = part.added }
 

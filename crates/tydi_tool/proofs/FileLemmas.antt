@@ -1,4 +1,4 @@
--- What is found of a file.
+-- The bytes that are found of a file.
 use Rattle.std.proofs.Common.{◌≡◌, ℕ, ◌<◌, ◌≤◌, ◌+◌, List, length, min, Option, None, Some, MatchOption, option_map, refl, sym, ap, ◌∙◌, subst, arith, Ok, Err, Bool, true, false, cond, nat_lt}
 use Rattle.std.proofs.lemmas.Bool.Decides.{nat_tests}
 use Rattle.tydi_io.specs.Store.{Files}

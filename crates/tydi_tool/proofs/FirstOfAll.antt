@@ -1,4 +1,4 @@
--- Of any offences there is a first one, or there are none: it is not so that there is neither.
+-- Any offences have a first one, or there are none: the two cannot both be false.
 use Rattle.std.proofs.Common.{◌≡◌, ℕ, zero, suc, ◌<◌, ◌⊎◌, inl, inr, Option, None, Some, arith, ⊎_elim}
 use Rattle.physical_stream.specs.Rules.{number_of_rule}
 use Rattle.physical_stream.specs.First.{Offence, IsNotAfter, IsFirst}

@@ -19,7 +19,7 @@ pub record Progress (known : Files) (word : List ℕ) (started : Option (List �
   within : length bytes ≤ length file
   front : bytes ≡ take (length bytes) file
 
--- what is left of a file in progress
+-- the rest of a file in progress
 left_of-progress : (known : Files) (word : List ℕ) (started : Option (List ℕ × ℕ)) (bytes : List ℕ) (p : Progress known word started bytes) →
     left_of known started ≡ drop (length bytes) p.file
 left_of-progress known word started bytes p =
@@ -79,7 +79,7 @@ PulledFrom-none {X} told first reads = record { bytes = []; counted = refl; fed 
     front None = tt
     front (Some known) = λ word s. Progress-start known word first s
 
--- one pull more, as the store tells it
+-- one pull more, as the store reports it
 more_front : (told told' : Option Files) (first before after : Option (List ℕ × ℕ)) (bytes more : List ℕ) → told' ≡ told →
     IfSome told (λ known. (word : List ℕ) → IsAtStart known word first → Progress known word before bytes) → IfSome told' (λ known. Gives known before after more) →
     IfSome told (λ known. (word : List ℕ) → IsAtStart known word first → Progress known word after (bytes ++ more))

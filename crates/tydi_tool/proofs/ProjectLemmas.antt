@@ -40,7 +40,7 @@ module _ {X Y : Type 0} (Reads : List ℕ → Result X (List ℕ) → Type 0) (S
     pub apart : (bytes : List ℕ) (x : X) (y : Y) (line : List ℕ) → Reads bytes (Ok x) → Step x (Ok y) → Step x (Err line) → ⊥
     pub lines : (bytes : List ℕ) (x : X) (one other : List ℕ) → Reads bytes (Ok x) → Step x (Err one) → Step x (Err other) → one ≡ other
 
-  -- what another reading of the bytes is stepped from is the same
+  -- a step from another reading of the same bytes is a step from this one
   over : (bytes : List ℕ) (x y : X) (read : Result Y (List ℕ)) → ReadsOnce Reads → Reads bytes (Ok x) → Reads bytes (Ok y) → Step y read → Step x read
   over bytes x y read once p q step = subst (λ (a : X). Step a read) (once.same bytes y x q p) step
 

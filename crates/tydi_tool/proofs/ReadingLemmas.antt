@@ -29,7 +29,7 @@ use Rattle.tydi_tool.proofs.ReportLemmas.{IsFoundAmong-heads}
 
 -- ---- a trace
 
--- what was found names one of the streams
+-- the finding names one of the streams
 IsFoundAmong-reading : (word : List ℕ) (reading : Result TraceText TraceFault) (survey : Survey) → ReadsReading word reading (Ok survey) →
     IsFoundAmong (length survey.heads) survey.found
 IsFoundAmong-reading word (Ok trace) survey reads =

@@ -1,4 +1,4 @@
--- What a survey finds names one of the streams, and is reported.
+-- The finding of a survey names one of the streams, and is reported.
 use Rattle.std.proofs.Common.{◌≡◌, ℕ, suc, ◌+◌, ◌<◌, ◌≤◌, ◌⊎◌, inl, inr, List, [], ◌∷◌, length, Option, None, Some, refl, sym, subst, arith, Result}
 use Rattle.std.proofs.lemmas.Option.{slice_get_within}
 use Rattle.physical_stream.specs.Cycles.{StreamTrace}
@@ -42,7 +42,7 @@ Surveys-among : (streams : List StreamTrace) (found : Result Counts SurveyFault)
 Surveys-among streams found s =
     subst (IsFoundAmong (length streams)) (sym s.says) (survey_of-among streams s.first (first_unfinished 0 streams) (counts_of streams) s.is_first (first_unfinished-among (length streams) 0 streams (omega arith)))
 
--- what a survey finds names one of the streams of the header
+-- the finding of a survey names one of the streams of the header
 pub IsFoundAmong-heads : (t : TraceText) (found : Result Counts SurveyFault) → Surveys (offends_in t) (streams_of t) found → IsFoundAmong (length t.heads) found
 IsFoundAmong-heads t found surveys = subst (λ (n : ℕ). IsFoundAmong n found) (length-streams t 0 t.heads) (Surveys-among (streams_of t) found surveys)
 

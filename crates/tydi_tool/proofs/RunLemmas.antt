@@ -40,7 +40,7 @@ module _ (request : Request) (told : Option Files) (old new : Option (List ℕ �
   abbrev Asked : Type 0
   Asked = EndsAsked rose out_rose err_rose request told old new status out_old out_new err_old err_new
 
-  -- what is said is the answer to the words and the files
+  -- the reply that says an answer says the answer to the words and the files
   says_of : (a : Answer) → Decides told old new rose (ask_of request) (replies.Says a) → Says told (Some request) a
   says_of a d = SaysBy-decided told new rose (IfSome told (λ known. new ≡ old)) (ask_of request) a d
 
@@ -161,7 +161,7 @@ module _ (request : Request) (told : Option Files) (old new : Option (List ℕ �
   front_from reply d (inr (inl f)) = front_by reply d f.some f.out
   front_from reply d (inr (inr m)) = front_by reply d (AddsPart-some out_old out_new (out_of reply) m.out) (AddsFront-part out_old out_new (out_of reply) m.out)
 
-  -- where memory was wanted
+  -- where memory was missing
   part_by : (reply : Reply) → Decides told old new rose (ask_of request) reply → AddsPart out_old out_new (out_of reply) → OutPart told (Some request) out_old out_new
   part_by (replies.Says a) d part = inr (record { answer = a; says = says_of a d; part = part })
   part_by (replies.ReadFault line) d part = absurd (omega (arith, part.shorter))
@@ -256,7 +256,7 @@ module _ (told : Option Files) (old new : Option (List ℕ × ℕ)) (rose out_ro
   }
   ErrFront-run (Some request) r = err_from request told old new rose out_rose err_rose status out_old out_new err_old err_new r.reply r.decided r.delivered
 
--- an answer to files that are told has its cause in them
+-- an answer to files that the store reports has its cause in them
 pub IsCaused-answered : (files : Option Files) (request : Option Request) (status : Status) (out_old out_new err_old err_new : Option (List ℕ)) →
     IsAnswered files request status out_old out_new err_old err_new → IfSome files (λ known. IsCaused known request status out_old out_new err_old err_new)
 IsCaused-answered None request status out_old out_new err_old err_new a = tt

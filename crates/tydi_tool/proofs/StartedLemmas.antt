@@ -27,7 +27,7 @@ names known all file started given lacking = by_file (known file.word) refl
         let within : GivenWithin file bytes started = subst (λ (found : Option (List ℕ)). MatchOption found (started ≡ None) (λ all. GivenWithin file all started)) is given in
         subst (λ (s : Option (List ℕ × ℕ)). NamesStarted known all s file.word) (sym within.place) refl
 
--- what is known of the files that are left, of all the files: each is one of them, and those before are there
+-- the facts about the files that are left, among all files: each is one of them, and those before are there
 record Left (told : Option Files) (all files : List FileWord) : Type 0 where
   named : (file : FileWord) → IsOneOf files file → IsOneOf all file
   lacking : IfSome told (λ known. (word : List ℕ) → first_lacking known files ≡ Some word → first_lacking known all ≡ Some word)

@@ -1,4 +1,4 @@
--- What holds of a command holds of one that comes to it by a step, and of one that begins with the split of a port.
+-- A property of a command holds for a command that comes to it by a step, and for one that begins with the split of a port.
 use Rattle.std.proofs.Common.{ℕ, List, ◌∷◌, sym, ◌∙◌, refl, Result, Ok, Err}
 use Rattle.type_split.specs.Streams.{PlainSplit}
 use Rattle.tydi_tool.specs.declared.answer.Answer.TheVariants as answers

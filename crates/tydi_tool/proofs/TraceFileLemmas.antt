@@ -19,7 +19,7 @@ use Rattle.tydi_tool.specs.Reading.{ReadsAs}
 use Rattle.tydi_tool.specs.TraceFiles.{HasTrace, StandsForBytes, reads_after, IsNew}
 use Rattle.tydi_tool.specs.Traces.{ReadsTrace}
 
--- of a new reader
+-- the readings of a new reader
 read_new : (word : List ℕ) (file : TraceFile) (bytes : List ℕ) (read : Result Survey (List ℕ)) → IsNew word file → reads_after file bytes read → ReadsTrace word bytes read
 read_new word file bytes read new reads = subst (λ (w : List ℕ). ReadsTrace w bytes read) new.word_is (reads [] new.stands)
 

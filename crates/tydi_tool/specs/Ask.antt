@@ -1,5 +1,5 @@
--- What a command does, as one value: it asks for files, one after another, and ends with what is said. Over it stands, once and
--- for any number of files, what is said and which file decides (this project's own).
+-- A command as one value: it asks for files, one after another, and ends with an answer. The definitions over it state, once and
+-- for any number of files, the answer and the file that decides (this project's own).
 use Rattle.std.specs.Prelude.{◌≡◌, ℕ, ◌⊎◌, List, [], ◌∷◌, Option, IfSome, Result, Ok, Err}
 use Rattle.tydi_io.specs.Store.{Files}
 use Rattle.tydi_tool.specs.declared.answer.Answer.{Answer}
@@ -29,12 +29,12 @@ abbrev pub goes_on : {V : Type 0} → Result V Refusal → (V → Ask) → Ask
 goes_on (Ok v) next = next v
 goes_on (Err refusal) next = Ends (λ a. a ≡ answers.Refused (refusal_line refusal))
 
--- what is said at the end where a step is the last: by what it gives, or the refusal
+-- the answer at the end where a step is the last: by the value that it gives, or the refusal
 abbrev pub TellsOf : {V : Type 0} → Result V Refusal → (V → Answer → Type 0) → Answer → Type 0
 TellsOf (Ok v) Tells a = Tells v a
 TellsOf (Err refusal) Tells a = a ≡ answers.Refused (refusal_line refusal)
 
--- ---- what is said
+-- ---- the answer
 
 -- by what is found of a file: it is lacking, its bytes are refused with the line of the answer, or they are read as an x of which
 -- the rest holds
@@ -46,7 +46,7 @@ abbrev pub SaysOfFile : {X : Type 0} → (List ℕ → Result X (List ℕ) → T
 SaysOfFile Reads Rest word (Ok bytes) a = SaysOfBytes Reads Rest bytes a
 SaysOfFile Reads Rest word (Err lack) a = a ≡ answers.Refused (lack_line lack word)
 
--- the answer to files that the store may have; where the store tells its files, to these
+-- the answer to files that the store may have; where the store reports its files, to these
 abbrev pub SaysBy : Option Files → Ask → Answer → Type 0
 SaysBy told (Ends Tells) a = Tells a
 SaysBy told (Asks file X Reads next) a =
@@ -60,8 +60,8 @@ Judges Tells (replies.Says a) = Tells a
 Judges Tells (replies.ReadFault line) = ⊥
 Judges Tells replies.Memory = Unit {0}
 
--- a file is lacking; or a call of the store failed over it, and it was given within its limit; or memory was wanted, then or before it
--- was started
+-- a file is lacking; or a call of the store failed over it, and it was given within its limit; or memory was missing, then or
+-- before it was started
 abbrev pub Stops : Option Files → FileWord → Option (List ℕ × ℕ) → (rose here : Type 0) → Reply → Type 0
 Stops told file started rose here (replies.Says a) =
     (lack : Lack) × (IsFound told file (Err lack) × ((a ≡ answers.Refused (lack_line lack file.word)) × IsPulled told file started))
@@ -73,8 +73,8 @@ abbrev pub DecidesBytes : {X : Type 0} → (List ℕ → Result X (List ℕ) →
 DecidesBytes {X} Reads Rest pulled bytes reply =
     ((line : List ℕ) × (Reads bytes (Err line) × ((reply ≡ replies.Says (answers.Refused line)) × pulled))) ⊎ ((x : X) × (Reads bytes (Ok x) × Rest x))
 
--- what a command replies, which file decides it, and which is started at the end: a file is asked for only after those before it
--- were found and read. `here` says where the store stands if no file more is asked for.
+-- the reply of a command, the file that decides it, and the file that is started at the end: a file is asked for only after those
+-- before it were found and read. `here` says where the store stands if no more file is asked for.
 abbrev pub DecidedBy : Option Files → Option (List ℕ × ℕ) → (rose here : Type 0) → Ask → Reply → Type 0
 DecidedBy told started rose here (Ends Tells) reply = Judges Tells reply × here
 DecidedBy told started rose here (Asks file X Reads next) reply =

@@ -86,7 +86,7 @@ abbrev pub row_in : List (List ℕ × Row) → List ℕ → Option Row
 row_in [] name = None
 row_in (one ∷ more) name = if bytes_eq one.0 name then Some one.1 else row_in more name
 
--- what stands before the first space or line feed
+-- the bytes before the first space or line feed
 abbrev pub first_word : List ℕ → List ℕ
 first_word [] = []
 first_word (byte ∷ more) = if byte == 32 || byte == 10 then [] else byte ∷ first_word more
@@ -249,7 +249,7 @@ pub record ParserCause (known : Files) (request : Request) (a : Answer) : Type 0
   pub told : parser_line word tokens fault ≡ Some line
   pub said : a ≡ answers.Refused line
 
--- the tree of the project has a fault, and this one is told of it
+-- the tree of the project has an error, and this one is reported
 pub record ResolverCause (known : Files) (request : Request) (a : Answer) : Type 0 where
   pub word : List ℕ
   pub bytes : List ℕ
@@ -394,7 +394,7 @@ CausedBy AText known request a = TextCause known request a
 
 -- ---- the laws
 
--- where the store tells its files, an answer of this row is said exactly where the cause stands
+-- where the store reports its files, an answer of this row is said exactly where the cause stands
 abbrev pub ExactlyWhere : Row → (Files → Request → Answer → Type 0) → Type 0
 ExactlyWhere row Cause = (known : Files) (request : Request) (a : Answer) → (Says (Some known) (Some request) a × (row_of a ≡ Some row)) ↔ Cause known request a
 

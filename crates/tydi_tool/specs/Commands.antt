@@ -1,5 +1,5 @@
--- What each command asks of its files, and what is said of given words and files (this project's own). A command more is a case
--- here.
+-- The files that each command asks for, and its answer for given words and files (this project's own). A new command is one more
+-- case here.
 use Rattle.std.specs.Prelude.{◌≡◌, ℕ, List, Option, Some, None}
 use Rattle.tydi_io.specs.Store.{Files}
 use Rattle.til_parser.specs.Canonical.{canonical}
@@ -26,11 +26,11 @@ check_ask trace = Asks (trace_file trace) Survey (ReadsTrace trace) (λ survey. 
 abbrev pub read_ask : List ℕ → Ask
 read_ask project = Asks (project_file project) Ast (ReadsTree project) (λ ast. Ends (λ a. a ≡ output_answer (canonical ast)))
 
--- what begins with a project
+-- a command that begins with a project
 abbrev pub project_ask : List ℕ → (PlainProject → Ask) → Ask
 project_ask project next = Asks (project_file project) PlainProject (ReadsProject project) next
 
--- what begins with the split of a port of a project
+-- a command that begins with the split of a port of a project
 abbrev pub port_ask : (project port : List ℕ) → (PlainSplit → Ask) → Ask
 port_ask project port next = project_ask project (λ read. goes_on (split_at read port) next)
 
@@ -43,7 +43,7 @@ ask_of (Check trace) = check_ask trace
 ask_of (Read project) = read_ask project
 ask_of (Split project port) = split_ask project port
 
--- what is said: nothing where the words spell no command
+-- the answer of the tool: none where the words spell no command
 abbrev pub Says : Option Files → Option Request → Answer → Type 0
 Says told None a = ⊥
 Says told (Some request) a = SaysBy told (ask_of request) a

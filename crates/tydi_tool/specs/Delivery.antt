@@ -1,4 +1,4 @@
--- What the two sinks hold after a run (this project's own).
+-- The bytes of the two sinks after a run (this project's own).
 use Rattle.std.specs.Prelude.{◌≡◌, ℕ, ◌<◌, ◌≤◌, ◌⊎◌, List, [], ◌++◌, length, take, Option, option_map, Result, Ok, Err}
 use Rattle.tydi_tool.specs.declared.answer.Reply.{Reply}
 use Rattle.tydi_tool.specs.declared.delivery.WriteError.{WriteError}
@@ -7,7 +7,7 @@ use Rattle.tydi_tool.specs.declared.status.Status.{Status}
 use Rattle.tydi_tool.specs.declared.status.Status.TheVariants as statuses
 use Rattle.tydi_tool.specs.Outcome.{out_of, err_of, status_of, memory_line, write_fault_line}
 
--- a sink that tells its bytes has these more
+-- a sink that reports its bytes has these more
 abbrev pub Adds : Option (List ℕ) → Option (List ℕ) → List ℕ → Type 0
 Adds old new bytes = new ≡ option_map (λ taken. taken ++ bytes) old
 
@@ -70,7 +70,7 @@ pub record OutWants (err_rose : Type 0) (text : List ℕ) (status : Status) (out
   pub err : TakesLine err_rose status statuses.Memory err_old err_new memory_line
 
 -- a text for out, with the status that it is to end with: all was written and err is as before; or out failed; or memory was
--- wanted
+-- missing
 abbrev pub DeliversText : (out_rose err_rose : Type 0) → List ℕ → (wanted status : Status) → (out_old out_new err_old err_new : Option (List ℕ)) → Type 0
 DeliversText out_rose err_rose text wanted status out_old out_new err_old err_new =
     ((status ≡ wanted) × (Adds out_old out_new text × Adds err_old err_new []))

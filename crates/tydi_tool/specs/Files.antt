@@ -1,4 +1,4 @@
--- What is found of a file, and how far it was given (this project's own).
+-- The bytes that are found of a file, and how far it was given (this project's own).
 use Rattle.std.specs.Prelude.{◌≡◌, ℕ, ◌+◌, ◌≤◌, nat_lt, if◌then◌else◌, List, length, min, Option, Some, None, IfSome, option_map, MatchOption, Result, Ok, Err, codes}
 use Rattle.tydi_io.specs.Store.{Files}
 use Rattle.tydi_tool.specs.Words.{FileWord}
@@ -24,7 +24,8 @@ bytes_within limit (Some bytes) = if nat_lt limit (length bytes) then Err TooLon
 abbrev pub file_of : Files → FileWord → Result (List ℕ) Lack
 file_of known file = bytes_within file.limit (known file.word)
 
--- what may be found of a file: by what the store tells; where it tells nothing, any bytes within the limit, or none
+-- the bytes that may be found of a file: those that the store reports; where it reports nothing, any bytes within the limit, or
+-- none
 abbrev pub IsFound : Option Files → FileWord → Result (List ℕ) Lack → Type 0
 IsFound (Some known) file found = file_of known file ≡ found
 IsFound None file (Ok bytes) = length bytes ≤ file.limit

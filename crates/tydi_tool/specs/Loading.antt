@@ -22,7 +22,7 @@ pub record IsLoaded {X : Type 0} (told : Option Files) (file : FileWord) (starte
   pub pulled : IsPulled told file started
   pub fed : IsFed old new bytes
 
--- what a load gives, and where it leaves the file
+-- the result of a load, and where it leaves the file
 abbrev pub Loads : {X T : Type 0} → Option Files → FileWord → Option (List ℕ × ℕ) → (old new : List ℕ → Result X (List ℕ) → Type 0) → Result T LoadError → Type 0
 Loads told file started old new (Ok _) = IsLoaded told file started old new
 Loads told file started old new (Err errors.NoFile) = IsFound told file (Err NoFile) × IsPulled told file started
@@ -61,14 +61,14 @@ pub record IsFedNoMore (told : Option Files) (before after : Option (List ℕ ×
   pub limited : length more ≤ room
   pub gives : IfSome told (λ known. Gives known before after more)
 
--- what one pull into so much room gives
+-- the result of one pull into so much room
 abbrev pub Feeds : {X : Type 0} → Option Files → (before after : Option (List ℕ × ℕ)) → (old new : List ℕ → Result X (List ℕ) → Type 0) → ℕ → Result ℕ LoadError → Type 0
 Feeds told before after old new room (Ok count) = IsFedMore told before after old new count
 Feeds told before after old new room (Err errors.ReadFault) = IfSome told (λ known. after ≡ before)
 Feeds told before after old new room (Err errors.Memory) = IsFedNoMore told before after room
 Feeds told before after old new room (Err error) = ⊥
 
--- what is replied where a file was not loaded: its line, or want of memory for it
+-- the reply where a file was not loaded: its line, or want of memory for it
 abbrev pub RepliesToError : List ℕ → LoadError → Reply → Type 0
 RepliesToError word errors.NoFile reply = (reply ≡ replies.Says (answers.Refused (lack_line NoFile word))) ⊎ (reply ≡ replies.Memory)
 RepliesToError word errors.TooLong reply = (reply ≡ replies.Says (answers.Refused (lack_line TooLong word))) ⊎ (reply ≡ replies.Memory)

@@ -1,4 +1,4 @@
--- What a run writes, and how it ends (this project's own).
+-- The output and the exit status of a run (this project's own).
 use Rattle.std.specs.Prelude.{ℕ, ◌*◌, ◌^◌, nat_lt, if◌then◌else◌, List, [], length, codes}
 use Rattle.tydi_tool.specs.declared.answer.Answer.{Answer}
 use Rattle.tydi_tool.specs.declared.answer.Answer.TheVariants as answers
@@ -40,7 +40,7 @@ output_limit = 64 * 2 ^ 20
 abbrev pub output_answer : List ℕ → Answer
 output_answer text = if nat_lt output_limit (length text) then answers.Refused output_too_long_line else answers.Done text
 
--- what an answer gives to out, what it gives to err, and how it ends
+-- the bytes that an answer gives to out and to err, and its exit status
 abbrev pub out_of_answer : Answer → List ℕ
 out_of_answer (answers.Refused line) = []
 out_of_answer (answers.Verdict line) = line

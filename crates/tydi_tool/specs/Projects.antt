@@ -8,7 +8,7 @@ use Rattle.tydi_tool.specs.Reading.{ReadsBy, RefusesBy}
 use Rattle.tydi_tool.specs.Refusals.{refusal_of_resolving}
 use Rattle.tydi_tool.specs.Trees.{ReadsTree}
 
--- a tree without faults is its project; another is refused for the fault that is told of it
+-- a tree without errors is its project; another is refused for its reported error
 abbrev pub Resolves : List ℕ → Ast → Result PlainProject (List ℕ) → Type 0
 Resolves word ast (Ok project) = IsSound ast × (project ≡ project_of ast)
 Resolves word ast (Err line) = (fault : ResolveFault) × (IsToldOf ast fault × RefusesBy {X = PlainProject} (refusal_of_resolving word fault) (Err line))

@@ -20,7 +20,8 @@ abbrev pub Seen : {X V : Type 0} → (X → V) → (Result V (List ℕ) → Type
 Seen view Reads (Ok x) = Reads (Ok (view x))
 Seen view Reads (Err line) = Reads (Err line)
 
--- what a reader gives of bytes: what they are read as, or the reply, which has the line that refuses them or is want of memory
+-- the result of a reader on bytes: the value that they are read as, or the reply, which has the line that refuses them or is want
+-- of memory
 abbrev pub ReadsAs : {X : Type 0} → (Result X (List ℕ) → Type 0) → Result X Reply → Type 0
 ReadsAs Reads (Ok x) = Reads (Ok x)
 ReadsAs Reads (Err (replies.Says (answers.Refused line))) = Reads (Err line)
@@ -37,7 +38,7 @@ abbrev pub refusal_in : {V : Type 0} → Result V Refusal → Option Refusal
 refusal_in (Ok v) = None
 refusal_in (Err refusal) = Some refusal
 
--- a step gives what is wanted, seen as plain data, or the reply that refuses as is wanted, or want of memory
+-- a step gives the expected value, seen as plain data, or the reply with the expected refusal, or want of memory
 abbrev pub Gives : {X V : Type 0} → (X → V) → Result V Refusal → Result X Reply → Type 0
 Gives view wanted (Ok x) = wanted ≡ Ok (view x)
 Gives view wanted (Err reply) = IsRefusedBy (refusal_in wanted) reply

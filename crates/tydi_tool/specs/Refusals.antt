@@ -1,4 +1,4 @@
--- Refusals, each a name and its details, and the faults of texts that they stand for (this project's own).
+-- Refusals, each a name and its details, and the errors of texts that they stand for (this project's own).
 use Rattle.std.specs.Prelude.{ℕ, List, [], ◌∷◌, ◌++◌, Option, Some, None, codes, decimal}
 use Rattle.std.specs.List.{flat_map}
 use Rattle.tydi_base.specs.Path.{path_text}
@@ -52,7 +52,7 @@ details_text details = flat_map detail_text details
 abbrev pub refusal_line : Refusal → List ℕ
 refusal_line refusal = codes "tydi: " ++ refusal.name ++ details_text refusal.details ++ codes "\n"
 
--- a fault of a file that names nothing else, or a place in it
+-- an error of a file that names nothing else, or a place in it
 abbrev pub of_file : List ℕ → List ℕ → Refusal
 of_file name word = record { name = name; details = Word word ∷ [] }
 
@@ -73,7 +73,7 @@ refusal_of_trace word faults.Memory = None
 abbrev pub not_utf8 : List ℕ → ℕ → Refusal
 not_utf8 word front = of_file_with (codes "NotUtf8") word (Number front)
 
--- the refusal of a text of this word with this fault of its tokens; want of memory is none
+-- the refusal of a text of this word with this error of its tokens; want of memory is none
 abbrev pub refusal_of_lexing : List ℕ → LexFault → Option Refusal
 refusal_of_lexing word (lexing.StrayChar place) = Some (of_file_with (codes "StrayChar") word (At place))
 refusal_of_lexing word (lexing.OpenString place) = Some (of_file_with (codes "OpenString") word (At place))
@@ -83,7 +83,7 @@ refusal_of_lexing word (lexing.BadName place) = Some (of_file_with (codes "BadNa
 refusal_of_lexing word (lexing.NumberTooLong place) = Some (of_file_with (codes "NumberTooLong") word (At place))
 refusal_of_lexing word lexing.Memory = None
 
--- the name of a fault of a type
+-- the name of an error of a type
 abbrev pub type_fault_name : TypeFault → List ℕ
 type_fault_name typing.ZeroBits = codes "ZeroBits"
 type_fault_name typing.ElementTooWide = codes "ElementTooWide"

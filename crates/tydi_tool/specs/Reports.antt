@@ -36,7 +36,7 @@ IsUnfinished ends.Whole = ⊥
 IsUnfinished ends.Pending = Unit {0}
 IsUnfinished (ends.Unclosed k) = Unit {0}
 
--- what was found of so many streams names one of them, and no end that is whole. It is not want of memory.
+-- the finding about so many streams names one of them, and no end that is whole. It is not want of memory.
 abbrev pub IsFoundAmong : ℕ → Result Counts SurveyFault → Type 0
 IsFoundAmong streams (Ok counts) = Unit {0}
 IsFoundAmong streams (Err (faults.Offence cycle stream rule)) = stream < streams

@@ -1,5 +1,5 @@
--- What a run promises, clause by clause (this project's own). `request` is the command that the words spell, `told` the
--- files of the store where it tells them; a sink's bytes stand for themselves where the sink tells them.
+-- The promises of a run, clause by clause (this project's own). `request` is the command that the words spell, `told` the
+-- files of the store where it reports them; a sink's bytes stand for themselves where the sink reports them.
 use Rattle.std.specs.Prelude.{◌≡◌, ℕ, ◌⊎◌, List, [], ◌++◌, Option, Some, None, IfSome, codes}
 use Rattle.tydi_io.specs.Store.{Files}
 use Rattle.tydi_tool.specs.declared.answer.Answer.{Answer}
@@ -43,7 +43,7 @@ Runs store_rose out_rose err_rose None told started_old started_new status out_o
 Runs store_rose out_rose err_rose (Some request) told started_old started_new status out_old out_new err_old err_new =
     EndsAsked store_rose out_rose err_rose request told started_old started_new status out_old out_new err_old err_new
 
--- ---- what follows of it
+-- ---- consequences of it
 
 -- Usage comes only where the words spell no command; there it comes, or WriteFault, where err failed
 abbrev pub UsageExactly : Option Request → Type 0 → Status → Type 0
@@ -65,8 +65,8 @@ pub record IsAnswered (told : Option Files) (request : Option Request) (status :
   pub out : Adds out_old out_new (out_of_answer answer)
   pub err : Adds err_old err_new (err_of_answer answer)
 
--- where the store tells its files: the answer's cause stands in the words and the files, by a row of the table of causes, and out has
--- exactly the text or verdict of that row, err exactly its line
+-- where the store reports its files: the answer's cause stands in the words and the files, by a row of the table of causes, and out
+-- has exactly the text or verdict of that row, err exactly its line
 pub record IsCaused (known : Files) (request : Option Request) (status : Status) (out_old out_new err_old err_new : Option (List ℕ)) : Type 0 where
   pub asked : Request
   pub is : request ≡ Some asked
@@ -108,7 +108,7 @@ pub record HasPart (told : Option Files) (request : Option Request) (out_old out
   pub says : Says told request answer
   pub part : AddsPart out_old out_new (out_of_answer answer)
 
--- where memory was wanted: out is as before, or has such a front; it never has all of a text
+-- where memory was missing: out is as before, or has such a front; it never has all of a text
 abbrev pub OutPart : Option Files → Option Request → (out_old out_new : Option (List ℕ)) → Type 0
 OutPart told request out_old out_new = Adds out_old out_new [] ⊎ HasPart told request out_old out_new
 

@@ -24,7 +24,7 @@ pub record IsSpelled (text : List ℕ) (tokens : List Token) (ast : Ast) : Type 
 abbrev pub place_of : List Token → ℕ → Option Place
 place_of tokens index = option_map (λ token. token.place) (slice_get tokens index)
 
--- the refusal of tokens with this fault of their tree; want of memory is none
+-- the refusal of tokens with this error of their tree; want of memory is none
 abbrev pub refusal_of_parsing : List ℕ → List Token → ParseFault → Option Refusal
 refusal_of_parsing word tokens (parsing.Unexpected index) = option_map (λ place. of_file_with (codes "Unexpected") word (At place)) (place_of tokens index)
 refusal_of_parsing word tokens parsing.EndOfText = Some (of_file (codes "EndOfText") word)
@@ -43,7 +43,7 @@ pub record SpellsNoTree (word text : List ℕ) (tokens : List Token) (read : Res
   pub is : IsFaultOf (lexemes_of text tokens) fault
   pub says : RefusesBy (refusal_of_parsing word tokens fault) read
 
--- by the tokens of a text, or the first fault of them
+-- by the tokens of a text, or the first error of them
 abbrev pub ReadsTokens : List ℕ → List ℕ → Result (List Token) LexFault → Result Ast (List ℕ) → Type 0
 ReadsTokens word text (Ok tokens) read = SpellsTree text tokens read ⊎ SpellsNoTree word text tokens read
 ReadsTokens word text (Err fault) read = RefusesBy (refusal_of_lexing word fault) read

@@ -60,7 +60,7 @@ pub(crate) fn ask_text<S: Store, X, T: TextReader<X> + Drop>(
     ask(alloc, store, word, limit, Gather::new(alloc, text))
 }
 
-/// What is replied where a file was not loaded.
+/// The reply where a file was not loaded.
 fn reply_to_error(alloc: Global, word: &Text, error: LoadError) -> Reply
     ensures { RepliesToError word.now error result }
 {

@@ -40,7 +40,7 @@ const TRACE_LIMIT: usize = 67_108_864;
 /// The most bytes of a project: 4 MiB.
 const PROJECT_LIMIT: usize = 4_194_304;
 
-/// What the tool replies to this command.
+/// The reply of the tool to this command.
 pub(crate) fn reply_to<S: Store>(alloc: Global, command: Command<'_>, store: &mut S) -> Reply
     requires { AllByRecursion (λ file. IsTrue (S.allowed store.old file.word)) (file_words (request_from command)) }
     ensures decided { Decides (S.files store.old) (S.started store.old) (S.started store.new) (Rose (S.faults store.old) (S.faults store.new))

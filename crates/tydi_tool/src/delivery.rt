@@ -61,7 +61,7 @@ fn write_piece<S: Sink>(alloc: Global, text: &mut Output, sink: &mut S) -> Resul
     }
 }
 
-/// Writes a line to err, and answers how the run ends: as wanted, or, where err failed, as WriteFault.
+/// Writes a line to err, and answers how the run ends: as asked, or, where err failed, as WriteFault.
 pub(crate) fn deliver_line<E: Sink>(line: &[u8], wanted: Status, err: &mut E) -> Status
     ensures { TakesLine (Rose (E.faults err.old) (E.faults err.new)) result wanted (E.taken err.old) (E.taken err.new) line.now }
 {
@@ -71,7 +71,7 @@ pub(crate) fn deliver_line<E: Sink>(line: &[u8], wanted: Status, err: &mut E) ->
     }
 }
 
-/// Writes a text to out, and answers how the run ends: as wanted, or with a line to err. Where out failed, a failure of err is
+/// Writes a text to out, and answers how the run ends: as asked, or with a line to err. Where out failed, a failure of err is
 /// ignored.
 fn deliver_text<O: Sink, E: Sink>(
     alloc: Global,

@@ -11,7 +11,7 @@ pub(crate) trait TextReader<X> {
     /// The bytes are read as this, or refused with this line.
     ghost reads: { Self → List ℕ → Result X (List ℕ) → Type 0 };
 
-    /// What the bytes are read as, or the reply that refuses them.
+    /// The value that the bytes are read as, or the reply that refuses them.
     fn read(&self, alloc: Global, bytes: &[u8]) -> Result<X, Reply>
         requires { length bytes.now < 2 ^ 32 - 1 }
         ensures { ReadsAs (reads self.now bytes.now) result };

@@ -24,7 +24,8 @@ pub fn answers_are_one()
     ensures some { SomeAnswer }
 {}
 
-/// The table of causes: each row is told exactly where its cause stands in the words and the files, and each answer is of a row.
+/// The table of causes: each row's answer comes exactly where its cause stands in the words and the files, and each answer is of a
+/// row.
 pub fn causes_are_told()
     ensures no_file { ExactlyWhere rows.NoFile NoFileCause }
     ensures too_long { ExactlyWhere rows.TooLong TooLongCause }

@@ -15,6 +15,7 @@ pub enum LoadError {
     TooLong,
     /// A call of the store failed.
     ReadFault,
+    /// There was no memory.
     Memory,
 }
 

@@ -41,7 +41,7 @@ fn project_of(alloc: Global, word: &Text, ast: &Ast) -> Result<Project, Reply>
     }
 }
 
-/// The reply to a project whose tree has this fault.
+/// The reply to a project whose tree has this error.
 fn unresolved(alloc: Global, word: &Text, fault: ResolveFault) -> Reply
     ensures { IsRefusedBy (refusal_of_resolving word.now fault) result }
 {
@@ -63,7 +63,7 @@ fn unresolved(alloc: Global, word: &Text, fault: ResolveFault) -> Reply
     refused(alloc, name, &[file, Detail::At(place)])
 }
 
-/// The name of a fault of a type.
+/// The name of an error of a type.
 fn type_fault(fault: TypeFault) -> &'static str
     ensures { result.now ≡ type_fault_name fault }
 {

@@ -25,7 +25,7 @@ pub(crate) trait Reader<X> {
         ensures reads { OnOk result (IsFed (reads self.old) (reads self.new) piece.now) }
         ensures fed { OnOk result (fed self.new ≡ fed self.old + length piece.now) };
 
-    /// What all the bytes are read as, or the reply that refuses them.
+    /// The value that all the bytes are read as, or the reply that refuses them.
     fn finish(self, alloc: Global) -> Result<X, Reply>
         requires stands { stands self }
         requires fits { fed self < 2 ^ 32 - 1 }

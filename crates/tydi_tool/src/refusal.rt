@@ -1,4 +1,4 @@
-//! The lines of faults: a name, and details after it.
+//! The lines of errors: a name, and details after it.
 
 ghost use Rattle.std.specs.Prelude.{◌≡◌, ◌⊎◌, ◌++◌, map, IfOk, OnOk, OnErr};
 ghost use Rattle.tydi_base.specs.Writing.{StandsInFront};
@@ -10,13 +10,14 @@ use crate::answer::{Answer, Reply};
 use std::alloc::Global;
 use tydi_base::{Each, List, Memory, Path, Place, Text, Written, emit};
 
-/// What a fault line has after the fault's name.
+/// A detail of an error line, after the name of the error.
 #[derive(Clone, Copy)]
 pub enum Detail<'a> {
     /// A word of the command.
     Word(&'a Text),
     /// The path of a stream.
     Stream(&'a Path),
+    /// A number, in decimal.
     Number(u64),
     /// A line and a column, each from 1.
     At(Place),
@@ -40,7 +41,7 @@ impl Written for Detail<'_> {
     }
 }
 
-/// The line of a fault of this name.
+/// The line of an error of this name.
 pub(crate) fn fault_line(
     alloc: Global,
     name: &str,
@@ -53,7 +54,7 @@ pub(crate) fn fault_line(
     Ok(line)
 }
 
-/// The reply that refuses an input by this fault.
+/// The reply that refuses an input by this error.
 pub(crate) fn refused(alloc: Global, name: &str, details: &[Detail<'_>]) -> Reply
     ensures { (result ≡ replies.Says (answers.Refused (refusal_line (record { name = name.now; details = map said_by details.now }))))
         ⊎ (result ≡ replies.Memory) }

@@ -31,7 +31,7 @@ use tydi_base::Text;
 use tydi_io::{Sink, Store};
 
 /// Runs the tool on the words after the program's name: reads the files that they name from the store, writes the answer to
-/// out, and a line to err where there is a fault.
+/// out, and a line to err where there is an error.
 pub fn run<S: Store, O: Sink, E: Sink>(
     alloc: Global,
     words: &[Text],
@@ -45,7 +45,7 @@ pub fn run<S: Store, O: Sink, E: Sink>(
     ensures runs { Runs (Rose (S.faults store.old) (S.faults store.new)) (Rose (O.faults out.old) (O.faults out.new))
         (Rose (E.faults err.old) (E.faults err.new)) (request_of words.now) (S.files store.old) (S.started store.old) (S.started store.new)
         result (O.taken out.old) (O.taken out.new) (E.taken err.old) (E.taken err.new) }
-    // Usage comes exactly where the words spell no command, a fault of err aside.
+    // Usage comes exactly where the words spell no command, a failure of err aside.
     ensures usage { UsageExactly (request_of words.now) (Rose (E.faults err.old) (E.faults err.new)) result }
     ensures usage_line { result ≡ statuses.Usage →
         Adds (O.taken out.old) (O.taken out.new) [] × Adds (E.taken err.old) (E.taken err.new) (codes "tydi: Usage\n") }
@@ -62,7 +62,7 @@ pub fn run<S: Store, O: Sink, E: Sink>(
     // Done, Verdict and Refused come only as the answer to the words and to files that the store may have, written to the byte.
     ensures answered { EndsInAnswer result → IsAnswered (S.files store.old) (request_of words.now) result
         (O.taken out.old) (O.taken out.new) (E.taken err.old) (E.taken err.new) }
-    // Where the store tells its files, such an answer comes only where its cause stands in them, by a row of the table of causes.
+    // Where the store reports its files, such an answer comes only where its cause stands in them, by a row of the table of causes.
     ensures caused { EndsInAnswer result → IfSome (S.files store.old) (λ known. IsCaused known (request_of words.now) result
         (O.taken out.old) (O.taken out.new) (E.taken err.old) (E.taken err.new)) }
     // Where no count of faults rose, the run ends with that answer, as Usage, or for want of memory.
@@ -71,7 +71,7 @@ pub fn run<S: Store, O: Sink, E: Sink>(
         IsComplete (S.files store.old) (request_of words.now) result (O.taken out.old) (O.taken out.new) (E.taken err.old) (E.taken err.new) }
     // Out keeps its bytes, and is never given more than a front of the answer's text or verdict.
     ensures out_front { OutFront (S.files store.old) (request_of words.now) (O.taken out.old) (O.taken out.new) }
-    // Where memory was wanted, out has not got the whole of a text.
+    // Where memory was missing, out did not get the whole of a text.
     ensures out_part { result ≡ statuses.Memory → OutPart (S.files store.old) (request_of words.now) (O.taken out.old) (O.taken out.new) }
     ensures out_left { LeavesOut result → Adds (O.taken out.old) (O.taken out.new) [] }
     // Where the answer to the store's files is a refusal, nothing is given to out.

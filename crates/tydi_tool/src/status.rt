@@ -14,7 +14,7 @@ pub enum Status {
     ReadFault,
     /// Out or err could not be written.
     WriteFault,
-    /// Memory was wanted and there was none.
+    /// The run needed memory and there was none.
     Memory,
     /// An offence, an unfinished trace or a disagreement was found, with a line to out.
     Verdict,

@@ -66,7 +66,7 @@ impl Reader<Survey> for TraceFile<'_> {
     }
 }
 
-/// The survey of a text that was read to its end, or the reply to its fault.
+/// The survey of a text that was read to its end, or the reply to its error.
 fn survey_of(
     alloc: Global,
     word: &Text,
@@ -81,7 +81,7 @@ fn survey_of(
     }
 }
 
-/// What a survey found, where there was memory for it.
+/// The heads and the result of a survey, or `Reply::Memory` where the survey ran out of memory.
 fn found(surveyed: Surveyed) -> Result<Survey, Reply>
     ensures { IsKept surveyed.header.heads surveyed.found result }
 {
@@ -95,7 +95,7 @@ fn found(surveyed: Surveyed) -> Result<Survey, Reply>
     })
 }
 
-/// The reply to a text with this fault.
+/// The reply to a text with this error.
 fn faulted(alloc: Global, word: &Text, fault: TraceFault) -> Reply
     ensures { IsRefusedBy (refusal_of_trace word.now fault) result }
 {

@@ -55,7 +55,7 @@ fn read_text(alloc: Global, word: &Text, text: &str) -> Result<Ast, Reply>
     }
 }
 
-/// The reply to a text with this fault of its tokens.
+/// The reply to a text with this error of its tokens.
 fn misspelled(alloc: Global, word: &Text, fault: LexFault) -> Reply
     ensures { IsRefusedBy (refusal_of_lexing word.now fault) result }
 {
@@ -82,7 +82,7 @@ fn read_tokens(alloc: Global, word: &Text, text: &str, tokens: &[Token]) -> Resu
     }
 }
 
-/// The reply to tokens that spell no tree, with this fault.
+/// The reply to tokens that spell no tree, with this error.
 fn unparsed(alloc: Global, word: &Text, tokens: &[Token], fault: ParseFault) -> Reply
     requires { NamesToken (length tokens.now) fault }
     ensures { IsRefusedBy (refusal_of_parsing word.now tokens.now fault) result }

@@ -38,7 +38,7 @@ same_params one other lanes dims level element user =
     let by_user : ℕ → Parameters = λ n. record { lanes = other.lanes; dims = other.dims; level = other.level; element = other.element; user = n } in
     ap by_lanes lanes ∙ ap by_dims dims ∙ ap by_level level ∙ ap by_element element ∙ ap by_user user
 
--- what is found of a Stream's parameters are its parameters, where they are in their ranges
+-- the parameters found for a Stream are its parameters, where they are in their ranges
 pub params_at-is : (inner : Around) (element user : Ltype) (settings : Settings) (lanes dims e u : ℕ) → 1 ≤ inner.product.den → IsCeiling inner.product lanes → dims ≡ inner.dims
     → e ≡ saturated (width_of element) → u ≡ saturated (width_of user) → AreInRange lanes dims e u
     → record { lanes = lanes; dims = dims; level = settings.level; element = e; user = u } ≡ params_at inner element user settings

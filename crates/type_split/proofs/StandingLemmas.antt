@@ -15,7 +15,7 @@ use Rattle.type_split.specs.Streams as streams
 use Rattle.type_split.specs.declared.place.Place.{Place}
 use Rattle.type_split.proofs.CountLemmas.{nodes_in-length}
 
--- ---- what stands in a list from a number on
+-- ---- the elements of a list from a number on
 
 dropped : (nodes : List StreamNode) (number : ℕ) (node : StreamNode) (more : List StreamNode) → drop number nodes ≡ node ∷ more
     → (slice_get nodes number ≡ Some node) × (drop (suc number) nodes ≡ more)
@@ -66,7 +66,7 @@ AreFrom-inside nodes names place number physical element user settings from =
     AreFrom-node nodes number (node_at names place number physical element user settings)
     (nodes_in names (place_inside place number settings) (suc number) ((if is_physical element user settings then 1 else 0) + physical) element) from
 
--- ---- what holds of each node, by its number
+-- ---- relations that hold for each node, by its number
 
 abbrev EachFrom : (ℕ → StreamNode → Type 0) → ℕ → List StreamNode → Type 0
 EachFrom Holds number [] = Unit {0}
@@ -158,7 +158,7 @@ gathered-append at number (node ∷ front) back next is =
     ap (λ l. at number node ++ l) (gathered-append at (suc number) front back next (omega (arith, is)))
     ∙ sym (append_assoc (at number node) (gathered at (suc number) front) (gathered at next back))
 
--- what is gathered of the nodes of a part, and of the parts behind it
+-- the list gathered of the nodes of a part, and of the parts behind it
 pub gathered-part : {A : Type 0} (at : ℕ → StreamNode → List A) (names : List (List ℕ)) (place : Place) (number physical : ℕ) (name : List ℕ) (ltype : Ltype) (more : Parts)
     → gathered at number (nodes_in_parts names place number physical (part name ltype more))
     ≡ gathered at number (nodes_in (names ++ name ∷ []) place number physical ltype)

@@ -1,4 +1,4 @@
--- What a type without faults is.
+-- Properties of a type without errors.
 use Rattle.std.proofs.Common.{◌≡◌, ℕ, suc, zero, ◌*◌, ◌≤◌, Bool, true, false, cond, not, ◌||◌, [], ◌∷◌, ◌++◌, ltb, eqb, refl, sym, ◌∙◌, arith}
 use Rattle.std.proofs.lemmas.Bool.Decides.{nat_tests}
 use Rattle.logical_types.specs.declared.fault.TypeFault.TheVariants as faults

@@ -1,5 +1,5 @@
--- Which nodes are carried (this project's own): what a node that has no physical stream carries is told by a Stream inside it whose
--- sequences are those of the node.
+-- Which nodes are carried (this project's own): a node without a physical stream is carried by a Stream inside it whose sequences
+-- are those of the node.
 use Rattle.std.specs.Prelude.{ℕ, Bool, true, false, not, ◌||◌, ◌&&◌, List, [], ◌∷◌, map, filter, Option, is_some, slice_get}
 use Rattle.logical_types.specs.Tree.{Ltype, null, bits, group, union, stream, Parts, no_parts, part}
 use Rattle.logical_types.specs.declared.ltype.Sync.{Sync}

@@ -1,4 +1,4 @@
--- What a Stream's place makes of it. It serves the search for nodes, and no public clause. This project's own.
+-- The node of a Stream at its place. It serves the search for nodes, and no public clause. This project's own.
 use Rattle.std.specs.Prelude.{◌≡◌, ℕ, ◌*◌, ◌≤◌}
 use Rattle.logical_types.specs.Faults.{inside}
 use Rattle.logical_types.specs.Tree.{Ltype, plain, settings_of}
@@ -16,7 +16,7 @@ pub record IsFound (stream : StreamType) (place : Place) (number : ℕ) (found :
   pub params : found.params ≡ params_at (inside place.around (settings_of stream)) (plain stream.element) (plain stream.user) (settings_of stream)
   pub inside_is : found.inside ≡ place_inside place number (settings_of stream)
 
--- what is around the types of a Stream, and these types, are within the ranges of the parameters of streams
+-- the surroundings of the types of a Stream, and these types, are within the ranges of the parameters of streams
 pub record IsInRange (inner : Around) (element user : Ltype) : Type 0 where
   pub some_lane : 1 ≤ inner.product.num
   pub lanes_most : inner.product.num ≤ 128 * inner.product.den

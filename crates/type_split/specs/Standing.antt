@@ -38,7 +38,7 @@ pub record HasDims (nodes : List StreamNode) (node : StreamNode) : Type 0 where
   pub is_around : IsAround nodes node.parent around
   pub dims : node.params.dims ≡ effective_dims node.own_dims node.sync around
 
--- what holds of each node of a port's type, by its number
+-- the relation holds for each node of a port's type, by its number
 abbrev pub HoldOfNodes : (List StreamNode → ℕ → StreamNode → Type 0) → Type 0
 HoldOfNodes Holds = (ltype : Ltype) (number : ℕ) (node : StreamNode) → slice_get (nodes_of ltype) number ≡ Some node → Holds (nodes_of ltype) number node
 
@@ -79,14 +79,14 @@ ends_of nodes = gathered end_at 0 nodes
 
 -- ---- nodes without a physical stream
 
--- a Stream that is carried tells what a node of this number carries: it is Sync, and the node is right around it
+-- a Stream carries the sequences of the node of this number: it is carried, it is Sync, and the node is right around it
 pub record IsToldBy (nodes : List StreamNode) (number at : ℕ) (child : StreamNode) : Type 0 where
   pub found : slice_get nodes at ≡ Some child
   pub parent : child.parent ≡ Some number
   pub sync : child.sync ≡ syncs.Sync
   pub carried : is_carried child ≡ true
 
--- a node without a physical stream has elements without bits, and some Stream tells what it carries
+-- a node without a physical stream has elements without bits, and some Stream carries its sequences
 pub record IsTold (nodes : List StreamNode) (number : ℕ) (node : StreamNode) : Type 0 where
   pub narrow : width_of node.element ≡ 0
   pub has : has_carried node.element ≡ true
@@ -94,7 +94,7 @@ pub record IsTold (nodes : List StreamNode) (number : ℕ) (node : StreamNode) :
   pub child : StreamNode
   pub told : IsToldBy nodes number at child
 
--- where all nodes of a port's type are carried, each without a physical stream is told so
+-- where all nodes of a port's type are carried, each without a physical stream has a Stream that carries its sequences
 abbrev pub AreToldWhereCarried : Type 0
 AreToldWhereCarried = (ltype : Ltype) → uncarried_of (split_of ltype) ≡ None → (number : ℕ) (node : StreamNode) → slice_get (nodes_of ltype) number ≡ Some node
     → node.phys ≡ None → IsTold (nodes_of ltype) number node

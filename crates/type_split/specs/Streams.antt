@@ -14,7 +14,7 @@ use Rattle.type_split.specs.declared.split.Split.{Split}
 use Rattle.type_split.specs.declared.fault.SplitFault.{SplitFault}
 use Rattle.type_split.specs.declared.fault.SplitFault.TheVariants as faults
 
--- what each node gives with its number, one after another; the first node has this number
+-- the list that each node gives with its number, one after another; the first node has this number
 abbrev pub gathered : {A : Type 0} → (ℕ → StreamNode → List A) → ℕ → List StreamNode → List A
 gathered at number [] = []
 gathered at number (node ∷ more) = at number node ++ gathered at (suc number) more
@@ -63,7 +63,7 @@ abbrev pub Blames : Option (List (List ℕ)) → SplitFault → Type 0
 Blames clash (faults.NameClash path) = clash ≡ Some path
 Blames clash faults.Memory = Unit {0}
 
--- ---- what a split says
+-- ---- the plain data of a split
 
 abbrev pub node_view : Node → StreamNode
 node_view node = record {

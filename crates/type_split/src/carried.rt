@@ -1,4 +1,4 @@
-//! Nodes that no physical stream tells of.
+//! Nodes that no physical stream carries.
 
 ghost use Rattle.std.specs.Prelude.{◌≡◌};
 ghost use Rattle.std.specs.Option.{option_copied};

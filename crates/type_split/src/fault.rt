@@ -3,7 +3,7 @@ ghost use Rattle.type_split.specs.declared.fault.SplitFault.TheVariants as fault
 
 use tydi_base::{Memory, Path};
 
-/// Why a type is not split. That streams of one path clash is this project's own.
+/// Why a type is not split. The rule that two physical streams may not have one path is this project's own.
 #[derive(Debug, Drop)]
 pub enum SplitFault {
     /// Two physical streams have this path: it is that of the second of the first such two.

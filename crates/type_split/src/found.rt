@@ -1,4 +1,4 @@
-//! What a Stream's place makes of it.
+//! The node of a Stream at its place.
 
 ghost use Rattle.std.specs.Prelude.{◌≡◌, ◌≤◌, [], IfSome, IsSome};
 ghost use Rattle.logical_types.specs.Faults.{faults_within};
@@ -20,14 +20,14 @@ pub(crate) struct Found {
 }
 
 impl Found {
-    /// The Stream of this number at this place. None only where it has a fault, or the number does not fit.
+    /// The Stream of this number at this place. None only where it has an error, or the number does not fit.
     pub(crate) fn at(stream: &StreamType, place: &Place, number: usize) -> Option<Found>
         ensures found { IfSome result (IsFound stream.now place.now number) }
         ensures flows { faults_within place.now.around (plain_of_stream stream.now) ≡ [] → 1 ≤ place.now.around.product.num
             → IfSome result (λ found. 1 ≤ found.inside.around.product.num) }
         ensures some { faults_within place.now.around (plain_of_stream stream.now) ≡ [] → 1 ≤ place.now.around.product.num → number ≤ 65536 → IsSome result }
     {
-        // What a fraction keeps of itself is known where `den` is called.
+        // The call of `den` makes the invariant of the fraction known.
         prove!(place.around.product.den() > 0);
         prove!(stream.throughput.den() > 0);
         let around = inside(stream, &place.around).ok()?;
@@ -53,7 +53,7 @@ fn params_at(stream: &StreamType, around: &Around) -> Option<Params>
     ensures value { IfSome result (λ params. params ≡ spec.params_at around.now (plain stream.now.element) (plain stream.now.user) (settings_of stream.now)) }
     ensures some { IsInRange around.now (plain stream.now.element) (plain stream.now.user) → IsSome result }
 {
-    // What a fraction keeps of itself is known where `den` is called.
+    // The call of `den` makes the invariant of the fraction known.
     prove!(around.product.den() > 0);
     let lanes = u16::try_from(around.product.ceil()).ok()?;
     let dims = u8::try_from(around.dims).ok()?;

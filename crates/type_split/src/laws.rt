@@ -1,9 +1,10 @@
-//! What holds of all splits of ports' types.
+//! The laws of all splits of ports' types.
 
 ghost use Rattle.type_split.specs.Elements.{NodesHaveElements};
 ghost use Rattle.type_split.specs.Standing.{AreToldWhereCarried, NodesHaveDims, NodesStand, RootsInOrder};
 
-/// The type of each node's elements has no fault but of throughputs, lanes and dimensions, at most 65,536 nodes, and at most 4,096 bits.
+/// The type of each node's elements has no error but of throughputs, lanes and dimensions, at most 65,536 nodes, and at most 4,096
+/// bits.
 pub fn nodes_have_elements()
     ensures { NodesHaveElements }
 {}

@@ -1,6 +1,6 @@
 use logical_types::Around;
 
-/// What is around a type in a port's type.
+/// The surroundings of a type in a port's type.
 #[derive(Clone, Copy)]
 pub(crate) struct Place {
     /// The throughputs and the dimensionality around it.

@@ -23,7 +23,7 @@ pub struct Node<'t> {
     pub path: Path,
     /// The number of the node around it. None for the outermost.
     pub parent: Option<u32>,
-    /// Its own dimensionality, without that of the nodes around it. That in `params` is the effective one.
+    /// Its own dimensionality, without that of the nodes around it. `params` has the effective one.
     pub own_dims: u8,
     /// The parameters of its physical stream, whether it has one or not.
     pub params: Params,

@@ -38,7 +38,7 @@ impl<'t> Splitting<'t> {
         }
     }
 
-    /// Adds the nodes of a type at this place. Of a Stream that has a fault nothing is added.
+    /// Adds the nodes of a type at this place. A Stream with an error adds nothing.
     #[cycle(split)]
     pub(crate) fn add_type(&mut self, ltype: &'t LType, place: &Place) -> Result<(), Memory>
         ensures { Splits self.old self.new result place.now (plain ltype.now) }

@@ -20,7 +20,7 @@ IsReduced-lowest num den some =
     let greatest = divisor_from-is (suc den) num den (omega arith) in
     IsReduced-divided num den (divisor_from (suc den) num den) (omega arith) (pos_of_dvd_of_pos greatest.1 some) greatest
 
--- what is a fraction in lowest terms is the one of this project
+-- a fraction in lowest terms is the one of this project
 pub lowest_from_IsReduced : (num den : ℕ) (fraction : Fraction) → 0 < den → IsReduced num den fraction → fraction ≡ lowest num den
 lowest_from_IsReduced num den fraction some reduced =
     let same = same_from_IsReduced num den fraction (lowest num den) some reduced (IsReduced-lowest num den some) in

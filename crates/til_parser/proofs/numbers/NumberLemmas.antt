@@ -13,7 +13,7 @@ use Rattle.til_lexer.specs.{Spans.digits_at, Spelling.AreDigits, Spelling.IsWhol
 use Rattle.til_lexer.proofs.SpelledPieces.{prefix_up_to}
 use Rattle.til_parser.specs.Numbers.{digits_before, digits_behind}
 
--- what a number's two parts are
+-- the two parts of a number
 pub record AreParts (number : List ℕ) : Type 0 where
   pub some : 0 < length (digits_before number)
   pub before : list_all is_ascii_digit (digits_before number) ≡ true
@@ -38,7 +38,7 @@ AreParts-number number (inl whole) = subst AreParts (append-nil number) (ArePart
 AreParts-number number (inr point) =
     rw point.parts (AreParts-at point.before (46 ∷ point.behind) point.digits_before refl point.digits_behind.each point.few)
 
--- ---- that numbers fit
+-- ---- numbers fit
 
 pub tens_pos : (n : ℕ) → 0 < 10 ^ n
 tens_pos n = pow-le-pow_right {n = 10} (omega arith) {i = 0} {j = n} (omega arith)
@@ -57,11 +57,11 @@ room-next value digits i all less room =
     le_trans (mul-le-mul_right (10 ^ (length digits - (i + 1))) grows)
     (rw (mul_assoc (value + 1) 10 (10 ^ (length digits - (i + 1))), ← pow-succ' 10 (length digits - (i + 1)), ← left) room)
 
--- what has room fits
+-- a number that has room fits
 pub room-fits : (number left : ℕ) → (number + 1) * 10 ^ left ≤ 2 ^ 64 → number < 2 ^ 64
 room-fits number left room = let some = tens_pos left in let grows = le-mul_of_pos_right (number + 1) some in omega arith
 
--- what digits spell is less than ten to their count
+-- digits spell a number below ten to their count
 pub read_on-below : (digits : List ℕ) → list_all is_ascii_digit digits ≡ true → read_on 0 digits < 10 ^ length digits
 read_on-below digits each = let all = own.to digits each in rw (own.same digits all) (digits_value-lt 10 digits all)
 

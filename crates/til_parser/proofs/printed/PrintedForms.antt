@@ -38,7 +38,7 @@ apart_from kind spelling gap (next ∷ pieces) are stops = λ none.
     ap (goes_on kind spelling) (sym (first_spelled next pieces are.0))
     ∙ subst (λ g. goes_on kind spelling (get_or (g ++ spelled_text (next ∷ pieces)) 0 0) ≡ false) none stops
 
--- ---- what is printed
+-- ---- printed texts
 
 -- a text is printed of tokens. Its last one is of this kind, or of one that goes on with less; what is read of its tokens is
 -- something of A, in the form that belongs to it.
@@ -55,7 +55,7 @@ Fixed last text F = Printed {A = Unit {0}} last text (λ _. F)
 abbrev pub free : TokenKind
 free = kinds.Comma
 
--- what is read is something else too
+-- a text that is read as one thing is read as another too
 pub made : {A B : Type 0} {P : A → Form} {Q : B → Form} {last : TokenKind} {text : List ℕ} (f : A → B) → ((a : A) (ts : List Lexeme) → P a ts → Q (f a) ts)
     → Printed last text P → Printed last text Q
 made f holds printed = record {
@@ -64,7 +64,7 @@ made f holds printed = record {
   reads = λ ts are. let found = printed.reads ts are in (f found.0, holds found.0 ts found.1);
 }
 
--- what is read is seen as something else
+-- a text that is read as one thing is seen as another
 pub seen : {A B : Type 0} {Q : B → Form} {last : TokenKind} {text : List ℕ} (f : A → B) → Printed last text (λ a. Q (f a)) → Printed last text Q
 seen f printed = made f (λ a ts is. is) printed
 
@@ -72,12 +72,12 @@ seen f printed = made f (λ a ts is. is) printed
 pub at_end : {A : Type 0} {P : A → Form} {last : TokenKind} {text : List ℕ} → Printed last text P → Printed last (text ++ []) P
 at_end {P = P} {last = last} {text = text} printed = subst (λ l. Printed last l P) (sym (append-nil text)) printed
 
--- of the same tokens, what is read is the same
+-- the same tokens are read as the same
 retold : {A : Type 0} {P : A → Form} {last wide : TokenKind} {text other : List ℕ} (printed : Printed last text P)
     → ((rest : List ℕ) (more : List Shown) → Stops wide rest → IsSplit rest more → IsSplit (other ++ rest) (printed.tokens ++ more)) → Printed wide other P
 retold printed before = record { tokens = printed.tokens; before = before; reads = printed.reads }
 
--- what goes on with nothing stands where a word may
+-- a text that goes on with nothing stands where a word may
 pub worded : {A : Type 0} {P : A → Form} {text : List ℕ} → Printed free text P → Printed kinds.Word text P
 worded printed = retold printed (λ rest more stops. printed.before rest more refl)
 

@@ -27,7 +27,7 @@ use Rattle.til_parser.specs.declared.tree.AstKind.TheVariants as decls
 use Rattle.til_parser.specs.declared.tree.AstPorts.TheVariants as ports
 use Rattle.til_parser.specs.declared.tree.AstStmt.TheVariants as stmts
 
--- what is read again, which is the same as this
+-- a value that is read again, and is the same as this
 abbrev Again : {X : Type 0} → (X → X → Type 0) → X → Type 0
 Again {X} Same x = (again : X) × Same x again
 

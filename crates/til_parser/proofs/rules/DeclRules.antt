@@ -35,7 +35,7 @@ end-rule =
 
 -- ---- statements
 
--- what follows the name of an instance, and that of a link
+-- the form after the name of an instance, and after that of a link
 abbrev StmtRest : AstName → AstStmt → Form
 StmtRest called x ts = Made (stmts.Instance called) (λ p. Of kinds.Equals ⋯ (Path p.names ⋯ Of kinds.Semicolon)) x ts
     ⊎ Made (λ (l : Option AstName × AstEnd). stmts.Link (record { first = called; second = l.0 }) l.1)
@@ -105,7 +105,7 @@ body-rule =
 pub keyword-rule : IsRule TooDeep IsFormed keyword (λ x. Word (keyword_word x)) (λ _. Anything) (λ _. Unit {0}) Never
 keyword-rule = table-rule keyword_word all_keywords (elim [ keywords.Type ↦ refl | _ ↦ refl ]) keywords.Type refl
 
--- what follows the keyword and the name of a declaration
+-- the form after the keyword and the name of a declaration
 abbrev pub KindForm : Keyword → AstKind → Form
 KindForm keywords.Type = Made decls.Alias (λ x. Of kinds.Equals ⋯ S x)
 KindForm keywords.Interface = Made decls.Interface (λ x. Of kinds.Equals ⋯ SpellsPorts x)

@@ -104,7 +104,7 @@ pub no_doc : (ts : List Lexeme) → tells (is_kind kinds.Word) false ts ≡ true
 unfolding same_kind
 no_doc = kind-not kinds.Word kinds.Doc refl
 
--- what may be there begins so, and what follows it too
+-- an optional part begins so, and so does the form after it
 pub optional-tells : {A : Type 0} {Spelled : A → Form} (test : Lexeme → Bool) (b : Bool) (Second : Form)
     → ((x : A) (front rest : List Lexeme) → Spelled x front → tells test false (front ++ rest) ≡ b)
     → ((back rest : List Lexeme) → Second back → tells test false (back ++ rest) ≡ b)

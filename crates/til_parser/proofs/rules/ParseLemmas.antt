@@ -12,7 +12,7 @@ use Rattle.til_parser.specs.Faults.{NamesToken, fault_at, IsFaultOf, IsTold, Tre
 use Rattle.til_parser.proofs.rules.ProjectRules.{project-rule}
 use Rattle.til_parser.specs.declared.refusal.TooDeep.{TooDeep}
 
--- ---- what is read
+-- ---- the tree that is read
 
 project-ends : (n : ℕ) (ts rest : List Lexeme) (ast : Ast) → project n ts ≡ took ast rest → rest ≡ []
 unfolding project
@@ -62,7 +62,7 @@ tree_or_fault ts formed = record {
 
 -- ---- the clauses of `parse`
 
--- what is said of so many tokens, where so many are left
+-- the error of so many tokens, where so many are left
 pub said : (ts left : List Lexeme) (count some : ℕ) (e : Fault TooDeep) (fault : ParseFault) → All IsFormed ts → (e ≢ reading.Memory → project 64 ts ≡ stopped e left)
     → fault ≡ fault_at e count some → count ≡ length ts → some ≡ length left → fault ≢ faults.Memory → IsFaultOf ts fault
 said ts left count some e fault formed reads is every rest other =
@@ -75,7 +75,7 @@ named ts count (faults.Unexpected k) every is = subst (λ n. k < n) (sym every) 
 named ts count (faults.TooDeep k) every is = subst (λ n. k < n) (sym every) (is (λ e. absurd cc)).there
 named ts count _ every is = tt
 
--- tokens with a fault are told it, or want of memory
+-- parsing tokens with an error reports it, or want of memory
 pub told : (ts : List Lexeme) → All IsFormed ts → (fault : ParseFault) → (fault ≢ faults.Memory → IsFaultOf ts fault) → IsTold ts (Err fault)
 told ts formed faults.Memory is other f = inr refl
 told ts formed fault is other f = inl (ap Err ((tree_or_fault ts formed).one fault other (is (λ e. absurd cc)) f))

@@ -77,7 +77,7 @@ module _ (n : ℕ) where
 
   -- ---- projects
 
-  -- what is made of namespaces are these, one at least
+  -- the namespaces that make a project are these, one at least
   made_is : (all : List AstNamespace) (ast : Ast) → (project_of all ≡ Some ast) ↔ ((0 < length all) × (all ≡ ast.namespaces))
   made_is [] ast = (λ is. absurd (none-some ast is), λ some. absurd (omega (arith, some.0)))
   made_is (x ∷ all) ast = (λ is. (omega arith, ap (λ (a : Ast). a.namespaces) (same_Some _ ast is)), λ some. ap (λ l. Some (record { namespaces = l })) some.1)

@@ -31,7 +31,7 @@ all_arguments-all name =
 pub all_arguments-apart : AreApart all_arguments
 all_arguments-apart = are_apart-apart one_or_two all_arguments refl
 
--- ---- what is given
+-- ---- the given arguments
 
 -- the value that a Stream has for an argument
 abbrev pub value : AstStream → (name : Argument) → Value name
@@ -146,7 +146,7 @@ abbrev Spelled : (name : Argument) → Value name → Form
 Spelled name x = let given = put name x none_given in let one = filled (unwrap_or given.element types.Null) given in
     grammar.Held (S one.element) (S one.user) (settings_of one) name
 
--- what may follow the value of an argument: no `::`, with which a path goes on, and no point, with which a level does
+-- the tokens that may follow the value of an argument: no `::`, with which a path goes on, and no point, with which a level does
 abbrev ValueNext : Form
 ValueNext rest = PathNext rest × NoneNext kinds.Point rest
 

@@ -32,7 +32,7 @@ one Is lexeme is = record { lexeme = lexeme; all = refl; is = is }
 abbrev pub made : TokenKind → List ℕ → Lexeme
 made kind spelling = record { kind = kind; spelling = spelling; place = start }
 
--- a token of which a test tells, as this one
+-- a mark: a test for a token, which this one passes
 abbrev token_mark : (test : Lexeme → Bool) (Is : Lexeme → Type 0) → ((t : Lexeme) → Decides (test t) (Is t)) → (thing : Lexeme) → IsFormed thing → Is thing → Mark IsFormed
 token_mark test Is decides thing good is = record {
   test = test;
@@ -71,13 +71,13 @@ open_paren = kind_mark kinds.OpenParen _ refl
 abbrev pub close_paren : Mark IsFormed
 close_paren = kind_mark kinds.CloseParen _ refl
 
--- ---- what a token is not
+-- ---- tests that a token does not pass
 
 -- no token of this kind stands next
 abbrev pub NoneNext : TokenKind → Form
 NoneNext kind rest = tells (is_kind kind) false rest ≡ false
 
--- after such a token a test for another kind or word tells no
+-- after such a token a test for another kind or word answers no
 pub Of-not : (kind other : TokenKind) → same_kind kind other ≡ false → (front rest : List Lexeme) → Of kind front → NoneNext other (front ++ rest)
 Of-not kind other apart front rest s = rw (s.all, s.is) apart
 
@@ -91,7 +91,7 @@ kind-apart kind other apart t is = rw (kind_is t.kind kind is) apart
 pub kind-not : (kind other : TokenKind) → same_kind kind other ≡ false → (rest : List Lexeme) → tells (is_kind kind) false rest ≡ true → NoneNext other rest
 kind-not kind other apart = begins-apart (is_kind kind) (is_kind other) false (kind-apart kind other apart)
 
--- what begins with a word, or with documentation
+-- a token that begins an item is a word or documentation
 abbrev pub begins_item : Lexeme → Bool
 begins_item t = is_kind kinds.Word t || is_kind kinds.Doc t
 

@@ -37,7 +37,7 @@ not_told x t is (Some k) told =
     absurd (true≢false (sym is.named ∙ ap is_name (sym is.text ∙ (word_at-word type_word all_type_words each_type_word t k told).text)
     ∙ elim k as (λ k. is_name (type_word k) ≡ false) [ words.Null ↦ refl | _ ↦ refl ]))
 
--- ---- what goes on to something of a form
+-- ---- tokens that go on to something of a form
 
 in_brackets : {A : Type 0} {Within : A → Form} → GoesOn IsFormed Within [] → GoesOn IsFormed (λ x. Bracketed (Within x)) []
 in_brackets g = let opens = (of_mark {E = TooDeep} open_paren).is.example in let closes = (of_mark {E = TooDeep} close_paren).is.example in record {
@@ -47,7 +47,7 @@ in_brackets g = let opens = (of_mark {E = TooDeep} open_paren).is.example in let
   spelled = joins opens.more _ opens.spelled (joins g.more closes.more g.spelled closes.spelled);
 }
 
--- nothing more is wanted
+-- nothing more is needed
 alone : {A : Type 0} {front : List Lexeme} (P : A → Form) (x : A) → P x (front ++ []) → GoesOn IsFormed P front
 alone P x s = record { value = x; more = []; good = All-nil IsFormed; spelled = s }
 
@@ -80,7 +80,8 @@ same_form is ts = (subst (λ (F : Form). F ts) is, subst (λ (F : Form). F ts) (
 null_spelled : (ts : List Lexeme) → S types.Null ts ↔ Lead words.Null ts
 null_spelled = same_form (ap SpellsType plain-Null)
 
--- what a type of a word holds, the type of it, how tokens after the word spell it, some that do, and that the whole spells the type
+-- the content of a type of a word: the type of it, how tokens after the word spell it, some that do, and that the whole spells the
+-- type
 record Content (Leading : Form) : Type 1 where
   Held : Type 0
   made : Held → AstType
@@ -233,7 +234,7 @@ ltype-rule zero = unfit-rule IsFormed (record {}) begins_type S (λ _. PathNext)
     (goes_as (λ _. types.Null) (λ _ ts. (null_spelled ts).1) null_word.is.example) begun starts
 ltype-rule (suc n) = type-rule n (ltype n) (TypeTo n) (ltype-rule n)
 
--- ---- what takes a token at least
+-- ---- readers that take a token at least
 
 pub Shrinks-part : (n : ℕ) (found : List AstPart) → Shrinks (one_more (part (ltype n)) found)
 Shrinks-part n found = mapped-less (λ x. found ++ x ∷ []) (part (ltype n))

@@ -27,7 +27,7 @@ point-written rest den before pointed whole some point all =
 
 -- ---- types
 
--- what stood in front of a text that more was added to, stands in front of what has that text in front
+-- a front of a text that more was added to is a front of a text with that one in front
 pub front_before : (old more mid new : List ℕ) → mid ≡ old ++ more → StandsInFront mid new → StandsInFront old new
 front_before old more mid new added front =
     let within : length old ≤ length mid = omega (arith, ap length added, length-append old more) in

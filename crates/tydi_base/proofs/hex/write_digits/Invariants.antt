@@ -4,7 +4,7 @@ use Rattle.tydi_base.specs.Hex.{hex_of}
 use Rattle.tydi_base.specs.Writing.{StandsInFront}
 use Rattle.tydi_base.proofs.hex.write_digits.Given as goal
 
--- what is written, and then the digits of the bits that are left
+-- the digits that are written, and then those of the bits that are left
 abbrev pub invariant-digits : goal.invariant-digits
 invariant-digits l = record {
   within : l.at ≤ l.fn.count;

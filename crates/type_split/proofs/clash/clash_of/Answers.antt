@@ -2,7 +2,7 @@ use Rattle.std.proofs.Common.{◌≡◌, ◌∙◌, Bool, not, true, false, refl
 use Rattle.type_split.proofs.KeyLemmas.{AreSeen-clash, AreSeen-more}
 use Rattle.type_split.proofs.clash.clash_of.Goals as goal
 
--- what an insertion says tells whether the key was there
+-- the answer of an insertion shows whether the key was there
 was_there : (added there : Bool) → added ≡ not there → added ≡ false → there ≡ true
 was_there added true is fails = refl
 was_there added false is fails = sym fails ∙ is

@@ -3,7 +3,7 @@ use Rattle.logical_types.specs.Tree.{plain_parts}
 use Rattle.type_split.specs.Nodes.{streams_in_parts}
 use Rattle.type_split.proofs.counts.+number_of_streams.Given as goal
 
--- what is counted, and the parts that are left, are all
+-- the counted nodes, and the parts that are left, are all
 pub record AreCounted (count left all : ℕ) : Type 0 where
   pub fits : count ≤ 2 ^ 64 - 1
   pub same : min (count + left) (2 ^ 64 - 1) ≡ min all (2 ^ 64 - 1)
