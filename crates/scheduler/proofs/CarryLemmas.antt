@@ -1,4 +1,4 @@
--- What the transfer of some lanes carries.
+-- The items that the transfer of some lanes carries.
 use Rattle.std.proofs.Common.{◌≡◌, ◌∙◌, ◌⊎◌, inl, inr, ℕ, zero, suc, ◌-◌, ◌^◌, ◌<◌, ◌≤◌, Bool, true, false, ◌||◌, ◌&&◌, ◌==◌, nat_le, if◌then◌else◌, List, [], ◌∷◌, ◌++◌, length, map, Option, Some, None, is_some, max, refl, sym, ap, arith}
 use Rattle.std.specs.Int.{bit_at}
 use Rattle.std.proofs.lemmas.Bool.{cases_lt, or_right}
@@ -128,7 +128,7 @@ abbrev pub item_for : Option (List Bool) → List Item
 item_for None = []
 item_for (Some word) = Elem word ∷ []
 
--- what a lane carries, as items
+-- the items that a lane carries
 abbrev pub carried : Lane → List Item
 carried lane = item_for lane.word ++ map Close lane.closes
 

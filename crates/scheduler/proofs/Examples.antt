@@ -8,7 +8,7 @@ use Rattle.physical_stream.specs.declared.item.Item.{Item}
 use Rattle.physical_stream.specs.declared.item.Item.TheVariants.{Elem, Close}
 use Rattle.scheduler.specs.Lanes.{transfer_of}
 use Rattle.scheduler.specs.Planned.{load_of, first_wish}
-use Rattle.scheduler.specs.declared.plan.Wish.{Wish}
+use Rattle.plan_text.specs.declared.plan.Wish.{Wish}
 
 -- the signals of a transfer but the user word, as numbers
 record Seen : Type 0 where

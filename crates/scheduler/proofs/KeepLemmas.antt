@@ -1,4 +1,4 @@
--- What a wish takes keeps the rules, and what is left goes on so.
+-- The items that a wish takes keep the rules, and so do the items that are left.
 use Rattle.std.proofs.Common.{◌≡◌, ◌∙◌, ◌⊎◌, inl, inr, ℕ, zero, suc, ◌+◌, ◌-◌, ◌*◌, ◌<◌, ◌≤◌, Bool, true, false, ◌||◌, ◌&&◌, ◌==◌, nat_le, nat_lt, if◌then◌else◌, List, [], ◌∷◌, ◌++◌, length, take, drop, map, min, Option, Some, refl, sym, ap, subst, append_assoc, arith}
 use Rattle.std.proofs.Math.Nat.{suc-mul}
 use Rattle.std.proofs.lemmas.Bool.{cases_lt}
@@ -14,9 +14,10 @@ use Rattle.physical_stream.specs.declared.item.Item.TheVariants.{Elem, Close}
 use Rattle.physical_stream.specs.declared.item.Tail.{Tail}
 use Rattle.physical_stream.specs.declared.item.Tail.TheVariants as tails
 use Rattle.scheduler.specs.Lanes.{no_lane, highest_active}
-use Rattle.scheduler.specs.Planned.{Load, run_from, run_of, behind_run, elements_of, is_allowed, ones_below, place_in, laned_load, packed_load, count_of, leaves, filled_load, is_empty_wish, mask_of, load_of}
-use Rattle.scheduler.specs.declared.plan.Wish.{Wish}
+use Rattle.scheduler.specs.Planned.{Load, run_from, run_of, behind_run, elements_of, is_allowed, place_in, laned_load, packed_load, count_of, leaves, filled_load, is_empty_wish, mask_of, load_of}
+use Rattle.plan_text.specs.declared.plan.Wish.{Wish}
 use Rattle.scheduler.specs.Laws.{AreItems}
+use Rattle.scheduler.proofs.AllowLemmas.{all-allowed, count-is, first-allowed, place-all}
 use Rattle.scheduler.proofs.PartLemmas.{eq-false, eq-true}
 use Rattle.scheduler.proofs.CarryLemmas.{acts, carried, highest-ge, highest-below, some-from}
 use Rattle.scheduler.proofs.LoadLemmas.{AreItems-drop, IsTaken, taken_of, acts-at, count-fits, run-splits}
@@ -86,35 +87,6 @@ no-run p [] none fit = refl
 no-run p (Elem word ∷ more) none fit = refl
 no-run p (Close dim ∷ more) none fit = let less = fit.0 in absurd (omega (arith, none, less))
 
--- ---- allowed lanes of low levels
-
-all-allowed : (p : Parameters) (mask : ℕ) → number_of p.level ≤ 4 → (i : ℕ) → is_allowed p mask i ≡ true
-all-allowed p mask level i = let low : nat_le (number_of p.level) 4 ≡ true = grind (arith, nat_tests) in rw low refl
-
-place-all : (allowed : ℕ → Bool) → ((i : ℕ) → allowed i ≡ true) → (n : ℕ) → place_in allowed n ≡ n
-place-all allowed all zero = refl
-place-all allowed all (suc n) = rw (all n, place-all allowed all n) (omega arith)
-
-first-allowed : (p : Parameters) (mask i : ℕ) → number_of p.level ≤ 5 → is_allowed p mask i ≡ true → is_allowed p mask 0 ≡ true
-first-allowed p mask i level sure = by_four (nat_le (number_of p.level) 4) (number_of p.level == 5) refl refl
-  where
-    by_four : (four five : Bool) → nat_le (number_of p.level) 4 ≡ four → (number_of p.level == 5) ≡ five → is_allowed p mask 0 ≡ true
-    by_four true five is is5 = rw is refl
-    by_four false true is is5 =
-        let here : nat_lt i (ones_below mask p.lanes) ≡ true = ap (λ (b : Bool). if b then nat_lt i (ones_below mask p.lanes) else nat_lt i (ones_below mask p.lanes)) (sym is5) ∙ same ∙ sure in
-        rw (is, is5) (grind (arith, nat_tests))
-      where
-        same : (if (number_of p.level == 5) then nat_lt i (ones_below mask p.lanes) else nat_lt i (ones_below mask p.lanes)) ≡ is_allowed p mask i
-        same = rw (is, is5) refl
-    by_four false false is is5 = let no_five : number_of p.level ≡ 5 → ⊥ = grind (arith, nat_tests) in let more : 4 < number_of p.level = grind (arith, nat_tests) in absurd (omega (arith, no_five, more, level))
-
-count-is : (a b : ℕ) → (if nat_le a b then a else b) ≡ min a b
-count-is a b = by_test (nat_le a b) refl
-  where
-    by_test : (test : Bool) → nat_le a b ≡ test → (if test then a else b) ≡ min a b
-    by_test true is = let le : a ≤ b = grind (arith, nat_tests) in omega (arith, le)
-    by_test false is = let le : b < a = grind (arith, nat_tests) in omega (arith, le)
-
 -- ---- where the Closes are left
 
 both-true : (a b : Bool) → (a && b) ≡ true → (a ≡ true) × (b ≡ true)
@@ -145,7 +117,7 @@ pub record Keeps (p : Parameters) (tail : Option Tail) (load : Load) : Type 0 wh
   pub goes : Goes p (tail_over tail (parts_below (λ i. carried (load.lanes i)) p.lanes)) load.rest
 
 module _ (p : Parameters) (some : 1 ≤ p.lanes) (tail : Option Tail) (items : List Item) (goes : Goes p tail items) where
-  -- what holds of each form
+  -- the properties of each form
   module _ (load : Load) (taken : IsTaken p items load) where
     abbrev parts : List Item
     parts = parts_below (λ i. carried (load.lanes i)) p.lanes

@@ -23,11 +23,11 @@ use Rattle.scheduler.proofs.LoadLemmas.{length-zeros}
 use Rattle.scheduler.proofs.ObeyLemmas.{each-none, lowest-none}
 
 -- no bit of the strobe is set exactly where no lane is active
-active-none : (lanes : ℕ → Lane) (n : ℕ) → ((i : ℕ) → i < n → acts lanes i ≡ false) → active_bits lanes n ≡ 0
+pub active-none : (lanes : ℕ → Lane) (n : ℕ) → ((i : ℕ) → i < n → acts lanes i ≡ false) → active_bits lanes n ≡ 0
 active-none lanes zero none = refl
 active-none lanes (suc n) none = rw (active-none lanes n (λ i less. none i (omega arith)), none n (omega arith)) (or_zero_l 0)
 
-active-some : (lanes : ℕ → Lane) (n : ℕ) → some_active lanes n ≡ true → 0 < active_bits lanes n
+pub active-some : (lanes : ℕ → Lane) (n : ℕ) → some_active lanes n ≡ true → 0 < active_bits lanes n
 active-some lanes n some = by_value (active_bits lanes n) refl
   where
     by_value : (bits : ℕ) → active_bits lanes n ≡ bits → 0 < bits

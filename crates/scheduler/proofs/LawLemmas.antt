@@ -14,7 +14,7 @@ use Rattle.handshake.specs.Laws.{AreObedient}
 use Rattle.handshake.proofs.RunLemmas.{runs_are_legal, runs_end_whole}
 use Rattle.scheduler.specs.Lanes.{transfer_of}
 use Rattle.scheduler.specs.Planned.{Planned, plan_on, first_wish, first_user, behind, load_of}
-use Rattle.scheduler.specs.declared.plan.Wish.{Wish}
+use Rattle.plan_text.specs.declared.plan.Wish.{Wish}
 use Rattle.scheduler.specs.Laws.{AreItems, CanBePlanned, OneIsPlanned, PlannedAreShown, PlannedRunsAreLegal}
 use Rattle.scheduler.proofs.CarryLemmas.{carried, items_of-carried}
 use Rattle.scheduler.proofs.LoadLemmas.{taken_of, carries}
@@ -71,7 +71,7 @@ starts [] = tt
 starts (items.Elem word ∷ more) = tt
 starts (items.Close dim ∷ more) = refl
 
-goes-first : (p : Parameters) (wishes : List Wish) (all : List Item) → CanBePlanned p wishes all → Goes p None all
+pub goes-first : (p : Parameters) (wishes : List Wish) (all : List Item) → CanBePlanned p wishes all → Goes p None all
 goes-first p wishes all can = record {
   fit = can.fit;
   nested = placed-IsNested all can.nested;

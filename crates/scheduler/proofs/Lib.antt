@@ -11,3 +11,7 @@ pub mod FillLemmas
 pub mod ShowLemmas
 pub mod MarkLemmas
 pub mod LaneLemmas
+pub mod AllowLemmas
+pub mod MeetLemmas
+pub mod StepLemmas
+pub mod ScheduleLemmas

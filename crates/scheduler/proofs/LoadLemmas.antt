@@ -1,4 +1,4 @@
--- What a wish takes: it is carried by the transfer, and the items that are left follow it.
+-- The items that a wish takes: the transfer carries them, and the items that are left follow them.
 use Rattle.std.proofs.Common.{◌≡◌, ◌∙◌, ◌⊎◌, inl, inr, ℕ, zero, suc, ◌+◌, ◌-◌, ◌<◌, ◌≤◌, Bool, true, false, ◌&&◌, ◌==◌, nat_le, nat_lt, if◌then◌else◌, List, [], ◌∷◌, ◌++◌, length, take, drop, map, min, Option, None, is_some, refl, sym, ap, subst, append_assoc, arith}
 use Rattle.std.specs.Int.{bit_at}
 use Rattle.std.proofs.lemmas.Bool.{cases_lt}
@@ -13,7 +13,7 @@ use Rattle.physical_stream.specs.declared.item.Item.{Item}
 use Rattle.physical_stream.specs.declared.item.Item.TheVariants.{Elem, Close}
 use Rattle.scheduler.specs.Lanes.{Lane, no_lane, word_or, transfer_of}
 use Rattle.scheduler.specs.Planned.{Load, run_from, run_of, behind_run, elements_of, is_allowed, lowest_one, ones_below, place_in, lane_of, behind_lane, behind_lanes, laned_load, first_word, packed_load, count_of, leaves, filled_load, is_empty_wish, mask_of, load_of}
-use Rattle.scheduler.specs.declared.plan.Wish.{Wish}
+use Rattle.plan_text.specs.declared.plan.Wish.{Wish}
 use Rattle.scheduler.specs.Laws.{AreItems}
 use Rattle.scheduler.proofs.PartLemmas.{Rise, Below}
 use Rattle.scheduler.proofs.CarryLemmas.{AreLanes, item_for, carried, items_of-carried}
@@ -23,6 +23,11 @@ AreItems-drop p zero items are = are
 AreItems-drop p (suc n) [] are = tt
 AreItems-drop p (suc n) (Elem word ∷ more) are = AreItems-drop p n more are.1
 AreItems-drop p (suc n) (Close dim ∷ more) are = AreItems-drop p n more are.1
+
+pub AreItems-append : (p : Parameters) (one other : List Item) → AreItems p one → AreItems p other → AreItems p (one ++ other)
+AreItems-append p [] other fit more = more
+AreItems-append p (Elem word ∷ items) other fit more = (fit.0, AreItems-append p items other fit.1 more)
+AreItems-append p (Close dim ∷ items) other fit more = (fit.0, AreItems-append p items other fit.1 more)
 
 -- ---- runs of Closes
 
@@ -179,7 +184,7 @@ allowed-together p mask level i j l le le' less = by_four (nat_le (number_of p.l
     by_four true is one other = refl
     by_four false is one other = by_five (number_of p.level == 5) refl (grind (arith, nat_tests)) one other
 
--- ---- what is taken, with what is left, is all
+-- ---- the items taken, with those left, are all
 
 pub record IsTaken (p : Parameters) (items : List Item) (load : Load) : Type 0 where
   pub are : AreLanes p load.lanes
@@ -270,7 +275,7 @@ AreItems-lanes : (p : Parameters) (n : ℕ) (items : List Item) → AreItems p i
 AreItems-lanes p zero items fit = fit
 AreItems-lanes p (suc n) items fit = AreItems-lanes p n (behind_lane items) (AreItems-lane p items fit)
 
-lane-last : (n : ℕ) (items : List Item) → behind_lanes (suc n) items ≡ behind_lane (behind_lanes n items)
+pub lane-last : (n : ℕ) (items : List Item) → behind_lanes (suc n) items ≡ behind_lane (behind_lanes n items)
 lane-last zero items = refl
 lane-last (suc n) items = lane-last n (behind_lane items)
 
@@ -326,7 +331,7 @@ module _ (p : Parameters) (items : List Item) (fit : AreItems p items) (allowed 
     left = AreItems-lanes p (place_in allowed p.lanes) items fit;
   }
 
--- ---- what any wish takes
+-- ---- the items that any wish takes
 
 pub taken_of : (p : Parameters) (wish : Wish) (items : List Item) → 1 ≤ p.lanes → AreItems p items → IsTaken p items (load_of p wish items)
 taken_of p wish items some fit = by_empty (is_empty_wish p wish)

@@ -1,4 +1,4 @@
--- What is planned breaks no rule on what is shown.
+-- Planned transfers break no rule on what is shown.
 use Rattle.std.proofs.Common.{◌≡◌, ◌∙◌, ◌⊎◌, inl, inr, ℕ, zero, suc, ◌+◌, ◌-◌, ◌*◌, ◌^◌, ◌<◌, ◌≤◌, Bool, true, false, ◌||◌, nat_le, if◌then◌else◌, List, [], ◌∷◌, ◌++◌, length, Option, None, refl, sym, ap, subst, arith}
 use Rattle.std.specs.Int.{bit_at}
 use Rattle.std.specs.List.{All}
@@ -49,7 +49,7 @@ in-order lanes n some false is =
     let none = each-none lanes n is in
     (omega (arith, lowest-none lanes n 0 none), omega (arith, highest-none lanes n (n - 1) none, some))
 
--- what keeps the rules on what is shown
+-- the conditions that keep the rules on what is shown
 pub record KeepsRules (p : Parameters) (tail : Option Tail) (lanes : ℕ → Lane) : Type 0 where
   pub last : number_of p.level ≤ 7 → (i : ℕ) → i + 1 < p.lanes → (lanes i).closes ≡ []
   pub start : number_of p.level ≤ 5 → (i : ℕ) → i < p.lanes → acts lanes i ≡ true → acts lanes 0 ≡ true

@@ -13,7 +13,7 @@ use Rattle.physical_stream.specs.declared.item.Item.TheVariants.{Elem, Close}
 use Rattle.physical_stream.specs.declared.transfer.Transfer.{Transfer}
 use Rattle.scheduler.specs.Lanes.{transfer_of}
 use Rattle.scheduler.specs.Planned.{Planned, plan_on, plan_of, MasksFit, first_wish, first_user, behind, run_of, behind_run, elements_of, is_allowed, lowest_one, ones_below, place_in, behind_lane, behind_lanes, laned_load, packed_load, count_of, leaves, filled_load, is_empty_wish, mask_of, load_of}
-use Rattle.scheduler.specs.declared.plan.Wish.{Wish}
+use Rattle.plan_text.specs.declared.plan.Wish.{Wish}
 
 -- ---- one list
 

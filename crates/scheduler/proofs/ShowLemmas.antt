@@ -19,7 +19,7 @@ use Rattle.physical_stream.proofs.PartsLemmas.{length-parts_below}
 use Rattle.scheduler.specs.Lanes.{Lane, word_or, is_among, lowest_active, highest_active, some_active, active_bits, strobe_of, transfer_of}
 use Rattle.scheduler.specs.Planned.{Planned, MasksFit, first_wish, first_user, behind, is_empty_wish, load_of}
 use Rattle.scheduler.specs.Laws.{UsersFit}
-use Rattle.scheduler.specs.declared.plan.Wish.{Wish}
+use Rattle.plan_text.specs.declared.plan.Wish.{Wish}
 use Rattle.scheduler.proofs.PartLemmas.{Below, length-parts}
 use Rattle.scheduler.proofs.CarryLemmas.{acts, AreLanes, item_for, carried}
 use Rattle.scheduler.proofs.LoadLemmas.{IsTaken, taken_of, length-zeros}

@@ -35,7 +35,7 @@ behind_taken takes left = if takes then behind_word left else left
 abbrev pub taken_word : Bool → List Item → Option (List Bool)
 taken_word takes left = if takes then first_word left else None
 
--- what a lane carries of these items: an element where it takes one, and the run behind it where it takes ends
+-- the part of these items that a lane carries: an element where it takes one, and the run behind it where it takes ends
 abbrev pub lane_with : (takes ends : Bool) → List Item → Lane
 lane_with takes ends left = record {
   word = taken_word takes left;
@@ -55,7 +55,7 @@ abbrev pub left_after : (allowed least : ℕ) → (ends : ℕ → Bool) → List
 left_after allowed least ends items zero = items
 left_after allowed least ends items (suc lane) = rest_with (takes_at allowed least lane (left_after allowed least ends items lane)) (ends lane) (left_after allowed least ends items lane)
 
--- what each lane carries
+-- the part of the items that each lane carries
 abbrev pub lane_after : (allowed least : ℕ) → (ends : ℕ → Bool) → List Item → ℕ → Lane
 lane_after allowed least ends items lane = lane_with (takes_at allowed least lane (left_after allowed least ends items lane)) (ends lane) (left_after allowed least ends items lane)
 

@@ -6,7 +6,7 @@ use Rattle.physical_stream.specs.Params.{Parameters}
 use Rattle.physical_stream.specs.Items.{parts_below}
 use Rattle.physical_stream.specs.declared.transfer.Transfer.{Transfer}
 
--- what a lane carries: its element, where it is active, and the dimensions that it closes, ascending
+-- the content of a lane: its element, where it is active, and the dimensions that it closes, ascending
 pub record Lane : Type 0 where
   pub word : Option (List Bool)
   pub closes : List ℕ

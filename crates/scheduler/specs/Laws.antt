@@ -1,4 +1,4 @@
--- What holds of all that is planned (this project's own).
+-- The laws of all plans (this project's own).
 use Rattle.std.specs.Prelude.{◌≡◌, ℕ, ◌+◌, ◌*◌, ◌<◌, ◌≤◌, Bool, true, List, [], ◌∷◌, length}
 use Rattle.std.specs.List.{All}
 use Rattle.tydi_base.specs.Level.{number_of}
@@ -16,7 +16,7 @@ use Rattle.physical_stream.specs.declared.end.End.TheVariants as ends
 use Rattle.physical_stream.specs.declared.transfer.Transfer.{Transfer}
 use Rattle.handshake.specs.Run.{run_of}
 use Rattle.scheduler.specs.Planned.{Planned, MasksFit}
-use Rattle.scheduler.specs.declared.plan.Wish.{Wish}
+use Rattle.plan_text.specs.declared.plan.Wish.{Wish}
 
 -- the elements have the width of the stream, and the Closes are of its dimensions
 abbrev pub AreItems : Parameters → List Item → Type 0
@@ -28,7 +28,7 @@ AreItems p (Close dim ∷ more) = (dim < p.dims) × AreItems p more
 abbrev pub IsMultiple : Parameters → List Item → Type 0
 IsMultiple p items = p.dims ≡ 0 → number_of p.level ≤ 4 → (m : ℕ) × (length items ≡ m * p.lanes)
 
--- what can be planned: the items of a stream, nested and with nothing open, in whole transfers where those are asked for
+-- items that can be planned: those of a stream, nested and with nothing open, in whole transfers where those are asked for
 pub record CanBePlanned (p : Parameters) (wishes : List Wish) (items : List Item) : Type 0 where
   pub lanes : 1 ≤ p.lanes
   pub fit : AreItems p items

@@ -2,3 +2,8 @@ pub mod Lanes
 pub mod Planned
 pub mod Laws
 pub mod Filling
+pub mod Meeting
+pub mod Stepping
+pub mod Widths
+pub mod Schedules
+pub mod Planners

@@ -8,7 +8,7 @@ use Rattle.physical_stream.specs.declared.transfer.Transfer.{Transfer}
 use Rattle.physical_stream.specs.declared.item.Item.{Item}
 use Rattle.physical_stream.specs.declared.item.Item.TheVariants.{Elem, Close}
 use Rattle.scheduler.specs.Lanes.{Lane, no_lane, transfer_of}
-use Rattle.scheduler.specs.declared.plan.Wish.{Wish}
+use Rattle.plan_text.specs.declared.plan.Wish.{Wish}
 
 -- ---- runs of items
 
@@ -58,9 +58,9 @@ abbrev pub place_in : (ℕ → Bool) → ℕ → ℕ
 place_in allowed zero = 0
 place_in allowed (suc lane) = (if allowed lane then 1 else 0) + place_in allowed lane
 
--- ---- what a transfer carries
+-- ---- the items that a transfer carries
 
--- what is taken of the items: what each lane carries, and the items that are left
+-- the part of the items that is taken: the content of each lane, and the items that are left
 pub record Load : Type 0 where
   pub lanes : ℕ → Lane
   pub rest : List Item
@@ -125,7 +125,7 @@ leaves p wish k = wish.late && nat_lt 0 k && nat_lt 0 p.dims && (nat_le 5 (numbe
 abbrev pub filled_load : Parameters → (ℕ → Bool) → Wish → ℕ → List Item → Load
 filled_load p allowed wish k items = if leaves p wish k then packed_load p allowed k [] items (drop k items) else packed_load p allowed k (run_of (drop k items)) items (behind_run 0 (drop k items))
 
--- what the wish takes of these items
+-- the part of these items that the wish takes
 abbrev pub load_of : Parameters → Wish → List Item → Load
 load_of p wish items =
     if is_empty_wish p wish then record { lanes = λ lane. no_lane; rest = items }

@@ -33,7 +33,7 @@ fn put_element(p: &Params, items: &[Item], place: usize, lane: u16, content: &mu
 }
 
 // Whether a lane is among these.
-fn is_set(allowed: u128, lane: u16) -> bool
+pub(crate) fn is_set(allowed: u128, lane: u16) -> bool
     requires { lane < 128 }
     ensures { result ≡ is_set allowed lane }
 {

@@ -1,4 +1,4 @@
-//! What holds of all that is planned.
+//! The laws of all plans.
 
 ghost use Rattle.scheduler.specs.Laws.{OneIsPlanned, PlannedAreShown, PlannedRunsAreLegal};
 

@@ -24,3 +24,12 @@ pub struct StreamPlan {
     /// The user word of each transfer, as wide as the stream's.
     pub users: List<Bits>,
 }
+
+/// The plan of a port (this project's own): how long it runs, and how each of its streams moves.
+#[derive(Debug, Drop)]
+pub struct Plan {
+    /// How many cycles the run has, at most 1,000,000.
+    pub cycles: u32,
+    /// The plan of each stream, in the order of the split. It has a ready bit for each cycle.
+    pub streams: List<StreamPlan>,
+}

@@ -1,0 +1,9 @@
+pub mod Faults
+pub mod Lines
+pub mod LinesView
+pub mod Words
+pub mod Blocks
+pub mod Text
+pub mod Numbers
+pub mod Draft
+pub mod Laws
