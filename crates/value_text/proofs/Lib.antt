@@ -1,0 +1,7 @@
+mod WrittenLemmas
+mod TokenLemmas
+mod SyntaxRules
+mod LeafLemmas
+mod TypedLemmas
+mod YieldLemmas
+mod FitLemmas

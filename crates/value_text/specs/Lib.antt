@@ -1,0 +1,12 @@
+pub mod Canonical
+pub mod Tokens
+pub mod Source
+pub mod Words
+pub mod Leaves
+pub mod Grammar
+pub mod Syntax
+pub mod Typed
+pub mod Steps
+pub mod Port
+pub mod Reading
+pub mod Laws

@@ -1,0 +1,158 @@
+//! The token at the front of a text.
+
+ghost use Rattle.std.specs.Prelude.{◌≡◌, ◌≤◌, ◌<◌, length, option_map, slice_index, max};
+ghost use Rattle.value_text.specs.Tokens as spec;
+ghost use Rattle.value_text.specs.Tokens.{found_view};
+
+use crate::token::{Token, TokenKind};
+use tydi_base::LINE_FEED;
+
+/// A token, and what follows it.
+#[derive(Clone, Copy)]
+pub(crate) struct Found<'a> {
+    pub token: Token<'a>,
+    pub after: &'a [u8],
+}
+
+/// The token behind the white space and the comments at the front of a text. None where nothing else is left.
+pub(crate) fn find_token(bytes: &[u8]) -> Option<Found<'_>>
+    ensures { option_map found_view result ≡ spec.token_in bytes.now }
+{
+    let rest = after_gap(bytes);
+    if rest.is_empty() {
+        return None;
+    }
+    Some(token_at(rest, rest.len() != bytes.len()))
+}
+
+/// The token at the front of a text, which is not empty.
+fn token_at(rest: &[u8], spaced: bool) -> Found<'_>
+    requires { 0 < length rest.now }
+    ensures { found_view result ≡ spec.token_at spaced rest.now }
+{
+    let run = word_length(rest);
+    let len = run.max(1);
+    let tail = &rest[len..];
+    let beyond = after_gap(tail);
+    let kind = kind_of(run > 0, byte_at(rest), byte_at(beyond));
+    let token = Token {
+        kind,
+        text: &rest[..len],
+        spaced,
+        left: rest.len(),
+    };
+    let after = if takes_next(kind) {
+        but_first(beyond)
+    } else {
+        tail
+    };
+    Found { token, after }
+}
+
+/// The kind of a token, by whether it is a run, by its first byte, and by the byte that follows it.
+#[tactic(auto, unfolding(crate::specs::Tokens::kind_of))]
+fn kind_of(is_run: bool, first: u8, next: u8) -> TokenKind
+    ensures { result ≡ spec.kind_of is_run first next }
+{
+    if is_run && next == b':' {
+        TokenKind::Key
+    } else if is_run && next == b'(' {
+        TokenKind::Call
+    } else if (is_run || first == b'-') && next == b'=' {
+        TokenKind::Path
+    } else if is_run {
+        TokenKind::Word
+    } else if first == b'{' && next == b'}' {
+        TokenKind::Empty
+    } else {
+        TokenKind::Sign
+    }
+}
+
+/// Whether the byte that follows it belongs to a token.
+fn takes_next(kind: TokenKind) -> bool
+    ensures { result ≡ spec.takes_next kind }
+{
+    match kind {
+        TokenKind::Key | TokenKind::Call | TokenKind::Path => true,
+        TokenKind::Word | TokenKind::Empty | TokenKind::Sign => false,
+    }
+}
+
+/// The first byte, or 0 where there is none.
+fn byte_at(bytes: &[u8]) -> u8
+    ensures { result ≡ slice_index bytes.now 0 }
+{
+    match bytes {
+        [first, ..] => *first,
+        [] => 0,
+    }
+}
+
+/// All but the first byte.
+fn but_first(bytes: &[u8]) -> &[u8]
+    ensures { result.now ≡ spec.but_first bytes.now }
+{
+    match bytes {
+        [_, rest @ ..] => rest,
+        [] => bytes,
+    }
+}
+
+/// The text behind the white space and the comments at its front.
+pub(crate) fn after_gap(bytes: &[u8]) -> &[u8]
+    ensures { result.now ≡ spec.after_gap bytes.now }
+{
+    let mut rest = bytes;
+    let mut in_comment = false;
+    'bytes: while let Some((byte, more)) = rest.split_first() {
+        if in_comment {
+            in_comment = *byte != LINE_FEED;
+        } else if begins_comment(rest) {
+            in_comment = true;
+        } else if !is_space(*byte) {
+            return rest;
+        }
+        rest = more;
+    }
+    rest
+}
+
+/// Whether a comment begins a text.
+fn begins_comment(bytes: &[u8]) -> bool
+    ensures { result ≡ spec.begins_comment bytes.now }
+{
+    match bytes {
+        [first, second, ..] => *first == b'/' && *second == b'/',
+        _ => false,
+    }
+}
+
+/// Space, tab, CR or LF.
+fn is_space(byte: u8) -> bool
+    ensures { result ≡ spec.is_space byte }
+{
+    byte == b' ' || byte == b'\t' || byte == b'\r' || byte == b'\n'
+}
+
+/// A letter, a digit, `_` or `.`.
+fn is_word_byte(byte: u8) -> bool
+    ensures { result ≡ spec.is_word_byte byte }
+{
+    byte.is_ascii_alphanumeric() || byte == b'_' || byte == b'.'
+}
+
+/// How many such bytes begin a text.
+pub(crate) fn word_length(bytes: &[u8]) -> usize
+    ensures value { result ≡ spec.word_length bytes.now }
+    ensures within { result ≤ length bytes.now }
+{
+    let mut count = 0;
+    'bytes: for byte in bytes {
+        if !is_word_byte(*byte) {
+            return count;
+        }
+        count += 1;
+    }
+    count
+}
