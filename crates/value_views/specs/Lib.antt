@@ -1,0 +1,4 @@
+pub mod Series
+pub mod Views
+pub mod Way
+pub mod Laws
