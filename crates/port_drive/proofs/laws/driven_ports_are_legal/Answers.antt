@@ -1,0 +1,5 @@
+use Rattle.port_drive.proofs.DrivenLemmas.{is-driven}
+use Rattle.port_drive.proofs.laws.driven_ports_are_legal.Goals as goal
+
+pub returns : goal.returns
+returns c = λ split value plan runs can drives. is-driven split value plan runs can drives

@@ -1,0 +1,5 @@
+pub mod Drives
+pub mod Laws
+pub mod Faults
+pub mod Starting
+pub mod Finishing
