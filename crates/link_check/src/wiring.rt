@@ -1,0 +1,17 @@
+ghost use Rattle.indexmap.specs.IndexMap.{get};
+ghost use Rattle.link_check.specs.Tables.{IsWired, is_same_home, is_same_lent};
+
+use crate::tables::{Instances, Ports};
+use til_resolve::{Instance, Streamlet};
+
+/// The inside of an implementation, with tables that find its ports and instances by their names.
+#[derive(Drop)]
+pub(crate) struct Wiring<'w, 'p> {
+    pub(crate) streamlets: &'p [Streamlet],
+    /// The number of the streamlet that it implements.
+    pub(crate) home: usize,
+    pub(crate) instances: &'p [Instance],
+    pub(crate) ports_by_name: &'w Ports<'p>,
+    pub(crate) instances_by_name: Instances<'p>,
+    ghost found: { IsWired streamlets.now instances.now (get is_same_home ports_by_name.now) (get is_same_lent instances_by_name) },
+}
