@@ -1,0 +1,4 @@
+pub mod Driving
+pub mod Laws
+pub mod Given
+pub mod PortLaws

@@ -1,0 +1,16 @@
+mod Examples
+mod PrintingLemmas
+mod CutLemmas
+mod LineLemmas
+mod StmtLemmas
+mod ProcessSpelling
+mod BenchSpelling
+mod ProcessReading
+mod LineReading
+mod BenchReading
+mod CodeLemmas
+mod StreamLemmas
+mod DriverLemmas
+mod StatementLemmas
+mod TakingLemmas
+mod WholeLemmas
