@@ -1,9 +1,9 @@
 //! Calls of the layers below the tool, by tables whose answers were found by hand, each with ample memory. A row has two texts that are
-//! handed in, and the text of what is told. A call that should not come to this ends in `Memory`, which no row expects.
+//! handed in, and the text of its result. A call that should not come to this ends in `Memory`, which no row expects.
 
 use crate::{
-    checkers, fractions, levels, nests, projects, readings, splits, streams, tokens, traces,
-    traces_written, values, words,
+    checkers, fractions, levels, nests, plan_texts, projects, readings, splits, streams, tokens,
+    traces, traces_written, value_texts, values, views, words,
 };
 use std::alloc::Global;
 use std::process::Abort;
@@ -40,9 +40,12 @@ pub(crate) enum Call {
     Split,
     Unpacked,
     Fitting,
+    ValueText,
+    Viewed,
     Level,
     WideNumber,
     Binary,
+    Plan,
 }
 
 /// The first word of a text, and what comes after the space.
@@ -65,7 +68,7 @@ pub(crate) fn byte(digits: &str) -> u8 {
     (number(digits) % 256) as u8
 }
 
-/// Makes the call of each row, and compares what it tells.
+/// Makes the call of each row, and compares its result.
 pub(crate) fn check_calls(
     rt: &(impl Abort + AllocGlobal),
     call: &Call,
@@ -79,7 +82,7 @@ pub(crate) fn check_calls(
     }
 }
 
-// What a call tells.
+// Writes the result of a call.
 fn tell(
     alloc: Global,
     call: &Call,
@@ -116,9 +119,12 @@ fn tell(
         Call::Project => projects::project(alloc, first, out),
         Call::Unpacked => values::unpacked(alloc, first, second, out),
         Call::Fitting => values::fitting(alloc, first, second, out),
+        Call::Viewed => views::viewed(alloc, first, second, out),
+        Call::ValueText => value_texts::value_text(alloc, first, second, out),
         Call::Level => levels::level(alloc, first, second, out),
         Call::WideNumber => levels::wide_numbers(first, out),
         Call::Binary => levels::binary(alloc, first, second, out),
         Call::Split => splits::split(alloc, first, second, out),
+        Call::Plan => plan_texts::plan(alloc, first, second, out),
     }
 }

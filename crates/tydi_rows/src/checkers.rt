@@ -1,5 +1,5 @@
-//! What a checker says, by cases worked out by hand. A table of the examples has each rule, as traces; that of the start index no
-//! trace can break.
+//! Answers of a checker, by cases worked out by hand. A table of the examples has each rule, as traces, but the rule on the start
+//! index, which no trace can break.
 
 use crate::calls::byte;
 use crate::streams::params_of;

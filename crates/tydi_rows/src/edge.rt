@@ -1,4 +1,4 @@
-//! The system's files, and a writer as a sink: what no contract can tell of them.
+//! The system's files, and a writer as a sink: the behaviour that no contract can state.
 
 use std::test::Fail;
 use tydi_io::{Failed, FileStore, Sink, Store, StreamSink};

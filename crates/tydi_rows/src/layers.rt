@@ -2,8 +2,8 @@
 
 use crate::calls::{Call, check_calls};
 use crate::{
-    checkers, fractions, levels, nests, projects, readings, splits, streams, tokens, traces,
-    traces_written, values, words,
+    checkers, fractions, levels, nests, plan_tables, projects, readings, splits, streams, tokens,
+    traces, traces_written, value_texts, values, views, words,
 };
 use complexity_rules::{
     items_are_nested, levels_are_kept, pauses_are_as_tested, table_is_monotone,
@@ -18,6 +18,7 @@ use tydi_base::{
     index_width_is_least, levels_are_ordered, levels_are_read_as_spelled,
     paths_are_read_as_spelled, pieces_are_parts,
 };
+use value_views::{nodes_have_series, streams_have_views, views_carry_their_value};
 
 #[test]
 fn texts_and_numbers(rt: HostRuntime) {
@@ -73,6 +74,22 @@ fn tokens_and_projects(rt: HostRuntime) {
 fn values_of_types(rt: HostRuntime) {
     check_calls(&rt, &Call::Unpacked, values::UNPACKED);
     check_calls(&rt, &Call::Fitting, values::FITTING);
+    check_calls(&rt, &Call::Viewed, views::VIEWS);
+}
+
+#[test]
+fn plans_of_texts(rt: HostRuntime) {
+    check_calls(&rt, &Call::Plan, plan_tables::HEADERS);
+    check_calls(&rt, &Call::Plan, plan_tables::LINES);
+    check_calls(&rt, &Call::Plan, plan_tables::WISHES);
+    check_calls(&rt, &Call::Plan, plan_tables::STREAMS);
+}
+
+#[test]
+fn values_as_texts(rt: HostRuntime) {
+    check_calls(&rt, &Call::ValueText, value_texts::READ);
+    check_calls(&rt, &Call::ValueText, value_texts::UNFIT);
+    check_calls(&rt, &Call::ValueText, value_texts::FORMLESS);
 }
 
 /// The defaults of signals that a stream lacks. How wide each is, a table of the examples says.
@@ -105,4 +122,7 @@ fn laws() {
     spelled_tokens_are_read();
     trees_are_apart();
     trees_are_read_as_printed();
+    nodes_have_series();
+    streams_have_views();
+    views_carry_their_value();
 }

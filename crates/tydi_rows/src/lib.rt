@@ -18,6 +18,12 @@ mod levels;
 #[cfg(test)]
 mod nests;
 #[cfg(test)]
+mod plan_tables;
+#[cfg(test)]
+mod plan_texts;
+#[cfg(test)]
+mod plans;
+#[cfg(test)]
 mod project_tables;
 #[cfg(test)]
 mod projects;
@@ -30,11 +36,17 @@ mod row;
 #[cfg(test)]
 mod running;
 #[cfg(test)]
+mod runs;
+#[cfg(test)]
+mod schedules;
+#[cfg(test)]
 mod split_tables;
 #[cfg(test)]
 mod splits;
 #[cfg(test)]
 mod streams;
+#[cfg(test)]
+mod sweeps;
 #[cfg(test)]
 mod tests;
 #[cfg(test)]
@@ -48,6 +60,10 @@ mod traces_written;
 #[cfg(test)]
 mod types;
 #[cfg(test)]
+mod value_texts;
+#[cfg(test)]
 mod values;
+#[cfg(test)]
+mod views;
 #[cfg(test)]
 mod words;

@@ -11,8 +11,8 @@ use physical_stream::Item;
 use std::alloc::Global;
 use tydi_base::{Bits, Hex, List, Memory, emit};
 
-/// Dimensions, and items: their series and its flat form, or the fault. An element is a digit from `a` on, a Close of dimension 0 is
-/// `0` and so on; a list of a series stands in brackets.
+/// Dimensions, and items: their series and its flat form, or the error. An element is a digit from `a` on, a Close of dimension 0
+/// is `0` and so on; a list of a series stands in brackets.
 pub(crate) const SERIES: &[(&str, &str, &str)] = &[
     ("0", "", " "),
     ("2", "", " "),
@@ -94,8 +94,8 @@ fn write_nest(nest: &Nest, out: &mut List<u8>) -> Result<(), Memory> {
     }
 }
 
-// Writes the text of a series.
-fn write_nests(series: &[Nest], out: &mut List<u8>) -> Result<(), Memory> {
+/// Writes the text of a series.
+pub(crate) fn write_nests(series: &[Nest], out: &mut List<u8>) -> Result<(), Memory> {
     for nest in series {
         write_nest(nest, out)?;
     }

@@ -17,7 +17,7 @@ pub(crate) const DECIMALS: &[(&str, &str, &str)] = &[
     ("1a", "", "none"),
 ];
 
-/// What separates, and a text: its first piece, and what comes after.
+/// A separator and a text: the first piece of the text, and the rest after the separator.
 pub(crate) const PIECES: &[(&str, &str, &str)] = &[
     ("space", "  b", "()( b)"),
     ("line", "a\n", "(a)()"),
@@ -44,7 +44,7 @@ pub(crate) const NAMES: &[(&str, &str, &str)] = &[
     ("a-b", "", "none"),
 ];
 
-/// What stands between names, and a text: the path that it spells.
+/// The separator between names and a text: the path that the text spells.
 pub(crate) const PATHS: &[(&str, &str, &str)] = &[
     (".", "-", "-"),
     (".", "a.b_c.d", "a.b_c.d"),

@@ -18,7 +18,7 @@ pub(crate) const NO_FAULTS: Faults<'static> = Faults {
     most: u16::MAX,
 };
 
-/// What a row hands in, and what is to come of it.
+/// The input of a run as a row gives it, and the output that it expects.
 #[derive(Drop)]
 struct Row {
     words: List<Text>,

@@ -14,7 +14,7 @@ pub(crate) struct Faults<'a> {
     pub(crate) most: u16,
 }
 
-/// What came of a run.
+/// The outcome of a run.
 #[derive(Drop)]
 pub(crate) struct Outcome {
     /// The exit status.

@@ -1,4 +1,4 @@
-//! What a transfer carries, by hand, and copies.
+//! The items of transfers, worked out by hand, and copies.
 
 use crate::calls::{cut, number, small};
 use crate::nests::write_items;
@@ -27,7 +27,7 @@ pub(crate) const LIMITS: &[(&str, &str, &str)] = &[
     ("128", "", "128"),
 ];
 
-/// What is copied: whether the copy is the same.
+/// The kind of value that is copied: whether the copy is the same.
 pub(crate) const COPIES: &[(&str, &str, &str)] = &[
     ("transfer", "", "same"),
     ("head", "", "same"),

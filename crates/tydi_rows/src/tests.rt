@@ -45,7 +45,7 @@ fn pieces(rt: HostRuntime) -> Result<(), Fail> {
     Ok(())
 }
 
-/// What comes of a run of these words on this file.
+/// The outcome of a run of these words on this file.
 fn outcome_of(
     alloc: Global,
     words: &str,
@@ -78,7 +78,7 @@ fn check_cut(rt: &(impl Abort + AllocGlobal), text: &[u8]) -> Result<(), Memory>
     Ok(())
 }
 
-/// A text that is cut has one fault, in whatever pieces it comes.
+/// A text that is cut has one error, in whatever pieces it comes.
 #[test]
 fn cut_texts(rt: HostRuntime) -> Result<(), Fail> {
     for cut in 0..LONG.len() {
@@ -102,7 +102,7 @@ fn bytes(rt: HostRuntime) -> Result<(), Fail> {
     Ok(())
 }
 
-/// What comes of the packet.
+/// The outcome of `check` on the packet.
 fn packet_outcome(alloc: Global, faults: &Faults<'_>) -> Result<Outcome, Memory> {
     let file = List::from_slice(alloc, PACKET)?;
     outcome_of(alloc, "check t", file, faults)

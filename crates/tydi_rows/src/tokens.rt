@@ -1,4 +1,4 @@
-//! The tokens of texts. Their faults are tried on the program, by the table of tokens among the examples.
+//! The tokens of texts. Their errors are tried on the program, by the table of tokens among the examples.
 
 use crate::calls::number;
 use std::alloc::Global;
@@ -66,7 +66,7 @@ fn name_of(kind: TokenKind) -> &'static str {
     }
 }
 
-// A token whose place has another offset is not written, so that no row tells of it.
+// A token whose place has another offset is not written, so that no row shows it.
 fn write_token(token: &Token, out: &mut List<u8>) -> Result<(), Memory> {
     if token.place.offset != token.from {
         return Err(Memory);

@@ -354,7 +354,7 @@ $ check t
 = 0
 ";
 
-/// Legal traces, verdicts and faults of texts that come in pieces.
+/// Legal traces, verdicts and errors of texts that come in pieces.
 pub(crate) const PIECES: &str = "\
 $ check t
 < tydi-trace 1

@@ -5,7 +5,7 @@ use physical_stream::End;
 use std::alloc::Global;
 use tydi_base::{List, Memory, emit};
 
-/// Texts: the counts of each stream, or the fault.
+/// Texts: the counts of each stream, or the error.
 pub(crate) const TRACES: &[(&str, &str, &str)] = &[
     (
         "tydi-trace 1\ncycles 2\nstream a lanes 1 dims 0 level 1 element 4 user 0 forward\n1 1 d=f\n1 1 d=0\n",

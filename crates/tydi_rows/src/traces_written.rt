@@ -1,4 +1,4 @@
-//! What is written of a trace, by a text worked out by hand.
+//! The text that is written for a trace, against a text worked out by hand.
 
 ghost use Rattle.std.specs.Prelude.{◌≡◌, Some, IfOk, IfSome};
 ghost use Rattle.tydi_base.specs.Path.{path_of};

@@ -1,4 +1,4 @@
-//! Types by their text, as part of a project. A table of the examples has their faults and widths.
+//! Types by their text, as part of a project. A table of the examples has their errors and widths.
 
 use logical_types::LType;
 use std::alloc::Global;
@@ -23,7 +23,7 @@ pub(crate) fn project_around(alloc: Global, ltype: &str) -> Result<Project, Memo
     }
 }
 
-/// The project of a text. Each fault is told as want of memory, which no row expects.
+/// The project of a text. Each error is reported as `Memory`, which no row expects.
 pub(crate) fn project_of(alloc: Global, text: &str) -> Result<Project, Memory> {
     let Ok(ast) = tree_of(alloc, text) else {
         return Err(Memory);

@@ -65,8 +65,8 @@ const APART: &str =
 // A Stream of the Union of three variants.
 const VARIANTS: &str = "Stream(data: Union(a: Bits(8), b: Bits(4), c: Null))";
 
-/// A port's type, and the steps by which its value is built: whether it fits. A step makes a value: a word of this width, or one with
-/// the last values as its members, so many; `union` has the last value as the part of this tag. `root` makes a series of the last ones.
+/// A port's type, and the steps by which its value is built: whether it fits. A step makes a value: a word of this width, `byte` a word of eight bits
+/// with this number, or one with the last values as its members, so many; `union` has the last value as the part of this tag. `root` makes a series of the last ones.
 pub(crate) const FITTING: &[(&str, &str, &str)] = &[
     (SEQUENCES, "root 0", "yes"),
     (SEQUENCES, "word 8,word 8,list 2,list 0,root 2", "yes"),
@@ -145,9 +145,18 @@ fn union_of(alloc: Global, tag: u32, made: &mut List<Value>) -> Result<Value, Me
     Ok(Value::Union { tag, part })
 }
 
+fn byte_of(alloc: Global, number: u8) -> Result<Value, Memory> {
+    match Bits::from_number(alloc, 8, u128::from(number))? {
+        Some(word) => Ok(Value::Word(word)),
+        None => Ok(Value::Null),
+    }
+}
+
 fn value_of(alloc: Global, kind: &str, count: u8, made: &mut List<Value>) -> Result<Value, Memory> {
     if kind == "word" {
         Ok(Value::Word(Bits::zeros(alloc, usize::from(count))?))
+    } else if kind == "byte" {
+        byte_of(alloc, count)
     } else if kind == "group" {
         Ok(Value::Group(members_of(alloc, count, made)?))
     } else if kind == "union" {
@@ -176,8 +185,8 @@ fn add_step(
     }
 }
 
-// The series that these steps make.
-fn roots_of(alloc: Global, steps: &str) -> Result<List<List<Value>>, Memory> {
+/// The series that these steps make.
+pub(crate) fn roots_of(alloc: Global, steps: &str) -> Result<List<List<Value>>, Memory> {
     let mut roots = List::new(alloc);
     let mut made = List::new(alloc);
     for step in steps.split(',') {
