@@ -4,4 +4,6 @@ mod SyntaxRules
 mod LeafLemmas
 mod TypedLemmas
 mod YieldLemmas
-mod FitLemmas
+pub mod FitLemmas
+mod StopLemmas
+pub mod printed

@@ -69,7 +69,7 @@ both true b e = (refl, e)
 both false b e = absurd cc
 
 -- a token of which a test of its text holds is not a byte of which it does not
-not_byte : (b : ℕ) (test : List ℕ → Bool) (text : List ℕ) → test (b ∷ []) ≡ false → test text ≡ true → is_only b text ≡ false
+pub not_byte : (b : ℕ) (test : List ℕ → Bool) (text : List ℕ) → test (b ∷ []) ≡ false → test text ≡ true → is_only b text ≡ false
 not_byte b test text none some = other (is_only b text) refl
   where
     other : (o : Bool) → is_only b text ≡ o → o ≡ false
@@ -136,7 +136,7 @@ pub record IsApart (b : ℕ) : Type 0 where
   pub name : is_name (b ∷ []) ≡ false
   pub leaf : is_leaf (b ∷ []) ≡ false
 
-member-byte : (levels b : ℕ) (front rest : List PlainToken) → IsApart b → Member levels front → tells (is_byte b) false (front ++ rest) ≡ false
+pub member-byte : (levels b : ℕ) (front rest : List PlainToken) → IsApart b → Member levels front → tells (is_byte b) false (front ++ rest) ≡ false
 member-byte zero b front rest apart s = front-is (λ t. leaf t ≡ true) (is_byte b) front rest (λ t is. leaf-byte b t apart.leaf is) s
 member-byte (suc levels) b front rest apart s = ⊎_elim
     (λ o. first-is (λ t. opening t ≡ Some o.0) (is_byte b) (Inside (Member levels) o.0) front rest (λ t is. opens-byte b t o.0 apart.list apart.group apart.name is) o.1)
@@ -157,7 +157,7 @@ member-filled (suc levels) front s = ⊎_elim
 field-filled : (Item : Form PlainToken) (front : List PlainToken) → Field Item front → 0 < length front
 field-filled Item front s = filled-first (Is field_name) Item front (λ f p. let one = ap length p.1 in omega (arith, one)) s
 
-leaf-member : (levels : ℕ) (ts : List PlainToken) → Is leaf ts → Member levels ts
+pub leaf-member : (levels : ℕ) (ts : List PlainToken) → Is leaf ts → Member levels ts
 leaf-member zero ts s = s
 leaf-member (suc levels) ts s = inr s
 

@@ -1,11 +1,13 @@
 -- The tokens of a text, one after another.
-use Rattle.std.proofs.Common.{◌≡◌, ◌∙◌, ℕ, zero, suc, ◌<◌, ◌≤◌, max, Bool, true, false, ◌==◌, not, cond, List, [], ◌∷◌, length, drop, Option, Some, None, option_map, is_some, refl, sym, ap, arith}
+use Rattle.std.proofs.Common.{◌≡◌, ◌∙◌, ℕ, zero, suc, ◌-◌, ◌<◌, ◌≤◌, max, Bool, true, false, ◌==◌, not, ◌&&◌, cond, nat_lt, List, [], ◌∷◌, length, take, drop, get_or, Option, Some, None, option_map, is_some, refl, sym, ap, arith}
+use Rattle.std.proofs.lemmas.Bool.Decides.{nat_tests}
 use Rattle.std.proofs.lemmas.List.{length-drop}
 use Rattle.tydi_reading.specs.Reading.{first, rest_of}
 use Rattle.value_text.specs.declared.token.Token.{Token}
 use Rattle.value_text.specs.declared.token.TokenKind.{TokenKind}
+use Rattle.value_text.specs.declared.token.TokenKind.TheVariants as kinds
 use Rattle.value_text.specs.Source.{with_token}
-use Rattle.value_text.specs.Tokens.{PlainToken, PlainFound, token_view, after_gap, after_token, begins_comment, but_first, gap_from, is_space, kind_at, next_token, takes_next, token_in, tokens_of, tokens_within, with_next, word_length}
+use Rattle.value_text.specs.Tokens.{PlainToken, PlainFound, token_view, after_gap, after_token, begins_comment, but_first, gap_from, is_sign, is_space, is_word_byte, kind_at, kind_of, next_token, takes_next, token_at, token_in, tokens_of, tokens_within, with_next, word_length}
 
 -- ---- what follows a token is shorter
 
@@ -82,3 +84,55 @@ rest-some bytes after (Some token) is some = sym (ap rest_of (tokens-step bytes 
 pub rest-none : (bytes after : List ℕ) (next : Option Token) → token_in bytes ≡ with_token next after → is_some next ≡ false → tokens_of bytes ≡ rest_of (tokens_of bytes)
 rest-none bytes after None is none = let empty = tokens-step bytes ∙ ap (with_next tokens_of) is in empty ∙ sym (ap rest_of empty)
 rest-none bytes after (Some token) is none = absurd cc
+
+-- ---- tokens of one byte
+
+no_run : (byte : ℕ) (rest : List ℕ) → is_word_byte byte ≡ false → word_length (byte ∷ rest) ≡ 0
+no_run byte rest no_word = rw no_word refl
+
+pub kind_of-sign : (byte next : ℕ) → (byte == 45) ≡ false → (byte == 123) ≡ false → kind_of false byte next ≡ kinds.Sign
+unfolding kind_of
+kind_of-sign byte next dash brace = rw (dash, brace) refl
+
+-- the token of such a kind at the front of a text
+pub at-byte : (kind : TokenKind) (spaced : Bool) (byte : ℕ) (rest : List ℕ) → is_word_byte byte ≡ false → kind_of false byte (get_or (after_gap rest) 0 0) ≡ kind
+    → token_at spaced (byte ∷ rest) ≡ record { token = record { kind = kind; text = byte ∷ []; spaced = spaced; left = suc (length rest) }; after = after_token kind rest }
+at-byte kind spaced byte rest no_word is = rw (no_run byte rest no_word, is) refl
+
+-- a byte that is a token by itself, as the code has it
+pub sign-at : (spaced : Bool) (text : List ℕ) → 0 < length text → is_sign (get_or text 0 0) ≡ true
+    → record { token = record { kind = kinds.Sign; text = take 1 text; spaced = spaced; left = length text }; after = take (length text - 1) (drop 1 text) } ≡ token_at spaced text
+sign-at spaced [] some is = absurd (omega (arith, some))
+sign-at spaced (byte ∷ rest) some is =
+    let tests = three (not (is_word_byte byte)) (not (byte == 45)) (not (byte == 123)) is in
+    let less : suc (length rest) - 1 ≡ length rest = omega arith in
+    ap (λ (after : List ℕ). found after) (ap (λ (n : ℕ). take n rest) less ∙ take-all rest)
+    ∙ sym (at-byte kinds.Sign spaced byte rest (is_not (is_word_byte byte) tests.0) (kind_of-sign byte (get_or (after_gap rest) 0 0) (is_not (byte == 45) tests.1) (is_not (byte == 123) tests.2)))
+  where
+    found : List ℕ → PlainFound
+    found after = record { token = record { kind = kinds.Sign; text = byte ∷ []; spaced = spaced; left = suc (length rest) }; after = after }
+
+    take-all : (l : List ℕ) → take (length l) l ≡ l
+    take-all [] = refl
+    take-all (x ∷ l) = ap (λ (m : List ℕ). x ∷ m) (take-all l)
+
+    is_not : (b : Bool) → not b ≡ true → b ≡ false
+    is_not true other = absurd cc
+    is_not false other = refl
+
+    three : (a b c : Bool) → (a && b && c) ≡ true → (a ≡ true) × (b ≡ true) × (c ≡ true)
+    three true true true all = (refl, refl, refl)
+    three true true false all = absurd cc
+    three true false c all = absurd cc
+    three false b c all = absurd cc
+
+-- ---- the next token, as the code finds it
+
+pub found-at : (bytes rest : List ℕ) (gap : ℕ) (found : PlainFound) → rest ≡ after_gap bytes → (length rest == 0) ≡ false → gap ≡ length bytes - length rest
+    → found ≡ token_at (nat_lt 0 gap) rest → Some found ≡ token_in bytes
+found-at bytes [] gap found is some less same = absurd (let no : true ≡ false = some in cc)
+found-at bytes (byte ∷ rest) gap found is some less same =
+    let shorter : length (byte ∷ rest) ≤ length bytes = (let most = gap-less false bytes in let long = ap length is in omega (arith, most, long)) in
+    let told : nat_lt 0 gap ≡ not (length (byte ∷ rest) == length bytes) = grind (arith, nat_tests, less, shorter) in
+    ap Some (same ∙ ap (λ (spaced : Bool). token_at spaced (byte ∷ rest)) told)
+    ∙ ap (λ (l : List ℕ). next_token (not (length l == length bytes)) l) is

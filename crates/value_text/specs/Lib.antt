@@ -7,6 +7,8 @@ pub mod Grammar
 pub mod Syntax
 pub mod Typed
 pub mod Steps
+pub mod Stops
 pub mod Port
 pub mod Reading
+pub mod Printable
 pub mod Laws

@@ -10,6 +10,7 @@ use Rattle.value_text.specs.declared.fault.Why.TheVariants as whys
 use Rattle.value_text.specs.Grammar.{Text}
 use Rattle.value_text.specs.Leaves.{most_leaves, surplus}
 use Rattle.value_text.specs.Port.{place_at, value_in}
+use Rattle.value_text.specs.Stops.{syntax_place}
 use Rattle.value_text.specs.Tokens.{tokens_of}
 
 -- a text of the form of a value, with at most 1,000,000 leaves
@@ -36,9 +37,14 @@ pub record HasTooMany (text : List ℕ) (place : Place) : Type 0 where
   pub one : surplus most_leaves (tokens_of text) ≡ Some left
   pub at : place ≡ place_at text left
 
+-- a text has not the form, and stops being of the form at this place
+pub record HasNoForm (text : List ℕ) (place : Place) : Type 0 where
+  pub none : Text (tokens_of text) → ⊥
+  pub at : place ≡ syntax_place text
+
 -- why a text is no value: it has not the form, else too many leaves, else something in it does not fit; want of memory says nothing
 abbrev pub IsFaulty : PlainSplit → List ℕ → ValueFault → Type 0
-IsFaulty split text (faults.Syntax place) = Text (tokens_of text) → ⊥
+IsFaulty split text (faults.Syntax place) = HasNoForm text place
 IsFaulty split text (faults.WrongShape place) = IsUnfit split text whys.WrongShape place
 IsFaulty split text (faults.UnknownField place) = IsUnfit split text whys.UnknownField place
 IsFaulty split text (faults.OutOfRange place) = IsUnfit split text whys.OutOfRange place

@@ -20,7 +20,7 @@ pub record PlainFound : Type 0 where
   pub after : List ℕ
 
 abbrev pub token_view : Token → PlainToken
-token_view token = record { kind = token.kind; text = token.text.now; spaced = token.spaced; left = token.left }
+token_view token = record { kind = token.kind; text = token.text.now; spaced = nat_lt 0 token.gap; left = token.left }
 
 abbrev pub found_view : Found → PlainFound
 found_view found = record { token = token_view found.token; after = found.after.now }
@@ -71,6 +71,10 @@ kind_of is_run first next =
     else (if is_run then kinds.Word
     else (if first == 123 && next == 125 then kinds.Empty
     else kinds.Sign))))
+
+-- a byte that is a token by itself, whatever follows it
+abbrev pub is_sign : ℕ → Bool
+is_sign byte = not (is_word_byte byte) && not (byte == 45) && not (byte == 123)
 
 -- the byte that follows belongs to the token
 abbrev pub takes_next : TokenKind → Bool

@@ -10,8 +10,9 @@ use tydi_base::{Memory, Place};
 pub enum ValueFault {
     /// The text has not the form of a value.
     Syntax(Place),
-    /// The first thing of a text of the form that does not fit is a member of another shape than the type asks for, or a field or a root
-    /// that stands elsewhere or is missing. A missing field or root has the place of the byte that closes, or of the end of the text.
+    /// The first thing of a text of the form that does not fit is a member of another shape than the type asks for, or a field or a
+    /// root that stands elsewhere or is missing. A missing field or root has the place of the byte that closes, or of the end of the
+    /// text.
     WrongShape(Place),
     /// The first thing that does not fit is the name of a field that the Group lacks, or of a variant that the Union lacks.
     UnknownField(Place),

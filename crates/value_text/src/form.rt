@@ -1,7 +1,9 @@
 //! Whether a text has the form of a value.
 
-ghost use Rattle.std.specs.Prelude.{IfOk, MatchOption};
+ghost use Rattle.std.specs.Prelude.{◌≡◌, IfOk, MatchOption};
 ghost use Rattle.value_text.specs.Grammar.{Text};
+ghost use Rattle.value_text.specs.Stops.{stop_of};
+ghost use Rattle.value_text.specs.Syntax as syntax;
 ghost use Rattle.value_text.specs.Tokens.{tokens_of};
 
 use crate::tokens::Tokens;
@@ -12,7 +14,8 @@ use tydi_reading::Fault;
 /// Where reading stops at a text whose tokens have not the form of a value's text, by how many bytes there are from the next token on.
 /// None exactly where they have the form.
 pub(crate) fn refused_at(alloc: Global, text: &[u8]) -> Result<Option<usize>, Memory>
-    ensures { IfOk result (λ stop. MatchOption stop (Text (tokens_of text.now)) (λ left. Text (tokens_of text.now) → ⊥)) }
+    ensures form { IfOk result (λ stop. MatchOption stop (Text (tokens_of text.now)) (λ left. Text (tokens_of text.now) → ⊥)) }
+    ensures stop { IfOk result (λ stop. stop ≡ stop_of (syntax.text (tokens_of text.now))) }
 {
     let mut tokens = Tokens::new(text);
     match tokens.pass_text(alloc) {

@@ -1,6 +1,6 @@
 //! The token at the front of a text.
 
-ghost use Rattle.std.specs.Prelude.{◌≡◌, ◌≤◌, ◌<◌, length, option_map, slice_index, max};
+ghost use Rattle.std.specs.Prelude.{◌≡◌, ◌≤◌, ◌<◌, true, length, nat_lt, option_map, slice_index, max};
 ghost use Rattle.value_text.specs.Tokens as spec;
 ghost use Rattle.value_text.specs.Tokens.{found_view};
 
@@ -15,6 +15,7 @@ pub(crate) struct Found<'a> {
 }
 
 /// The token behind the white space and the comments at the front of a text. None where nothing else is left.
+#[inline(always)]
 pub(crate) fn find_token(bytes: &[u8]) -> Option<Found<'_>>
     ensures { option_map found_view result ≡ spec.token_in bytes.now }
 {
@@ -22,14 +23,18 @@ pub(crate) fn find_token(bytes: &[u8]) -> Option<Found<'_>>
     if rest.is_empty() {
         return None;
     }
-    Some(token_at(rest, rest.len() != bytes.len()))
+    Some(token_at(rest, bytes.len().saturating_sub(rest.len())))
 }
 
 /// The token at the front of a text, which is not empty.
-fn token_at(rest: &[u8], spaced: bool) -> Found<'_>
+#[inline(always)]
+fn token_at(rest: &[u8], gap: usize) -> Found<'_>
     requires { 0 < length rest.now }
-    ensures { found_view result ≡ spec.token_at spaced rest.now }
+    ensures { found_view result ≡ spec.token_at (nat_lt 0 gap) rest.now }
 {
+    if is_sign(byte_at(rest)) {
+        return sign_at(rest, gap);
+    }
     let run = word_length(rest);
     let len = run.max(1);
     let tail = &rest[len..];
@@ -38,7 +43,7 @@ fn token_at(rest: &[u8], spaced: bool) -> Found<'_>
     let token = Token {
         kind,
         text: &rest[..len],
-        spaced,
+        gap,
         left: rest.len(),
     };
     let after = if takes_next(kind) {
@@ -47,6 +52,32 @@ fn token_at(rest: &[u8], spaced: bool) -> Found<'_>
         tail
     };
     Found { token, after }
+}
+
+/// Whether a byte is a token by itself, whatever follows it.
+fn is_sign(byte: u8) -> bool
+    ensures { result ≡ spec.is_sign byte }
+{
+    !is_word_byte(byte) && byte != b'-' && byte != b'{'
+}
+
+/// The token of such a byte at the front of a text.
+#[inline(always)]
+fn sign_at(rest: &[u8], gap: usize) -> Found<'_>
+    requires some { 0 < length rest.now }
+    requires sign { spec.is_sign (slice_index rest.now 0) ≡ true }
+    ensures { found_view result ≡ spec.token_at (nat_lt 0 gap) rest.now }
+{
+    let token = Token {
+        kind: TokenKind::Sign,
+        text: &rest[..1],
+        gap,
+        left: rest.len(),
+    };
+    Found {
+        token,
+        after: &rest[1..],
+    }
 }
 
 /// The kind of a token, by whether it is a run, by its first byte, and by the byte that follows it.

@@ -24,6 +24,6 @@ mod users;
 mod words;
 
 pub use fault::ValueFault;
-pub use laws::values_that_are_read_fit;
+pub use laws::{values_are_read_as_printed, values_that_are_read_fit};
 pub use printing::print;
 pub use reading::read;

@@ -1,12 +1,13 @@
 //! A value of a port's type, read from its text.
 
-ghost use Rattle.std.specs.Prelude.{◌≡◌, ◌-◌, ◌^◌, ◌<◌, true, length, IfOk, MatchResult};
+ghost use Rattle.std.specs.Prelude.{◌≡◌, ◌-◌, ◌^◌, ◌<◌, true, length, IfOk, MatchResult, Some};
 ghost use Rattle.logical_value.specs.Fits.{fits_split};
 ghost use Rattle.logical_value.specs.Tree.{plain_port};
 ghost use Rattle.type_split.specs.Streams.{plain_split};
 ghost use Rattle.value_text.specs.Grammar.{Text};
 ghost use Rattle.value_text.specs.Port as spec;
 ghost use Rattle.value_text.specs.Reading.{IsFaulty, IsText, IsValue};
+ghost use Rattle.value_text.specs.Stops.{syntax_at};
 ghost use Rattle.value_text.specs.Tokens.{tokens_of};
 
 use crate::fault::{ValueFault, Why};
@@ -61,6 +62,7 @@ fn read_value(alloc: Global, split: &Split<'_>, text: &[u8]) -> Result<PortValue
 /// so many bytes left.
 fn syntax_place(alloc: Global, text: &[u8], left: usize) -> Result<Place, Memory>
     requires { length text.now < 2 ^ 32 - 1 }
+    ensures { IfOk result (λ place. place ≡ syntax_at text.now (Some left)) }
 {
     let further = stop_within(alloc, text, left)?;
     Ok(place_at(text, left.saturating_sub(further)))

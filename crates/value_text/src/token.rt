@@ -31,8 +31,8 @@ pub enum TokenKind {
 pub struct Token<'a> {
     pub kind: TokenKind,
     pub text: &'a [u8],
-    /// Whether white space or a comment stands before it.
-    pub spaced: bool,
+    /// How many bytes of white space and of comments stand before it. A flag would leave bytes of the struct unused, and slow its copies.
+    pub gap: usize,
     /// How many bytes the text has from its first byte on.
     pub left: usize,
 }

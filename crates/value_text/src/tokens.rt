@@ -5,6 +5,7 @@ ghost use Rattle.tydi_reading.specs.Reading as spec;
 ghost use Rattle.tydi_reading.specs.Reading.{tells, told_by};
 ghost use Rattle.value_text.specs.Words as words;
 ghost use Rattle.value_text.specs.Port.{left_of};
+ghost use Rattle.value_text.specs.Stops.{stop_in};
 ghost use Rattle.value_text.specs.Tokens.{token_view, tokens_of};
 
 use crate::lexing::find_token;
@@ -43,6 +44,8 @@ impl<'a> Source for Tokens<'a> {
 
     ghost left = { λ tokens. tokens };
 
+    // One call writes the next token in place; inlined, each caller would copy it.
+    #[inline(never)]
     fn skip(&mut self) {
         if self.next.is_some() {
             *self = Tokens::new(self.after);
@@ -52,6 +55,7 @@ impl<'a> Source for Tokens<'a> {
 
 impl<'a> Tokens<'a> {
     /// All tokens of a text.
+    #[inline(always)]
     pub fn new(bytes: &'a [u8]) -> Tokens<'a>
         ensures { result ≡ tokens_of bytes.now }
     {
@@ -138,7 +142,7 @@ impl<'a> Tokens<'a> {
         ensures { result ≡ tells words.is_spaced false self.now }
     {
         match self.first() {
-            Some(token) => token.spaced,
+            Some(token) => token.gap > 0,
             None => false,
         }
     }
@@ -175,7 +179,8 @@ impl<'a> Tokens<'a> {
 
     /// How many bytes the text has from the next token on. None exactly where none is left.
     pub fn stop(&self) -> Option<usize>
-        ensures { is_none result ≡ tells (λ _. false) true self.now }
+        ensures none { is_none result ≡ tells (λ _. false) true self.now }
+        ensures value { result ≡ stop_in self.now }
     {
         match self.first() {
             Some(token) => Some(token.left),

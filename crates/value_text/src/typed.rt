@@ -177,7 +177,7 @@ impl<'a> Tokens<'a> {
     {
         let members = repeated(
             self,
-            List::new(alloc),
+            room_for_one(alloc),
             |rest| rest.sees(b']'),
             |rest| -> Result<Value, Fault<Why>>
                 ensures { Reads (spec.next_value (spec.nest (spec.element (plain element.entry.now)) depth) rest.old) result rest.new }
@@ -195,6 +195,18 @@ impl<'a> Tokens<'a> {
     {
         self.take_comma();
         self.take_nest(alloc, element, depth)
+    }
+}
+
+/// The empty list, with room for one member where there is memory: a list of one then takes memory once.
+// It gives no `Result`, which would take room on the stack in each level of a nest.
+#[inline(never)]
+fn room_for_one(alloc: Global) -> List<Value>
+    ensures { result ≡ [] }
+{
+    match List::with_capacity(alloc, 1) {
+        Ok(list) => list,
+        Err(_) => List::new(alloc),
     }
 }
 

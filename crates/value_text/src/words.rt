@@ -71,7 +71,7 @@ fn all_are_hex(digits: &[u8]) -> bool
 }
 
 /// Whether this is a hexadecimal digit.
-fn is_hex(byte: u8) -> bool
+pub(crate) fn is_hex(byte: u8) -> bool
     ensures { result ≡ spec.is_hex byte }
 {
     digit_value(byte).is_some()

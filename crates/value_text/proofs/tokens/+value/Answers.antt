@@ -53,21 +53,21 @@ Tokens::take_members-repeated-requires-clause-less t c =
 pub Tokens::take_members-returns-in_err-members : goal.Tokens::take_members-returns-in_err-members
 unfolding listed_values repeated
 Tokens::take_members-returns-in_err-members t c =
-    let made = rw c.new.ensures at (c.repeated.ensures (next_value (nest (element (plain c.args.element.now)) c.args.depth)) (is_byte 93) false (λ p b k. search rules) (λ p q a k. search rules)
+    let made = rw c.room_for_one.ensures at (c.repeated.ensures (next_value (nest (element (plain c.args.element.now)) c.args.depth)) (is_byte 93) false (λ p b k. search rules) (λ p q a k. search rules)
     (less-next _ (less-nest _ c.args.depth (less-element (plain c.args.element.now))))) in
     first_of (search rules, grind (arith, common_steps))
 
 pub Tokens::take_members-returns-in_err-take_byte : goal.Tokens::take_members-returns-in_err-take_byte
 unfolding listed_values repeated
 Tokens::take_members-returns-in_err-take_byte t c =
-    let made = rw c.new.ensures at (c.repeated.ensures (next_value (nest (element (plain c.args.element.now)) c.args.depth)) (is_byte 93) false (λ p b k. search rules) (λ p q a k. search rules)
+    let made = rw c.room_for_one.ensures at (c.repeated.ensures (next_value (nest (element (plain c.args.element.now)) c.args.depth)) (is_byte 93) false (λ p b k. search rules) (λ p q a k. search rules)
     (less-next _ (less-nest _ c.args.depth (less-element (plain c.args.element.now))))) in
     first_of (search rules, grind (arith, common_steps))
 
 pub Tokens::take_members-returns : goal.Tokens::take_members-returns
 unfolding listed_values repeated
 Tokens::take_members-returns t c =
-    let made = rw c.new.ensures at (c.repeated.ensures (next_value (nest (element (plain c.args.element.now)) c.args.depth)) (is_byte 93) false (λ p b k. search rules) (λ p q a k. search rules)
+    let made = rw c.room_for_one.ensures at (c.repeated.ensures (next_value (nest (element (plain c.args.element.now)) c.args.depth)) (is_byte 93) false (λ p b k. search rules) (λ p q a k. search rules)
     (less-next _ (less-nest _ c.args.depth (less-element (plain c.args.element.now))))) in
     first_of (search rules, grind (arith, common_steps))
 
