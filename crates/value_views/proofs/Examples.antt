@@ -1,6 +1,7 @@
 -- Worked values and their views, by evaluation.
-use Rattle.std.proofs.Common.{◌≡◌, ℕ, true, false, List, [], ◌∷◌, map, Some, refl}
+use Rattle.std.proofs.Common.{◌≡◌, ℕ, true, false, List, [], ◌∷◌, map, Some, None, refl}
 use Rattle.tydi_base.specs.Bits.{bits_of}
+use Rattle.tydi_base.specs.Bits as words
 use Rattle.tydi_base.specs.Level.{whole_level}
 use Rattle.physical_stream.specs.declared.item.Item.TheVariants.{Elem, Close}
 use Rattle.logical_types.specs.declared.ltype.Sync.{Sync}
@@ -13,9 +14,11 @@ use Rattle.logical_value.specs.Fits.{fits_split}
 use Rattle.logical_value.specs.Tree.{Tree, word, group, union, list, apart, no_trees, tree, trees_of}
 use Rattle.nest_shape.specs.Tree.{leaf}
 use Rattle.nest_shape.specs.Tree as nests
+use Rattle.value_views.specs.Comparing.{disagreement_of}
 use Rattle.value_views.specs.Laws.{items_of_views}
 use Rattle.value_views.specs.Series.{NodeSeries, series_of_nodes}
 use Rattle.value_views.specs.Views.{nest_of, view_of_stream}
+use Rattle.value_views.specs.Words.{given_at}
 
 -- a Stream of these dimensions, of level 1
 abbrev stream : Ltype → ℕ → Sync → Ltype
@@ -117,3 +120,53 @@ root_view = refl
 
 dims_of_nodes : map (λ (node : NodeSeries). node.dims) (series_of_nodes (split_of apart_records).nodes two_roots) ≡ 1 ∷ 2 ∷ []
 dims_of_nodes = refl
+
+-- ---- joining
+
+-- one packet of the child too few
+flatten_too_few : disagreement_of (split_of (records syncs.Flatten)) ((nest_of (leaf_of 1 ∷ leaf_of 4 ∷ []) ∷ []) ∷ (nest_of (leaf_of 2 ∷ leaf_of 3 ∷ []) ∷ []) ∷ [])
+    ≡ Some (record { path = (98 ∷ []) ∷ []; packet = 1 })
+unfolding bits_of
+flatten_too_few = refl
+
+flatten_agrees : disagreement_of (split_of (records syncs.Flatten)) ((nest_of (leaf_of 1 ∷ leaf_of 4 ∷ []) ∷ []) ∷ (nest_of (leaf_of 2 ∷ leaf_of 3 ∷ []) ∷ nest_of [] ∷ []) ∷ []) ≡ None
+unfolding bits_of
+flatten_agrees = refl
+
+-- a Sync Stream with other lists above its own dimension
+sync_differs : disagreement_of (split_of (records syncs.Sync)) ((nest_of (leaf_of 1 ∷ leaf_of 4 ∷ []) ∷ []) ∷ (nest_of (nest_of (leaf_of 2 ∷ []) ∷ []) ∷ []) ∷ [])
+    ≡ Some (record { path = (98 ∷ []) ∷ []; packet = 0 })
+unfolding bits_of
+sync_differs = refl
+
+sync_agrees : disagreement_of (split_of (records syncs.Sync)) ((nest_of (leaf_of 1 ∷ leaf_of 4 ∷ []) ∷ []) ∷ (nest_of (nest_of (leaf_of 2 ∷ []) ∷ nest_of [] ∷ []) ∷ []) ∷ []) ≡ None
+unfolding bits_of
+sync_agrees = refl
+
+-- a(5) b(6) without the nest of b: packets are numbered among the leaves that select b
+none_selected : disagreement_of (split_of choices) ((leaf (bits_of 9 10) ∷ leaf (bits_of 9 1) ∷ []) ∷ [] ∷ []) ≡ Some (record { path = (98 ∷ []) ∷ []; packet = 0 })
+unfolding bits_of widths.tag_width words.number_of_bits
+none_selected = refl
+
+one_selected : disagreement_of (split_of choices) ((leaf (bits_of 9 10) ∷ leaf (bits_of 9 1) ∷ []) ∷ (leaf_of 6 ∷ []) ∷ []) ≡ None
+unfolding bits_of widths.tag_width words.number_of_bits
+one_selected = refl
+
+-- a Stream without a physical stream has the lists of its Sync Stream b, and those of the second Sync Stream are compared with them
+abbrev unseen : Ltype
+unseen = stream (types.group (two_parts (stream byte 1 syncs.Sync) (stream byte 0 syncs.Sync))) 1 syncs.Sync
+
+unseen_series : given_at (split_of unseen) ((nest_of (nest_of (leaf_of 7 ∷ []) ∷ nest_of [] ∷ []) ∷ []) ∷ (nest_of (leaf_of 8 ∷ []) ∷ []) ∷ []) 0
+    ≡ some (pair_of apart apart ∷ pair_of apart apart ∷ []) ∷ []
+unfolding bits_of
+unseen_series = refl
+
+unseen_differs : disagreement_of (split_of unseen) ((nest_of (nest_of (leaf_of 7 ∷ []) ∷ nest_of [] ∷ []) ∷ []) ∷ (nest_of (leaf_of 8 ∷ []) ∷ []) ∷ [])
+    ≡ Some (record { path = (98 ∷ []) ∷ []; packet = 0 })
+unfolding bits_of
+unseen_differs = refl
+
+-- roots agree with any
+roots_agree : disagreement_of (split_of apart_records) ((nest_of (leaf_of 1 ∷ []) ∷ []) ∷ [] ∷ []) ≡ None
+unfolding bits_of
+roots_agree = refl

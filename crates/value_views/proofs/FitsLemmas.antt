@@ -196,7 +196,7 @@ drop-one n roots = (let more : 1 + n ≡ suc n = omega arith in ap (λ (k : ℕ)
     behind (suc n) [] = refl
     behind n (first ∷ roots) = refl
 
-drop-behind : (sync : Sync) (n : ℕ) (roots : List (List Tree)) → drop n (roots_behind sync roots) ≡ drop (cond (is_apart sync) 1 0 + n) roots
+pub drop-behind : (sync : Sync) (n : ℕ) (roots : List (List Tree)) → drop n (roots_behind sync roots) ≡ drop (cond (is_apart sync) 1 0 + n) roots
 drop-behind syncs.Sync n roots = (let same : n ≡ 0 + n = omega arith in ap (λ (k : ℕ). drop k roots) same)
 drop-behind syncs.Flatten n roots = (let same : n ≡ 0 + n = omega arith in ap (λ (k : ℕ). drop k roots) same)
 drop-behind syncs.Desync n roots = sym (drop-one n roots)

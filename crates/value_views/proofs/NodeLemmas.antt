@@ -19,8 +19,8 @@ use Rattle.type_split.proofs.CountLemmas.{nodes_in-length, streams-few}
 use Rattle.type_split.proofs.StandingLemmas.{AreFrom-inside, AreFrom-node, AreFrom-all, AreFrom-part, AreFrom-parts, roots_in_order}
 use Rattle.logical_value.specs.Fits.{fit_roots, fits_series}
 use Rattle.logical_value.specs.Tree.{Tree}
-use Rattle.value_views.specs.Series.{replaced, first_part, other_parts, deep, dims_inside, series_inside, roots_behind, number_of_roots, roots_of_parts, first_series, series_in, series_in_parts, series_of_nodes}
-use Rattle.value_views.specs.Way.{NodeType, led, Leads, as_root, root_types, root_types_in_parts, series_at, type_of_node, type_of_series, HasNone, LeadsInPort, LeadsToNode, root_of}
+use Rattle.value_views.specs.Series.{replaced, first_part, other_parts, deep, dims_inside, series_inside, roots_behind, number_of_roots, roots_of_parts, first_series, series_in, series_in_parts, series_of_nodes, series_at}
+use Rattle.value_views.specs.Way.{NodeType, led, Leads, as_root, root_types, root_types_in_parts, type_of_node, type_of_series, HasNone, LeadsInPort, LeadsToNode, root_of}
 use Rattle.value_views.specs.declared.way.Finding.{Finding}
 use Rattle.value_views.specs.declared.way.Step.{Step}
 use Rattle.value_views.specs.declared.way.Step.TheVariants as steps

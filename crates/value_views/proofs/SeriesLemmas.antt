@@ -9,8 +9,8 @@ use Rattle.logical_types.specs.Tree.{Ltype, Parts}
 use Rattle.logical_types.specs.Tree as types
 use Rattle.type_split.specs.Nodes.{number_of_streams, streams_in_parts}
 use Rattle.logical_value.specs.Tree.{Tree, members}
-use Rattle.value_views.specs.Series.{listed, replaced, leaves, first_part, other_parts, first_series, dims_inside, series_inside, roots_behind, number_of_roots, series_in, series_in_parts}
-use Rattle.value_views.specs.Way.{and_then, series_at}
+use Rattle.value_views.specs.Series.{listed, replaced, leaves, first_part, other_parts, first_series, dims_inside, series_inside, roots_behind, number_of_roots, series_in, series_in_parts, series_at}
+use Rattle.value_views.specs.Way.{and_then}
 
 -- ---- members and leaves
 

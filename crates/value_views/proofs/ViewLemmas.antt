@@ -20,9 +20,9 @@ use Rattle.logical_value.specs.Fits.{all_pass, is_nest, fits_element, fits_serie
 use Rattle.logical_value.specs.Tree.{Tree, trees_of, plain, plain_port}
 use Rattle.logical_value.specs.declared.value.PortValue.{PortValue}
 use Rattle.logical_value.specs.declared.value.Value.{Value}
-use Rattle.value_views.specs.Series.{series_of_nodes}
+use Rattle.value_views.specs.Series.{series_of_nodes, series_at}
 use Rattle.value_views.specs.Views.{view_of, view_of_stream, node_of}
-use Rattle.value_views.specs.Way.{CanGatherAll, Leads, LeadsToNode, gathered, series_at}
+use Rattle.value_views.specs.Way.{CanGatherAll, Leads, LeadsToNode, gathered}
 use Rattle.value_views.specs.declared.way.Step.{Step}
 use Rattle.value_views.proofs.NodeLemmas.{fits-at, has-node, series_at-found}
 
@@ -36,7 +36,7 @@ viewed f (a ∷ l) (suc at) x default found = viewed f l at x default found
 pub within-map : {A B : Type 0} (f : A → B) (l : List A) (at : ℕ) (x : B) → slice_get (map f l) at ≡ Some x → at < length l
 within-map f l at x found = let less = slice_get_within (map f l) at x found in let long = length-map l f in omega (arith, less, long)
 
-all-at : {A : Type 0} (P : A → Type 0) (l : List A) (at : ℕ) (x : A) → All P l → slice_get l at ≡ Some x → P x
+pub all-at : {A : Type 0} (P : A → Type 0) (l : List A) (at : ℕ) (x : A) → All P l → slice_get l at ≡ Some x → P x
 all-at P l at x all found = subst P (get_or_from_slice_get l at x x found) (All-get_or P l at x (slice_get_within l at x found) all)
 
 -- ---- gathering

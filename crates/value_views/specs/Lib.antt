@@ -1,4 +1,13 @@
 pub mod Series
 pub mod Views
+pub mod Words
+pub mod Comparing
+pub mod Joining
+pub mod Shown
 pub mod Way
+pub mod Along
+pub mod Giving
+pub mod Walking
+pub mod Taking
+pub mod Filling
 pub mod Laws

@@ -65,6 +65,12 @@ abbrev pub first_series : List (List Tree) → List Tree
 first_series [] = []
 first_series (series ∷ more) = series
 
+-- the series of this number among these
+abbrev pub series_at : ℕ → List (List Tree) → List Tree
+series_at number [] = []
+series_at zero (series ∷ more) = series
+series_at (suc number) (series ∷ more) = series_at number more
+
 -- ---- the series of nodes
 
 -- a node: the type of its elements, its dimensionality, and its series

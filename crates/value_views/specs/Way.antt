@@ -13,7 +13,7 @@ use Rattle.nest_shape.specs.Tree as nests
 use Rattle.nest_shape.specs.declared.nest.Nest.{Nest}
 use Rattle.logical_value.specs.Fits.{all_pass, is_nest, fits_element}
 use Rattle.logical_value.specs.Tree.{Tree, group, Trees, trees_of}
-use Rattle.value_views.specs.Series.{replaced, leaves, first_part, other_parts, deep, dims_inside, number_of_roots, roots_of_parts, NodeSeries, series_in, series_in_parts, series_of_nodes}
+use Rattle.value_views.specs.Series.{replaced, leaves, first_part, other_parts, deep, dims_inside, number_of_roots, roots_of_parts, NodeSeries, series_at, series_in, series_in_parts, series_of_nodes}
 use Rattle.value_views.specs.Views.{view_of}
 use Rattle.value_views.specs.declared.way.Finding.{Finding}
 use Rattle.value_views.specs.declared.way.Step.{Step}
@@ -30,12 +30,6 @@ and_then choice (Some value) = choice value
 abbrev pub part_of : ℕ → Tree → Option Tree
 part_of zero = first_part
 part_of (suc number) = λ value. and_then (part_of number) (other_parts value)
-
--- the series of the root of this number
-abbrev pub series_at : ℕ → List (List Tree) → List Tree
-series_at number [] = []
-series_at zero (series ∷ more) = series
-series_at (suc number) (series ∷ more) = series_at number more
 
 -- ---- where a way leads
 

@@ -149,7 +149,7 @@ fn is_flatten(step: Step) -> bool
 }
 
 /// The members of a sequence; anything else has none.
-fn members_of(value: &Value) -> &[Value]
+pub(crate) fn members_of(value: &Value) -> &[Value]
     ensures { map tree.plain result.now ≡ tree.members (tree.plain value.now) }
 {
     match value.members() {
@@ -159,7 +159,7 @@ fn members_of(value: &Value) -> &[Value]
 }
 
 /// The field of this number of a Group, or the value that a Union holds where it selects the variant of this number.
-fn part_of(value: &Value, number: usize) -> Option<&Value>
+pub(crate) fn part_of(value: &Value, number: usize) -> Option<&Value>
     ensures { MatchOption result (spec.part_of number (tree.plain value.now) ≡ None) (λ part. spec.part_of number (tree.plain value.now) ≡ Some (tree.plain part.now)) }
 {
     match value.fields() {

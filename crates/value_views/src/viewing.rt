@@ -76,7 +76,7 @@ fn gather_node(
 }
 
 /// The effective dimensionality of a node.
-fn dims_of(node: &Node<'_>) -> u64
+pub(crate) fn dims_of(node: &Node<'_>) -> u64
     ensures { result ≡ node.now.params.dims }
 {
     u64::from(node.params.dims)
