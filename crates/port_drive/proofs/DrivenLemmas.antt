@@ -27,10 +27,10 @@ module _ (split : PlainSplit) (value : List (List Tree)) (plan : Plan) (runs : L
   plans_fit : PlansFit plan.cycles split.streams plan.streams
   plans_fit = plans-fit plan.cycles split.streams plan.streams can.plan_fits.each
 
-  at : (k : ℕ) (run : StreamRun) → slice_get runs k ≡ Some run → RunAt split value plan.cycles 0 split.streams plan.streams k run
+  pub at : (k : ℕ) (run : StreamRun) → slice_get runs k ≡ Some run → RunAt split value plan.cycles 0 split.streams plan.streams k run
   at k run there = run-at split value plan.cycles split.streams plan.streams 0 runs k run plans_fit made there
 
-  runs-so : (k : ℕ) (run : StreamRun) (there : slice_get runs k ≡ Some run) → IsRunning split value k run (at k run there).stream (at k run there).plan
+  pub runs-so : (k : ℕ) (run : StreamRun) (there : slice_get runs k ≡ Some run) → IsRunning split value k run (at k run there).stream (at k run there).plan
   runs-so k run there =
       let a = at k run there in
       let number : 0 + k ≡ k = omega arith in
@@ -39,7 +39,7 @@ module _ (split : PlainSplit) (value : List (List Tree)) (plan : Plan) (runs : L
       subst (λ (r : StreamRun). IsRunning split value k r a.stream a.plan) (sym is)
       (running split value k plan.cycles a.stream a.plan (can.lanes k a.stream a.stream_there) (items-so split value can.port can.value_fits k a.stream a.stream_there) a.fits multiple)
 
-  are-runs : AreRunsOf plan.cycles (heads_of split) runs
+  pub are-runs : AreRunsOf plan.cycles (heads_of split) runs
   are-runs = record {
     params = runs-params split value plan.cycles split.streams plan.streams 0 runs plans_fit made;
     long = λ k run there. let a = at k run there in ap (λ (r : StreamRun). length r.ready) a.is ∙ a.fits.long;

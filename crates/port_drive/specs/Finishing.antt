@@ -1,9 +1,10 @@
 -- Whether the runs of a port finish, by the transfers that they leave (this project's own).
-use Rattle.std.specs.Prelude.{◌≡◌, ℕ, suc, ◌==◌, if◌then◌else◌, List, [], ◌∷◌, length, Option, Some, None, Result, Ok, Err, MatchOption}
+use Rattle.std.specs.Prelude.{◌≡◌, ℕ, suc, ◌+◌, ◌≤◌, ◌==◌, if◌then◌else◌, List, [], ◌∷◌, length, slice_get, Option, Some, None, Result, Ok, Err, MatchOption}
 use Rattle.type_split.specs.Streams.{PlainSplit}
 use Rattle.logical_value.specs.Tree.{Tree}
 use Rattle.plan_text.specs.declared.plan.StreamPlan.{StreamPlan}
 use Rattle.cycle_trace.specs.Trace.{params_of_heads}
+use Rattle.handshake.specs.Laws.{gaps_below, ones_in}
 use Rattle.handshake.specs.Rows.{StreamRun, rows_after, rows_from, undone_in}
 use Rattle.plan_text.specs.declared.plan.Plan.{Plan}
 use Rattle.trace_pieces.specs.Rows.{AreShownFrom}
@@ -31,6 +32,15 @@ finishing runs (Some reason) = Err reason
 abbrev pub FinishedRunsDrive : Type 0
 FinishedRunsDrive = (split : PlainSplit) (value : List (List Tree)) (plans : List StreamPlan) (runs : List StreamRun) →
     runs_of split value plans ≡ Ok runs → drive_of split value plans ≡ finishing runs (unfinished_from 0 (undone_in runs))
+
+-- a run has as many ready bits that are 1 as it has transfers and cycles of effective gaps
+abbrev pub HasReadyBits : StreamRun → Type 0
+HasReadyBits run = length run.transfers + gaps_below run.params run.transfers run.gaps (length run.transfers) ≤ ones_in run.ready
+
+-- runs that a value and a plan make drive the port where each of them has so many ready bits
+abbrev pub ReadyRunsDrive : Type 0
+ReadyRunsDrive = (split : PlainSplit) (value : List (List Tree)) (plans : List StreamPlan) (runs : List StreamRun) → runs_of split value plans ≡ Ok runs →
+    ((number : ℕ) (run : StreamRun) → slice_get runs number ≡ Some run → HasReadyBits run) → drive_of split value plans ≡ Ok runs
 
 -- the rows of these runs can be counted and written: each is of a stream of the split, and shows only what its stream can show; there is
 -- a run for each stream; and no row has been made before the first cycle

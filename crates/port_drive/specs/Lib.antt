@@ -3,3 +3,7 @@ pub mod Laws
 pub mod Faults
 pub mod Starting
 pub mod Finishing
+pub mod Text
+pub mod PortText
+pub mod Forms
+pub mod Words
