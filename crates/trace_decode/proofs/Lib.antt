@@ -1,0 +1,11 @@
+pub mod KeepLemmas
+pub mod RowLemmas
+pub mod TagLemmas
+pub mod RunLemmas
+pub mod HeadLemmas
+pub mod JoinLemmas
+pub mod CycleLemmas
+pub mod OutcomeLemmas
+pub mod FeedLemmas
+pub mod LawLemmas
+pub mod DrivenLemmas
