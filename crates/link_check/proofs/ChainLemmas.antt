@@ -10,12 +10,13 @@ use Rattle.link_check.specs.Checked.{fault_of_bodies, impl_of}
 use Rattle.link_check.specs.Ends.{Inside, Side, ends_of, instance_named, instance_side, own_side, port_named, ports_at, side_named}
 use Rattle.link_check.specs.Laws.{ChainsEndInOneSink, ChainsMeetNoPortTwice}
 use Rattle.link_check.specs.Links.{Body, fault_of_links, is_linked, net_of}
-use Rattle.link_check.specs.Order.{bodies_from}
+use Rattle.link_check.specs.Order.{bodies_from, bodies_in_text}
 use Rattle.link_check.specs.Sizes.{instances_at}
 use Rattle.link_check.specs.declared.fault.LinkFault.TheVariants as faults
 use Rattle.link_check.specs.declared.leaf.LeafPort.{LeafPort}
 use Rattle.link_check.specs.declared.nets.ImplNets.{ImplNets}
 use Rattle.link_check.specs.declared.nets.Net.{Net}
+use Rattle.link_check.proofs.CheckedLemmas.{nets-of}
 use Rattle.link_check.proofs.NetLemmas.{Contains-mapped, all-sides, alone-by_sink, alone-by_source, body_found, is_source_end, its-body, its-inside, no-fault, same-end}
 use Rattle.link_check.proofs.TestLemmas.{clash, neither}
 
@@ -319,11 +320,13 @@ module _ (streamlets : List PlainStreamlet) where
 
 pub chains_end_in_one_sink : ChainsEndInOneSink
 chains_end_in_one_sink streamlets nets are source one other leads also =
-    one-sink streamlets are.impls.bodies are.impls.order.all are.impls.says.0 source one other
-    (subst (λ (impls : List ImplNets). LeadsToSink streamlets impls source one) are.impls.says.1 leads)
-    (subst (λ (impls : List ImplNets). LeadsToSink streamlets impls source other) are.impls.says.1 also)
+    let its = nets-of streamlets nets are in
+    one-sink streamlets (bodies_in_text streamlets) its.all its.faultless source one other
+    (subst (λ (impls : List ImplNets). LeadsToSink streamlets impls source one) its.impls_are leads)
+    (subst (λ (impls : List ImplNets). LeadsToSink streamlets impls source other) its.impls_are also)
 
 pub chains_meet_no_port_twice : ChainsMeetNoPortTwice
 chains_meet_no_port_twice streamlets nets are source last way is by =
-    port-once streamlets are.impls.bodies are.impls.order.all are.impls.says.0 source last way is
-    (subst (λ (impls : List ImplNets). ByWay (NetLeads streamlets impls) source way last) are.impls.says.1 by)
+    let its = nets-of streamlets nets are in
+    port-once streamlets (bodies_in_text streamlets) its.all its.faultless source last way is
+    (subst (λ (impls : List ImplNets). ByWay (NetLeads streamlets impls) source way last) its.impls_are by)

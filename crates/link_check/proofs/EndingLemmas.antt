@@ -10,10 +10,11 @@ use Rattle.link_check.specs.Checked.{fault_of_bodies, impl_of}
 use Rattle.link_check.specs.Ends.{Inside, Side, instance_named, instance_side, own_side, port_named, ports_at}
 use Rattle.link_check.specs.Laws.{ChainsEnd}
 use Rattle.link_check.specs.Links.{Body}
-use Rattle.link_check.specs.Order.{bodies_from}
+use Rattle.link_check.specs.Order.{bodies_from, bodies_in_text}
 use Rattle.link_check.specs.Sizes.{instances_at, instances_down}
 use Rattle.link_check.specs.declared.leaf.LeafPort.{LeafPort}
 use Rattle.link_check.specs.declared.nets.ImplNets.{ImplNets}
+use Rattle.link_check.proofs.CheckedLemmas.{nets-of}
 use Rattle.link_check.proofs.ChainLemmas.{Leads, back-alone, design-is, direction, inside-is, its-net, not-empty, on_way, once, port-direction, seen, sink-seen, source-first, under-push, way-steps}
 use Rattle.link_check.proofs.FoundLemmas.{design-net, has-instances}
 use Rattle.link_check.proofs.NetLemmas.{all-sides, is_source_end}
@@ -237,6 +238,7 @@ short-enough streamlets top limit small way under e = by (ltb limit (instances_d
 
 pub chains_end : ChainsEnd
 chains_end streamlets nets are source is =
-    let found = ends streamlets are.impls.bodies are.impls.order.all are.impls.says.0 source is 65536
-    (short-enough streamlets source.top 65536 (λ way many. are.small (record { levels = length way; number = source.top; many = many }))) in
-    (found.0, subst (λ (impls : List ImplNets). LeadsToSink streamlets impls source found.0) (sym are.impls.says.1) found.1)
+    let its = nets-of streamlets nets are in
+    let found = ends streamlets (bodies_in_text streamlets) its.all its.faultless source is 65536
+    (short-enough streamlets source.top 65536 (λ way many. its.small (record { levels = length way; number = source.top; many = many }))) in
+    (found.0, subst (λ (impls : List ImplNets). LeadsToSink streamlets impls source found.0) (sym its.impls_are) found.1)

@@ -8,6 +8,8 @@ mod NamedLemmas
 mod LinkedLemmas
 mod CountLemmas
 mod OrderLemmas
+mod TextOrderLemmas
+mod SizeLemmas
 mod CheckedLemmas
 mod TextLemmas
 mod NetLemmas
@@ -16,3 +18,11 @@ mod FoundLemmas
 mod WayLemmas
 mod EndingLemmas
 mod StepLemmas
+pub mod CarryLemmas
+mod HeadLemmas
+mod CarrierLemmas
+pub mod TwinLemmas
+mod KeptTextLemmas
+mod TransitiveLemmas
+mod PortTypeLemmas
+mod EndHeadLemmas

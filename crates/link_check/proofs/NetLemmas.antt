@@ -14,13 +14,16 @@ use Rattle.til_resolve.specs.declared.project.Link.{Link}
 use Rattle.til_resolve.specs.declared.project.LinkEnd.{LinkEnd}
 use Rattle.link_check.specs.Chains.{is_structural, is_design_there}
 use Rattle.link_check.specs.Checked.{fault_of_bodies}
+use Rattle.link_check.specs.Compatible.{Compatible}
+use Rattle.link_check.specs.Differences.{first_difference}
 use Rattle.link_check.specs.Ends.{Inside, Side, side_of, is_same_end, ports_found}
-use Rattle.link_check.specs.Links.{Body, difference_of, fault_of_body, fault_of_link, fault_of_links, fault_of_sides, is_linked, net_between, net_of, net_of_side}
+use Rattle.link_check.specs.Links.{Body, fault_of_body, fault_of_link, fault_of_links, fault_of_sides, is_linked, net_between, net_of, net_of_side}
 use Rattle.link_check.specs.Order.{bodies_from, body_of}
 use Rattle.link_check.specs.Sizes.{instances_found}
 use Rattle.link_check.specs.declared.fault.LinkFault.TheVariants as faults
 use Rattle.link_check.specs.declared.nets.Net.{Net}
-use Rattle.link_check.proofs.TestLemmas.{and, clash, neither}
+use Rattle.link_check.proofs.CompatibleLemmas.{no_difference_is_compatible}
+use Rattle.link_check.proofs.TestLemmas.{and, clash, neither, none-mapped}
 
 -- ---- lists
 
@@ -139,10 +142,22 @@ unlinked : (place : Place) (linked : Bool) → (if linked then Some (faults.Link
 unlinked place true none = absurd cc
 unlinked place false none = refl
 
--- the sides of the two ends of a net between ends of these sides
+-- the sides of the two ends of a net, and their types
 pub record HasSides (streamlets : List PlainStreamlet) (inside : Inside) (net : Net) : Type 0 where
   pub source : is_source_end streamlets inside net.source ≡ Some true
   pub sink : is_source_end streamlets inside net.sink ≡ Some false
+  pub types : (from to : Side) → side_of streamlets inside net.source ≡ Some from → side_of streamlets inside net.sink ≡ Some to → Compatible false from.ltype to.ltype
+
+-- two ends whose types have no difference
+types-of : (source sink : Option Side) (x y : Bool) (t u : Ltype) → source ≡ Some (record { is_source = x; ltype = t }) → sink ≡ Some (record { is_source = y; ltype = u }) → first_difference false t u ≡ None
+    → (from to : Side) → source ≡ Some from → sink ≡ Some to → Compatible false from.ltype to.ltype
+types-of source sink x y t u e f none from to a b =
+    let left : ◌≡◌ {A = Option Side} (Some (record { is_source = x; ltype = t })) (Some from) = sym e ∙ a in
+    let right : ◌≡◌ {A = Option Side} (Some (record { is_source = y; ltype = u })) (Some to) = sym f ∙ b in
+    subst (λ (s : Ltype). Compatible false s to.ltype) (type-in left) (subst (λ (k : Ltype). Compatible false t k) (type-in right) ((no_difference_is_compatible false t u).0 none))
+  where
+    type-in : {one other : Side} → Some one ≡ Some other → one.ltype ≡ other.ltype
+    type-in e = cc
 
 module _ (streamlets : List PlainStreamlet) (inside : Inside) where
   side-is : (end : LinkEnd) (is : Bool) (ltype : Ltype) → side_of streamlets inside end ≡ Some (record { is_source = is; ltype = ltype }) → is_source_end streamlets inside end ≡ Some is
@@ -154,16 +169,24 @@ module _ (streamlets : List PlainStreamlet) (inside : Inside) where
       → (linked ≡ false) × HasSides streamlets inside (net_of_side (Some (record { is_source = x; ltype = t })) first second)
   both-sides place first second true true t u linked e f none = absurd cc
   both-sides place first second false false t u linked e f none = absurd cc
-  both-sides place first second true false t u linked e f none = (
-    unlinked place linked (neither (option_map (faults.NotCompatible place) (difference_of (record { is_source = true; ltype = t }) (record { is_source = false; ltype = u })))
-        (if linked then Some (faults.LinkedTwice place) else None) none).1,
-    record { source = side-is first true t e; sink = side-is second false u f },
-  )
-  both-sides place first second false true t u linked e f none = (
-    unlinked place linked (neither (option_map (faults.NotCompatible place) (difference_of (record { is_source = false; ltype = t }) (record { is_source = true; ltype = u })))
-        (if linked then Some (faults.LinkedTwice place) else None) none).1,
-    record { source = side-is second true u f; sink = side-is first false t e },
-  )
+  both-sides place first second true false t u linked e f none =
+      let parts = neither (option_map (faults.NotCompatible place) (first_difference false t u)) (if linked then Some (faults.LinkedTwice place) else None) none in (
+        unlinked place linked parts.1,
+        record {
+          source = side-is first true t e;
+          sink = side-is second false u f;
+          types = types-of (side_of streamlets inside first) (side_of streamlets inside second) true false t u e f (none-mapped (faults.NotCompatible place) (first_difference false t u) parts.0);
+        },
+      )
+  both-sides place first second false true t u linked e f none =
+      let parts = neither (option_map (faults.NotCompatible place) (first_difference false u t)) (if linked then Some (faults.LinkedTwice place) else None) none in (
+        unlinked place linked parts.1,
+        record {
+          source = side-is second true u f;
+          sink = side-is first false t e;
+          types = types-of (side_of streamlets inside second) (side_of streamlets inside first) true false u t f e (none-mapped (faults.NotCompatible place) (first_difference false u t) parts.0);
+        },
+      )
 
   some-sides : (place : Place) (first second : LinkEnd) (one other : Option Side) (linked : Bool) → side_of streamlets inside first ≡ one → side_of streamlets inside second ≡ other
       → fault_of_sides place one other linked ≡ None → (linked ≡ false) × HasSides streamlets inside (net_of_side one first second)

@@ -9,8 +9,9 @@ use Rattle.til_resolve.specs.PlainProject.{PlainStreamlet, plain_port, plain_str
 use Rattle.til_resolve.specs.declared.project.Streamlet.{Streamlet}
 use Rattle.link_check.specs.Bodies.{body_lent, bodies_lent, body_there}
 use Rattle.link_check.specs.Links as links
-use Rattle.link_check.specs.Order.{body_of, bodies_from, stands_at, in_text, IsInTextOrder}
+use Rattle.link_check.specs.Order.{body_of, bodies_from, stands_at, in_text, bodies_in_text}
 use Rattle.link_check.specs.declared.order.Body.{Body}
+use Rattle.link_check.proofs.TextOrderLemmas.{text_order}
 
 nil-right : {A : Type 0} (xs : List A) → xs ++ [] ≡ xs
 nil-right [] = refl
@@ -62,8 +63,8 @@ sorted-lent all (first ∷ more) sorted = λ k d low high.
     ∙ sorted k first low (omega (arith, high, long))
 
 pub sorted-is : (streamlets : List PlainStreamlet) (old new : List Body) → bodies_lent streamlets old ≡ bodies_from 0 streamlets → IsPermutation old new
-    → IsSortedByKey (λ (body : Body). stands_at (body_lent streamlets body)) in_text new → IsInTextOrder streamlets (bodies_lent streamlets new)
-sorted-is streamlets old new is moved sorted = record {
+    → IsSortedByKey (λ (body : Body). stands_at (body_lent streamlets body)) in_text new → bodies_lent streamlets new ≡ bodies_in_text streamlets
+sorted-is streamlets old new is moved sorted = (text_order streamlets (bodies_lent streamlets new)).0 (record {
   all = subst (λ (bodies : List links.Body). IsPermutation bodies (bodies_lent streamlets new)) is (IsPermutation-map (body_lent streamlets) old new moved);
-  ordered = sorted-lent streamlets new sorted;
-}
+  sorted = sorted-lent streamlets new sorted;
+})

@@ -10,11 +10,13 @@ use Rattle.link_check.specs.Chains.{IsLeafSink, IsLeafSource, LeadsToSink, NetLe
 use Rattle.link_check.specs.Checked.{AreNets, impl_of}
 use Rattle.link_check.specs.Ends.{is_same_end}
 use Rattle.link_check.specs.Links.{Body}
+use Rattle.link_check.specs.Order.{bodies_in_text}
 use Rattle.link_check.specs.Steps.{HasCome, IsLedOutside, IsNext, led, sink_among, sink_at}
 use Rattle.link_check.specs.declared.leaf.LeafPort.{LeafPort}
 use Rattle.link_check.specs.declared.nets.ImplNets.{ImplNets}
 use Rattle.link_check.specs.declared.nets.Net.{Net}
 use Rattle.link_check.specs.declared.nets.Nets.{Nets}
+use Rattle.link_check.proofs.CheckedLemmas.{AreOf, nets-of}
 use Rattle.link_check.proofs.EndingLemmas.{from-source, sink-or-on}
 use Rattle.link_check.proofs.FoundLemmas.{found-there, same-names}
 use Rattle.link_check.proofs.NetLemmas.{Contains-cons, Contains-mapped, Contains-none, body_found, its-body, same-itself}
@@ -122,12 +124,13 @@ head other (x ∷ xs) = x
 impl-alone : (streamlets : List PlainStreamlet) (nets : Nets) → AreNets streamlets nets
     → (one other : ImplNets) → Contains nets.impls one → Contains nets.impls other → one.streamlet ≡ other.streamlet → one ≡ other
 impl-alone streamlets nets are one other here there same =
-    let first = Contains-mapped (impl_of streamlets) are.impls.bodies one (subst (λ (l : List ImplNets). Contains l one) are.impls.says.1 here) in
-    let second = Contains-mapped (impl_of streamlets) are.impls.bodies other (subst (λ (l : List ImplNets). Contains l other) are.impls.says.1 there) in
+    let its = nets-of streamlets nets are in
+    let first = Contains-mapped (impl_of streamlets) (bodies_in_text streamlets) one (subst (λ (l : List ImplNets). Contains l one) its.impls_are here) in
+    let second = Contains-mapped (impl_of streamlets) (bodies_in_text streamlets) other (subst (λ (l : List ImplNets). Contains l other) its.impls_are there) in
     let numbers : first.0.streamlet ≡ second.0.streamlet = ap (λ (i : ImplNets). i.streamlet) first.2 ∙ same ∙ sym (ap (λ (i : ImplNets). i.streamlet) second.2) in
     let bodies : first.0 ∷ [] ≡ second.0 ∷ [] =
-    sym (its-body streamlets are.impls.bodies first.0 are.impls.order.all first.1) ∙ ap (λ n. body_found n (slice_get streamlets n)) numbers
-    ∙ its-body streamlets are.impls.bodies second.0 are.impls.order.all second.1 in
+    sym (its-body streamlets (bodies_in_text streamlets) first.0 its.all first.1) ∙ ap (λ n. body_found n (slice_get streamlets n)) numbers
+    ∙ its-body streamlets (bodies_in_text streamlets) second.0 its.all second.1 in
     sym first.2 ∙ ap (λ (l : List Body). impl_of streamlets (head first.0 l)) bodies ∙ second.2
 
 pub next-is : (streamlets : List PlainStreamlet) (nets : Nets) (at : LeafPort) (next : Option LeafPort) → AreNets streamlets nets
@@ -147,19 +150,22 @@ pub come-end : (streamlets : List PlainStreamlet) (nets : Nets) (source at : Lea
     → HasCome streamlets nets.impls source at → IsNext streamlets nets.impls at None → LeadsToSink streamlets nets.impls source at
 come-end streamlets nets source at are is come last = by come
   where
-    moved : (one next : LeafPort) → NetLeads streamlets (map (impl_of streamlets) are.impls.bodies) one next → NetLeads streamlets nets.impls one next
-    moved one next = subst (λ (l : List ImplNets). NetLeads streamlets l one next) (sym are.impls.says.1)
+    its : AreOf streamlets nets
+    its = nets-of streamlets nets are
 
-    end : LeadsTo (NetLeads streamlets nets.impls) source at → IsLeafSink streamlets at ⊎ ((next : LeafPort) × NetLeads streamlets (map (impl_of streamlets) are.impls.bodies) at next)
+    moved : (one next : LeafPort) → NetLeads streamlets (map (impl_of streamlets) (bodies_in_text streamlets)) one next → NetLeads streamlets nets.impls one next
+    moved one next = subst (λ (l : List ImplNets). NetLeads streamlets l one next) (sym its.impls_are)
+
+    end : LeadsTo (NetLeads streamlets nets.impls) source at → IsLeafSink streamlets at ⊎ ((next : LeafPort) × NetLeads streamlets (map (impl_of streamlets) (bodies_in_text streamlets)) at next)
         → LeadsToSink streamlets nets.impls source at
     end way (inl sink) = record { is_source = is; is_sink = sink; way = way }
     end way (inr next) = absurd (last next.0 (moved at next.0 next.1))
 
     by : HasCome streamlets nets.impls source at → LeadsToSink streamlets nets.impls source at
-    by (inl same) = let next = from-source streamlets are.impls.bodies are.impls.order.all are.impls.says.0 source is in
+    by (inl same) = let next = from-source streamlets (bodies_in_text streamlets) its.all its.faultless source is in
         absurd (last next.0 (subst (λ (p : LeafPort). NetLeads streamlets nets.impls p next.0) same (moved source next.0 next.1)))
     by (inr way) = let before = last-step (NetLeads streamlets nets.impls) source way.0 at way.1 in
-        end way (sink-or-on streamlets are.impls.bodies are.impls.order.all are.impls.says.0 before.0 at (subst (λ (l : List ImplNets). NetLeads streamlets l before.0 at) are.impls.says.1 before.1))
+        end way (sink-or-on streamlets (bodies_in_text streamlets) its.all its.faultless before.0 at (subst (λ (l : List ImplNets). NetLeads streamlets l before.0 at) its.impls_are before.1))
 
 pub next-ok : (streamlets : List PlainStreamlet) (nets : Nets) (at : LeafPort) (result : Result (Option LeafPort) Memory) → AreNets streamlets nets
     → led streamlets nets.impls at.top at.instances (record { instance = None; port = at.port }) ≡ None → IfOk result (IsLedOutside streamlets nets.impls at) → IfOk result (IsNext streamlets nets.impls at)

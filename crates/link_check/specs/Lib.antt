@@ -19,3 +19,7 @@ pub mod Checked
 pub mod Text
 pub mod Chains
 pub mod Steps
+pub mod Carry
+pub mod Carriers
+pub mod CarryLaws
+pub mod KeptTexts

@@ -1,7 +1,7 @@
 -- The structural implementations of a project, in the order in which they stand in its text. This project's own.
-use Rattle.std.specs.Prelude.{ℕ, suc, List, [], ◌∷◌, ◌++◌, Option, Some, None, IsPermutation}
+use Rattle.std.specs.Prelude.{ℕ, suc, List, [], ◌∷◌, ◌++◌, Option, Some, None, IsPermutation, if◌then◌else◌}
 use Rattle.std.specs.List.Sorted.{IsSortedByKey}
-use Rattle.std.specs.Ordering.{nat_cmp, ordering_then}
+use Rattle.std.specs.Ordering.{is_lt, nat_cmp, ordering_then}
 use Rattle.std.specs.declared.cmp.Ordering.{Ordering}
 use Rattle.til_resolve.specs.PlainProject.{PlainPort, PlainStreamlet}
 use Rattle.til_resolve.specs.declared.project.Impl.{Impl}
@@ -27,7 +27,25 @@ stands_at body = (body.place.offset, body.streamlet)
 abbrev pub in_text : ℕ × ℕ → ℕ × ℕ → Ordering
 in_text one other = ordering_then (nat_cmp one.0 other.0) (nat_cmp one.1 other.1)
 
--- a list has the bodies of a project in text order
+-- how two bodies stand to each other in the text
+abbrev pub by_text : Body → Body → Ordering
+by_text one other = in_text (stands_at one) (stands_at other)
+
+-- a body in its place among bodies in text order: behind those that stand before it
+abbrev pub placed : Body → List Body → List Body
+placed body [] = body ∷ []
+placed body (first ∷ more) = if is_lt (by_text first body) then first ∷ placed body more else body ∷ first ∷ more
+
+-- bodies in text order
+abbrev pub ordered : List Body → List Body
+ordered [] = []
+ordered (body ∷ more) = placed body (ordered more)
+
+-- the bodies of a project, in text order
+abbrev pub bodies_in_text : List PlainStreamlet → List Body
+bodies_in_text streamlets = ordered (bodies_from 0 streamlets)
+
+-- a list has the bodies of a project in text order. A project has one such list.
 pub record IsInTextOrder (streamlets : List PlainStreamlet) (bodies : List Body) : Type 0 where
   pub all : IsPermutation (bodies_from 0 streamlets) bodies
-  pub ordered : IsSortedByKey stands_at in_text bodies
+  pub sorted : IsSortedByKey stands_at in_text bodies

@@ -1,6 +1,6 @@
 -- How many instances a streamlet has inside it, at all levels of its hierarchy. This project's own.
-use Rattle.std.specs.Prelude.{ℕ, zero, suc, ◌+◌, ◌<◌, List, [], Option, Some, None, slice_get}
-use Rattle.std.specs.List.{sum_by}
+use Rattle.std.specs.Prelude.{ℕ, zero, suc, ◌+◌, ◌<◌, Bool, nat_lt, List, [], Option, Some, None, slice_get}
+use Rattle.std.specs.List.{list_any, sum_by}
 use Rattle.til_resolve.specs.PlainProject.{PlainStreamlet}
 use Rattle.til_resolve.specs.SoundProject.{instances_inside}
 use Rattle.til_resolve.specs.declared.project.Instance.{Instance}
@@ -23,3 +23,16 @@ pub record IsTooLarge (streamlets : List PlainStreamlet) : Type 0 where
   pub levels : ℕ
   pub number : ℕ
   pub many : 65536 < instances_down streamlets levels number
+
+-- these instances, and those inside each, down to so many levels
+abbrev pub instances_below : List PlainStreamlet → (levels : ℕ) → List Instance → ℕ
+instances_below streamlets levels instances = sum_by (λ (one : Instance). 1 + instances_down streamlets levels one.streamlet) instances
+
+-- over so many instances, down to one level more than that, stand inside some streamlet. A deeper hierarchy has more than so many
+-- instances on its way down, so no level below these is looked at.
+abbrev pub has_over : (limit : ℕ) → List PlainStreamlet → Bool
+has_over limit streamlets = list_any (λ (one : PlainStreamlet). nat_lt limit (instances_below streamlets limit (instances_inside one.body))) streamlets
+
+-- the test whether a project is too large
+unfoldable pub is_too_large : List PlainStreamlet → Bool
+is_too_large = has_over 65536

@@ -3,10 +3,11 @@
 ghost use Rattle.std.specs.Prelude.{◌≡◌, map};
 ghost use Rattle.indexmap.specs.IndexMap.{get};
 ghost use Rattle.til_resolve.specs.PlainProject.{plain_project, plain_streamlet};
-ghost use Rattle.link_check.specs.Bodies.{AreInOrder, bodies_lent, body_lent};
+ghost use Rattle.link_check.specs.Bodies.{bodies_lent, body_lent};
 ghost use Rattle.link_check.specs.Checked.{IsChecked, fault_of_bodies, impl_of};
 ghost use Rattle.link_check.specs.Linking.{Judges};
 ghost use Rattle.link_check.specs.Links.{fault_of_body};
+ghost use Rattle.link_check.specs.Order.{bodies_in_text};
 ghost use Rattle.link_check.specs.Tables.{FindsPorts, is_same_home};
 
 use crate::fault::LinkFault;
@@ -34,7 +35,8 @@ pub fn check(alloc: Global, project: &Project) -> Result<Nets, LinkFault>
 
 /// The nets of all implementations, or the first fault of one.
 fn nets_in_order(alloc: Global, streamlets: &[Streamlet]) -> Result<List<ImplNets>, LinkFault>
-    ensures { AreInOrder (map plain_streamlet streamlets.now) result }
+    ensures { Judges (fault_of_bodies (map plain_streamlet streamlets.now) (bodies_in_text (map plain_streamlet streamlets.now)))
+        (λ impls. impls ≡ map (impl_of (map plain_streamlet streamlets.now)) (bodies_in_text (map plain_streamlet streamlets.now))) result }
 {
     let ports = ports_by_name(alloc, streamlets)?;
     let bodies = bodies_in_order(alloc, streamlets)?;

@@ -4,7 +4,7 @@ ghost use Rattle.std.specs.Prelude.{◌≡◌, ◌++◌, map, IfOk, OnOk, List};
 ghost use Rattle.til_resolve.specs.PlainProject.{PlainStreamlet, plain_port, plain_streamlet};
 ghost use Rattle.link_check.specs.Bodies.{bodies_lent, body_there};
 ghost use Rattle.link_check.specs.Ends.{ports_at};
-ghost use Rattle.link_check.specs.Order.{IsInTextOrder, bodies_from};
+ghost use Rattle.link_check.specs.Order.{bodies_from, bodies_in_text};
 
 use std::alloc::Global;
 use til_resolve::{Impl, Instance, Link, Streamlet};
@@ -25,7 +25,7 @@ pub(crate) fn bodies_in_order<'p>(
     alloc: Global,
     streamlets: &'p [Streamlet],
 ) -> Result<List<Body<'p>>, Memory>
-    ensures { IfOk result (λ bodies. IsInTextOrder (map plain_streamlet streamlets.now) (bodies_lent (map plain_streamlet streamlets.now) bodies)) }
+    ensures { IfOk result (λ bodies. bodies_lent (map plain_streamlet streamlets.now) bodies ≡ bodies_in_text (map plain_streamlet streamlets.now)) }
 {
     let mut bodies = all_bodies(alloc, streamlets)?.into_vec();
     bodies.sort_unstable_by_key(|body| (body.place.offset, body.number));
