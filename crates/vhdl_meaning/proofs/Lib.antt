@@ -13,3 +13,4 @@ mod RowLemmas
 pub mod ShownLemmas
 mod Examples
 mod RunExamples
+pub mod RunFaults

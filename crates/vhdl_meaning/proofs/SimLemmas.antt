@@ -1,22 +1,18 @@
 -- The row and the edge of a simulation.
-use Rattle.std.proofs.Common.{◌≡◌, ◌∙◌, ℕ, suc, Bool, List, [], ◌∷◌, ◌++◌, length, map, slice_get, Some, refl, sym, ap, subst}
+use Rattle.std.proofs.Common.{◌≡◌, ◌∙◌, ℕ, Bool, List, [], ◌∷◌, ◌++◌, length, map, slice_get, Some, sym, ap, subst}
 use Rattle.std.proofs.lemmas.List.{length-map, map_push}
 use Rattle.tydi_base.proofs.PlaceLemmas.{slice_get-next}
 use Rattle.physical_stream.specs.Cycles.{Cycle}
 use Rattle.vhdl_text.specs.declared.bench.Bench.{Bench}
 use Rattle.vhdl_meaning.specs.declared.lines.Lines.{Lines}
 use Rattle.vhdl_meaning.specs.declared.process.Process.{Process}
-use Rattle.vhdl_meaning.specs.Meaning.{Edge, Standing, Moment, started, after_edge, after_edges, rows_from, meaning, cycle_at}
+use Rattle.vhdl_meaning.specs.Meaning.{Edge, Standing, Moment, started, after_edge, after_edges, meaning, cycle_at}
 use Rattle.vhdl_meaning.specs.Lines.{row_in}
 use Rattle.vhdl_meaning.specs.Held.{LinesHave}
 use Rattle.vhdl_meaning.specs.Standing.{StandsAt}
 use Rattle.vhdl_meaning.specs.Simulated.{IsRowOf}
-use Rattle.vhdl_meaning.proofs.MeaningLemmas.{after-more, rows-more}
+use Rattle.vhdl_meaning.proofs.MeaningLemmas.{after-more, length-rows_from, rows-more}
 use Rattle.vhdl_meaning.proofs.RowLemmas.{row-is}
-
-length-rows_from : (now : Standing) (edges : List Edge) → length (rows_from now edges) ≡ length edges
-length-rows_from now [] = refl
-length-rows_from now (edge ∷ edges) = ap suc (length-rows_from (after_edge edge now) edges)
 
 -- the signals of a stream show its row
 pub shows-row : (bench : Bench) (edges : List Edge) (lines : List Lines) (one : Lines) (stream : ℕ) (ready : Bool) (cycle : Cycle) → LinesHave bench.heads lines (after_edges edges (started bench)).values →

@@ -1,6 +1,6 @@
 -- The text of a run (this project's own): the line `tydi-run 1`, the line `cycles N`, for any streams, each once, a line `ready PATH BITS`,
--- and then at most N lines `order` with the numbers of the processes. Words have one space between each two. The error of a text is that
--- of the first line that has one.
+-- and then at most N lines `order` with the numbers of the processes. Words have one space between each two. A text has the error of its
+-- first line that has one.
 use Rattle.std.specs.Prelude.{ℕ, suc, ◌-◌, Bool, true, ◌==◌, ◌&&◌, nat_le, nat_lt, nat_eq, if◌then◌else◌, List, [], ◌∷◌, ◌++◌, length, map, drop, get_or, replicate, slice_set, Option, Some, None, Result, Ok, Err, unwrap_or, codes}
 use Rattle.std.specs.Cmp.Lexicographic.{pointwise}
 use Rattle.std.specs.List.{list_all, starts_with}

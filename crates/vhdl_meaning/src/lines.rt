@@ -1,6 +1,6 @@
 ghost use Rattle.std.specs.Prelude.{◌≡◌, ◌-◌, ◌^◌, ◌≤◌, if◌then◌else◌, length, IfOk};
-ghost use Rattle.physical_stream.specs.Signals.{has_endi, has_strb};
-ghost use Rattle.tydi_base.specs.Bits.{number_of_bits};
+ghost use Rattle.physical_stream.specs.Signals.{Fits, has_endi, has_strb};
+ghost use Rattle.tydi_base.specs.Bits.{number_of_bits, zero_bits};
 ghost use Rattle.vhdl_meaning.specs.Lines.{CanPut, put_line, zero_lines};
 
 use physical_stream::{Params, Transfer, all_lanes};
@@ -54,6 +54,15 @@ fn strb_at_start(p: &Params) -> u128
     }
 }
 
+// All bits of the word become 0.
+fn clear(word: &mut Bits)
+    ensures { word.new ≡ zero_bits (length word.old) }
+{
+    'bits: for place in 0..word.len() {
+        word.put(place, false);
+    }
+}
+
 impl Lines {
     /// The signals of this stream with all their bits 0.
     pub fn zeros(alloc: Global, p: &Params) -> Result<Lines, Memory>
@@ -63,6 +72,20 @@ impl Lines {
         held.endi = endi_at_start(p);
         held.strb = strb_at_start(p);
         Ok(Lines { valid: false, held })
+    }
+
+    /// The signals of this stream go back to where `zeros` begins. It takes no memory.
+    pub fn clear(&mut self, p: &Params)
+        requires { Fits p.now self.old.held }
+        ensures { self.new ≡ zero_lines p.now }
+    {
+        self.valid = false;
+        clear(&mut self.held.content);
+        clear(&mut self.held.last);
+        clear(&mut self.held.user);
+        self.held.stai = 0;
+        self.held.endi = endi_at_start(p);
+        self.held.strb = strb_at_start(p);
     }
 
     /// Assigns the word to the signal. It takes no memory.

@@ -2,13 +2,14 @@ ghost use Rattle.std.specs.Prelude.{◌≡◌, ◌≤◌, length, drop, get_or, 
 ghost use Rattle.vhdl_meaning.specs.Meaning.{assigned_by, waits_at, resumed};
 ghost use Rattle.vhdl_meaning.specs.Lines.{CanPutAll, put_all};
 ghost use Rattle.vhdl_meaning.specs.Place.{left_at, left_of, Resumes};
+ghost use Rattle.vhdl_meaning.specs.Turns.{at_start};
 
 use crate::lines::Lines;
 use crate::running::run_on;
 use vhdl_text::Stmt;
 
 /// Where a process stands in its statements: the place of a wait and, where it is a pause, the edges that are left of it.
-#[derive(Drop)]
+#[derive(Clone, Copy)]
 pub struct Process {
     pub place: usize,
     pub edges: u32,
@@ -35,6 +36,13 @@ fn edges_at(program: &[Stmt], place: usize) -> u32
 }
 
 impl Process {
+    /// A process at its first statement.
+    pub fn at_start() -> Process
+        ensures { result ≡ at_start }
+    {
+        Process { place: 0, edges: 0 }
+    }
+
     /// The process of these statements that has run from this place to its next wait. It takes no memory.
     pub fn run_from(program: &[Stmt], from: usize, lines: &mut [Lines]) -> Process
         requires from { from ≤ length program.now }

@@ -2,7 +2,6 @@
 
 ghost use Rattle.std.specs.Prelude.{◌≡◌, ◌<◌, ◌^◌, ◌-◌, length};
 ghost use Rattle.tydi_base.specs.Reading.{Gives};
-ghost use Rattle.vhdl_text.specs.WellFormed.{IsWellFormed};
 ghost use Rattle.vhdl_meaning.specs.RunFaults.{fault_in};
 ghost use Rattle.vhdl_meaning.specs.RunDraft.{given_in};
 ghost use Rattle.vhdl_meaning.specs.RunLinesView.{line_in};
@@ -97,12 +96,12 @@ fn read_lines(
     Ok(draft)
 }
 
-/// The run that a text spells for a well-formed bench: its ready bits for each stream, all ones where a stream has no line, and its orders
+/// The run that a text spells for a bench, as one that is well formed: its ready bits for each stream, all ones where a stream has no line, and its orders
 /// for each cycle, the order 0, 1, 2 and so on where a cycle has no line. A text has fewer than 2^32 - 1 bytes. Each error reports the
 /// first line that has one: see `RunFault`.
 #[tactic(auto, unfolding(crate::specs::RunText::run_in_lines))]
 pub fn read_run(alloc: Global, b: &Bench, text: &[u8]) -> Result<SimRun, RunFault>
-    requires bench { IsWellFormed b.now }
+    requires few { length b.now.procs < 2 ^ 32 }
     requires text { length text.now < 2 ^ 32 - 1 }
     ensures { Gives fault_in (λ run. run) result (spec.run_of b.now text.now) }
 {

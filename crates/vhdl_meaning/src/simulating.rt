@@ -3,8 +3,9 @@ ghost use Rattle.physical_stream.specs.Cycles.{cycle_in};
 ghost use Rattle.vhdl_meaning.specs.Lines.{row_in};
 
 use crate::lines::Lines;
+use crate::process::Process;
 use crate::sim::Sim;
-use crate::starting::{start_all, zero_all};
+use crate::starting::{begin_all, clear_all, zero_all};
 use crate::turn::edge_all;
 use physical_stream::Row;
 use std::alloc::Global;
@@ -40,12 +41,27 @@ impl Sim {
         ensures { IfOk result (λ sim. StandsFor sim b []) }
     {
         let mut lines = zero_all(alloc, b.heads.as_slice())?;
-        let places = start_all(alloc, &b, lines.as_mut_slice())?;
+        let mut places = Vec::new(alloc);
+        places.resize(b.procs.len(), Process::at_start())?;
+        begin_all(&b, places.as_mut_slice(), lines.as_mut_slice());
         Ok(Sim {
             bench: b,
             places,
             lines,
         })
+    }
+
+    /// Goes back to before the first edge. It takes no memory.
+    pub fn restart(&mut self)
+        ensures bench { self.new.bench ≡ self.old.bench }
+        ensures stands { StandsFor self.new self.old.bench [] }
+    {
+        clear_all(self.bench.heads.as_slice(), self.lines.as_mut_slice());
+        begin_all(
+            &self.bench,
+            self.places.as_mut_slice(),
+            self.lines.as_mut_slice(),
+        );
     }
 
     /// One edge, with a ready bit for each stream, and an order in which each process stands once. It takes no memory.

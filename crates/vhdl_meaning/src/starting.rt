@@ -1,4 +1,4 @@
-ghost use Rattle.std.specs.Prelude.{◌≡◌, map, IfOk};
+ghost use Rattle.std.specs.Prelude.{◌≡◌, length, map, IfOk};
 ghost use Rattle.physical_stream.specs.declared.head.Head.{Head};
 ghost use Rattle.vhdl_meaning.specs.Lines.{zero_lines};
 ghost use Rattle.vhdl_meaning.specs.Sound.{ArePutsSound};
@@ -23,20 +23,25 @@ pub(crate) fn zero_all(alloc: Global, heads: &[Head]) -> Result<Vec<Lines>, Memo
     Ok(lines)
 }
 
-/// The processes of a bench, each of which has run to its first wait.
-pub(crate) fn start_all(
-    alloc: Global,
-    bench: &Bench,
-    lines: &mut [Lines],
-) -> Result<Vec<Process>, Memory>
-    requires sound { ArePutsSound bench.now.heads bench.now.procs }
-    requires lines { LinesFit bench.now.heads lines.old }
-    ensures { IfOk result (λ places. AreBegun bench.now.heads bench.now.procs lines.old places.items lines.new) }
+/// The signals of all streams go back to where `zero_all` begins. It takes no memory.
+pub(crate) fn clear_all(heads: &[Head], lines: &mut [Lines])
+    requires { LinesFit heads.now lines.old }
+    ensures { lines.new ≡ map (λ (head : Head). zero_lines head.params) heads.now }
 {
-    let mut places = Vec::new(alloc);
-    let programs = bench.procs.as_slice();
-    'programs: for program in programs {
-        places.push(Process::run_from(program.as_slice(), 0, lines))?;
+    'streams: for stream in 0..lines.len() {
+        lines[stream].clear(&heads[stream].params);
     }
-    Ok(places)
+}
+
+/// Each process of a bench runs from its first statement to its first wait. It takes no memory.
+pub(crate) fn begin_all(bench: &Bench, places: &mut [Process], lines: &mut [Lines])
+    requires sound { ArePutsSound bench.now.heads bench.now.procs }
+    requires places { length places.old ≡ length bench.now.procs }
+    requires lines { LinesFit bench.now.heads lines.old }
+    ensures { AreBegun bench.now.heads bench.now.procs lines.old places.new lines.new }
+{
+    let programs = bench.procs.as_slice();
+    'programs: for number in 0..programs.len() {
+        places[number] = Process::run_from(programs[number].as_slice(), 0, lines);
+    }
 }

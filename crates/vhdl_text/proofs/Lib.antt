@@ -7,10 +7,11 @@ mod ProcessSpelling
 mod BenchSpelling
 mod ProcessReading
 mod LineReading
-mod BenchReading
+pub mod BenchReading
 mod CodeLemmas
 mod StreamLemmas
 mod DriverLemmas
 mod StatementLemmas
 mod TakingLemmas
 mod WholeLemmas
+pub mod BenchFaults

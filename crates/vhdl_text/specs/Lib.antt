@@ -5,3 +5,4 @@ pub mod Reading
 pub mod Streams
 pub mod Drivers
 pub mod Processes
+pub mod ArchText

@@ -4,8 +4,12 @@
 //! on `tydi_reading`, which has the lines of a text, and on `signal_layout`, which says which signals a stream has and how wide they are.
 #![tactic(auto)]
 
+mod arch;
+mod arch_lines;
+mod arch_printing;
 mod bench;
 mod constants;
+mod counted;
 mod cuts;
 mod drivers;
 mod fault;
@@ -17,14 +21,18 @@ mod printing;
 mod processes;
 mod reading;
 mod refusal;
+mod separated;
 mod signal_name;
 mod stage;
 mod statements;
 mod stream_comments;
 mod streams;
 
+pub use arch::{Arch, ArchMap, ArchPart, ArchPort, ArchSet, ArchSource, ArchWire};
+pub use arch_printing::{arch_length, print_arch};
 pub use bench::{Bench, Stmt};
 pub use fault::VhdlFault;
 pub use laws::benches_are_read_as_printed;
 pub use printing::print_bench;
 pub use reading::read_bench;
+pub use signal_name::signal_word;

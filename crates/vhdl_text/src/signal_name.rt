@@ -31,8 +31,8 @@ impl Written for PlainName<'_> {
     }
 }
 
-/// The word for a signal.
-fn signal_word(signal: Signal) -> &'static str
+/// The word for a signal (Tydi specification, signals).
+pub fn signal_word(signal: Signal) -> &'static str
     ensures { result.now ≡ signal_word signal }
 {
     match signal {

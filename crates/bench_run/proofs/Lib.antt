@@ -1,0 +1,5 @@
+pub mod HeadLemmas
+pub mod MomentLemmas
+pub mod RowLemmas
+pub mod PlaceLemmas
+pub mod TraceLemmas

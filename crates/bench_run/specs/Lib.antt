@@ -1,0 +1,5 @@
+pub mod Traces
+pub mod Laws
+pub mod Places
+pub mod Turns
+pub mod TextLeft
