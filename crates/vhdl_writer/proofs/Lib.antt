@@ -1,0 +1,7 @@
+mod NameLemmas
+mod WordLemmas
+mod TableLemmas
+mod SplitLemmas
+mod ArchLemmas
+mod CarriedLemmas
+mod ClashLemmas

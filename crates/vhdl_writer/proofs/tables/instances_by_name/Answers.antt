@@ -1,0 +1,13 @@
+use Rattle.std.proofs.Common.{Some, None, Option, cond, ap, sym, ◌∙◌}
+use Rattle.std.specs.Option.{option_or}
+use Rattle.std.specs.Str.{bytes_eq}
+use Rattle.til_resolve.specs.declared.project.Instance.{Instance}
+use Rattle.vhdl_writer.proofs.TableLemmas.{find-more, lent-more}
+use Rattle.vhdl_writer.proofs.tables.instances_by_name.Goals as goal
+
+pub instances-preserved : goal.instances-preserved
+instances-preserved c = λ key.
+    let one = c.instance-item.result in
+    lent-more _ _ _ _ (c.in_ok-keep_first.ensures key)
+    ∙ ap (λ (o : Option Instance). option_or o (cond (bytes_eq one.name key.now) (Some one) None)) (c.instances.invariant key)
+    ∙ sym (find-more (λ (x : Instance). bytes_eq x.name key.now) c.args.instances.now c.instances.instance-index one c.instances-test.true c.instance-item.is)

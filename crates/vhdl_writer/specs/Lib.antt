@@ -1,0 +1,9 @@
+pub mod Names
+pub mod Components
+pub mod Architecture
+pub mod Clashes
+pub mod Clashing
+pub mod Finding
+pub mod EndStreams
+pub mod Laws
+pub mod PortClashes

@@ -1,0 +1,123 @@
+//! The entities and architectures of a project.
+
+ghost use Rattle.std.specs.Prelude.{◌≡◌, IfOk, map};
+ghost use Rattle.til_resolve.specs.PlainProject.{HasPortTypes, plain_project, plain_streamlet};
+ghost use Rattle.til_resolve.specs.SoundProject.{instances_inside};
+ghost use Rattle.link_check.specs.Chains.{is_structural};
+ghost use Rattle.vhdl_writer.specs.Architecture as spec;
+ghost use Rattle.vhdl_writer.specs.Clashes.{AreArchitectures};
+
+use crate::component::Component;
+use crate::design::Design;
+use crate::entity::entity_ports;
+use crate::fault::ArchFault;
+use crate::inside::Inside;
+use crate::instances::{all_parts, all_wires, signals_at};
+use crate::sets::all_sets;
+use crate::splitting::components_of;
+use crate::tables::{instances_by_name, nets_by_number, ports_by_name};
+use link_check::{ImplNets, Net, Nets};
+use std::alloc::Global;
+use til_resolve::{Impl, Instance, Project, Streamlet};
+use tydi_base::{List, Memory, TryClone};
+use vhdl_text::Arch;
+
+/// The entity of each streamlet in text order, with the architecture that these nets, which `link_check::check` gives, make of its
+/// instances and links. NameClash comes exactly where the type of some port has two physical streams of one path; it names the path of the
+/// first such port. Memory comes where there is none for them.
+pub fn architecture(alloc: Global, project: &Project, nets: &Nets) -> Result<List<Arch>, ArchFault>
+    requires { HasPortTypes (plain_project project.now) }
+    ensures { AreArchitectures (plain_project project.now).streamlets nets.now.impls result }
+{
+    let streamlets = project.streamlets.as_slice();
+    let components = components_of(alloc, streamlets)?;
+    let archs = all_archs(
+        alloc,
+        streamlets,
+        components.as_slice(),
+        nets.impls.as_slice(),
+    )?;
+    Ok(archs)
+}
+
+/// The entities and architectures of streamlets that have these components and nets.
+fn all_archs(
+    alloc: Global,
+    streamlets: &[Streamlet],
+    components: &[Component],
+    impls: &[ImplNets],
+) -> Result<List<Arch>, Memory>
+    ensures { IfOk result (λ archs. archs ≡ spec.archs_from (map plain_streamlet streamlets.now) components.now impls.now 0 (map plain_streamlet streamlets.now)) }
+{
+    let design = Design {
+        streamlets,
+        components,
+        impls,
+        ports_by_name: ports_by_name(alloc, components)?,
+        nets_by_number: nets_by_number(alloc, impls)?,
+    };
+    let mut archs = List::with_capacity(alloc, streamlets.len())?;
+    'streamlets: for (number, streamlet) in streamlets.iter().enumerate() {
+        archs.push(arch_of(alloc, &design, number, streamlet)?)?;
+    }
+    Ok(archs)
+}
+
+/// The entity of a streamlet of this number, and its architecture if it has one.
+fn arch_of<'d>(
+    alloc: Global,
+    design: &Design<'d>,
+    number: usize,
+    streamlet: &'d Streamlet,
+) -> Result<Arch, Memory>
+    ensures { IfOk result (λ arch. arch ≡ spec.arch_of (map plain_streamlet design.now.streamlets.now) design.now.components.now design.now.impls.now number (plain_streamlet streamlet.now)) }
+{
+    let instances = instances_of(streamlet);
+    let inside = Inside {
+        components: design.components,
+        home: number,
+        instances,
+        ports_by_name: &design.ports_by_name,
+        instances_by_name: instances_by_name(alloc, instances)?,
+    };
+    Ok(Arch {
+        name: streamlet.path.try_clone(alloc)?,
+        ports: entity_ports(alloc, signals_at(design.components, number))?,
+        has_body: is_structural(streamlet),
+        wires: all_wires(alloc, design.components, instances)?,
+        parts: all_parts(alloc, design.streamlets, design.components, instances)?,
+        sets: all_sets(alloc, &inside, nets_of(design, number))?,
+    })
+}
+
+/// The nets of the implementation of a streamlet; none where it has no implementation of instances and links.
+fn nets_of<'d>(design: &Design<'d>, number: usize) -> &'d [Net]
+    ensures { result.now ≡ spec.nets_of design.now.impls.now number }
+{
+    match design.nets_by_number.get(&number).copied() {
+        Some(one) => one.nets.as_slice(),
+        None => &[],
+    }
+}
+
+/// Whether a streamlet has an implementation of instances and links.
+fn is_structural(streamlet: &Streamlet) -> bool
+    ensures { result ≡ is_structural streamlet.now.body }
+{
+    match &streamlet.body {
+        None => false,
+        Some(Impl::Linked(_)) => false,
+        Some(Impl::Structural { .. }) => true,
+    }
+}
+
+/// The instances in the implementation of a streamlet.
+fn instances_of(streamlet: &Streamlet) -> &[Instance]
+    ensures { result.now ≡ instances_inside streamlet.now.body }
+{
+    match &streamlet.body {
+        None => &[],
+        Some(Impl::Linked(_)) => &[],
+        Some(Impl::Structural { instances, .. }) => instances.as_slice(),
+    }
+}
