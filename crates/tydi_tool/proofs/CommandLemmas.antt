@@ -6,20 +6,27 @@ use Rattle.cycle_trace.specs.TraceText.{trace_of}
 use Rattle.til_parser.specs.Canonical.{canonical}
 use Rattle.tydi_tool.specs.declared.answer.Answer.{Answer}
 use Rattle.tydi_tool.specs.Ask.{Ends, SaysBy}
-use Rattle.tydi_tool.specs.Commands.{ask_of}
+use Rattle.tydi_tool.specs.Commands.{ask_of, planned_ask}
+use Rattle.tydi_tool.specs.Drives.{TellsDriven}
 use Rattle.tydi_tool.specs.Laws.{AsksAlways, AsksOnce, HasSome}
 use Rattle.tydi_tool.specs.Outcome.{output_answer}
 use Rattle.split_text.specs.Text.{split_text}
-use Rattle.tydi_tool.specs.Words.{Request, Check, Read, Split}
+use Rattle.tydi_tool.specs.Words.{Request, Check, Drive, Read, Sim, Split}
+use Rattle.bench_run.specs.Traces.{trace_text_of}
+use Rattle.tydi_tool.proofs.BenchLemmas.{ReadsBench-once, ReadsBench-some, ReadsRun-once, ReadsRun-some}
 use Rattle.tydi_tool.proofs.AnswerLemmas.{ReadsTrace-once, ReadsTree-once, Reports-one, SaysBy-one}
 use Rattle.tydi_tool.proofs.ReadingLemmas.{IsFoundAmong-read}
-use Rattle.tydi_tool.proofs.StepLemmas.{port-always, port-once}
+use Rattle.tydi_tool.proofs.DriveLemmas.{driven-one, driven-some, planned-always, planned-once}
+use Rattle.tydi_tool.proofs.StepLemmas.{carried-always, carried-once, port-always, port-once}
 use Rattle.tydi_tool.proofs.SomeLemmas.{ReadsCoded-some, ReadsReading-some, Reports-some, SaysBy-some}
 
 asks_once : (request : Request) → AsksOnce (ask_of request)
 asks_once (Check trace) = (ReadsTrace-once trace, λ bytes survey reads a b p q. Reports-one survey.heads survey.found a b p q)
 asks_once (Read project) = (ReadsTree-once project, λ bytes ast reads a b p q. p ∙ sym q)
 asks_once (Split project port) = port-once project port (λ split. Ends (λ a. a ≡ output_answer (split_text split))) (λ split a b p q. p ∙ sym q)
+asks_once (Drive project port value plan) =
+    carried-once project port (λ split. planned_ask value plan split (TellsDriven split)) (λ split. planned-once value plan split (TellsDriven split) (driven-one split))
+asks_once (Sim bench run) = (ReadsBench-once bench, λ bytes read reads. (ReadsRun-once run read, λ run_bytes made said a b p q. p ∙ sym q))
 
 -- one answer
 pub SaysBy-request : (told : Files) (request : Request) (a b : Answer) → SaysBy (Some told) (ask_of request) a → SaysBy (Some told) (ask_of request) b → a ≡ b
@@ -32,6 +39,12 @@ asks_always (Check trace) = (
 )
 asks_always (Read project) = (λ bytes. ReadsCoded-some project bytes (is_utf8 bytes) refl, λ bytes ast reads none. none (output_answer (canonical ast)) refl)
 asks_always (Split project port) = port-always project port (λ split. Ends (λ a. a ≡ output_answer (split_text split))) (λ split none. none (output_answer (split_text split)) refl)
+asks_always (Drive project port value plan) =
+    carried-always project port (λ split. planned_ask value plan split (TellsDriven split)) (λ split. planned-always value plan split (TellsDriven split) (driven-some split))
+asks_always (Sim bench run) = (
+  λ bytes. ReadsBench-some bench bytes,
+  λ bytes read reads. (λ run_bytes. ReadsRun-some run read run_bytes, λ run_bytes made said none. none (output_answer (trace_text_of read made)) refl),
+)
 
 -- some answer
 pub SaysBy-request-some : (told : Files) (request : Request) → HasSome Answer (SaysBy (Some told) (ask_of request))

@@ -1,11 +1,17 @@
 pub mod AnswerLemmas
 pub mod AskLemmas
 pub mod CauseLemmas
+pub mod CauseLines
+pub mod CauseSteps
 pub mod CommandLemmas
 pub mod DeliveryLemmas
+pub mod DriveLawLemmas
+pub mod DriveLemmas
 pub mod FileLemmas
 pub mod FirstOfAll
+pub mod FormLemmas
 pub mod LoadingLemmas
+pub mod PlanFaults
 pub mod PortLemmas
 pub mod ProjectLemmas
 pub mod ReadingLemmas
@@ -15,4 +21,6 @@ pub mod RunLemmas
 pub mod SomeLemmas
 pub mod StartedLemmas
 pub mod StepLemmas
+pub mod TextLemmas
 pub mod TraceFileLemmas
+mod BenchLemmas

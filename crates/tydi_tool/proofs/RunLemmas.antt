@@ -1,5 +1,5 @@
 -- From the one contract of a run to its clauses.
-use Rattle.std.proofs.Common.{◌≡◌, ℕ, ◌<◌, ◌⊎◌, inl, inr, List, [], length, Option, None, Some, IfSome, codes, refl, sym, ap, ◌∙◌, subst, arith, ⊎_elim}
+use Rattle.std.proofs.Common.{◌≡◌, ℕ, ◌<◌, ◌⊎◌, inl, inr, List, [], ◌∷◌, length, Option, None, Some, IfSome, codes, refl, sym, ap, ◌∙◌, subst, arith, ⊎_elim}
 use Rattle.tydi_io.specs.Store.{Files}
 use Rattle.tydi_tool.specs.declared.answer.Answer.{Answer}
 use Rattle.tydi_tool.specs.declared.answer.Answer.TheVariants as answers
@@ -7,32 +7,42 @@ use Rattle.tydi_tool.specs.declared.answer.Reply.{Reply}
 use Rattle.tydi_tool.specs.declared.answer.Reply.TheVariants as replies
 use Rattle.tydi_tool.specs.declared.status.Status.{Status}
 use Rattle.tydi_tool.specs.declared.status.Status.TheVariants as statuses
-use Rattle.tydi_tool.specs.Words.{Request, Check, Read, Split, FileWord, file_words}
+use Rattle.tydi_tool.specs.Drives.{TellsDriven}
+use Rattle.tydi_tool.specs.Words.{Request, Check, Drive, Read, Sim, Split, FileWord, file_words, text_file}
 use Rattle.split_text.specs.Text.{split_text}
-use Rattle.tydi_tool.specs.Outcome.{out_of_answer, output_answer, out_of, err_of, status_of, usage_line, memory_line, write_fault_line}
+use Rattle.tydi_tool.specs.Outcome.{out_of_answer, output_answer, out_of, err_of, status_of, status_of_answer, usage_line, memory_line, write_fault_line}
 use Rattle.tydi_tool.specs.Delivery.{Adds, AddsFront, AddsPart, TakesLine, IsLined, IsCut, IsWritten, OutFails, OutWants, Delivers}
 use Rattle.tydi_tool.specs.Ask.{AsksFor, AsksSome, Decides, Ends}
-use Rattle.tydi_tool.specs.Commands.{ask_of, Says}
+use Rattle.tydi_tool.specs.Commands.{ask_of, Says, planned_ask}
 use Rattle.tydi_tool.specs.Started.{IsPulledOut, IsGivenOne, NamesStarted, StartsWithin, Leaves}
-use Rattle.tydi_tool.specs.Run.{Runs, EndsAsked, EndsUnasked, EndsInAnswer, IsAnswered, IsComplete, IsCaused, ReportsRead, OutFront, OutPart, IsRefusal, IsLine, ErrFront, LeavesOut, LeavesErr, StartedAtEnd}
-use Rattle.tydi_tool.proofs.CauseLemmas.{one_word, told}
+use Rattle.tydi_tool.specs.Run.{Runs, EndsAsked, EndsUnasked, EndsInAnswer, IsAnswered, IsComplete, IsCaused, ReportsRead, OutFront, OutPart, IsRefusal, IsLine, ErrFront, LeavesOut, LeavesErr, StartedAtEnd, WritesTrace}
+use Rattle.tydi_tool.proofs.CauseLemmas.{told}
+use Rattle.tydi_tool.proofs.CauseLines.{one_word}
+use Rattle.tydi_tool.proofs.DriveLawLemmas.{written-driven}
+use Rattle.tydi_tool.proofs.DriveLemmas.{planned-for}
+use Rattle.tydi_tool.specs.DriveLaw.{WritesDriven, drive_words}
 use Rattle.tydi_tool.proofs.CommandLemmas.{SaysBy-request}
 use Rattle.tydi_tool.proofs.AskLemmas.{SaysBy-decided}
 use Rattle.tydi_tool.proofs.DeliveryLemmas.{AddsFront-all, AddsFront-part, AddsPart-some}
 use Rattle.tydi_tool.proofs.FileLemmas.{IsGiven-pulled_out}
 use Rattle.tydi_tool.proofs.StartedLemmas.{Leaves-decided}
-use Rattle.tydi_tool.proofs.StepLemmas.{port-for}
+use Rattle.tydi_tool.proofs.StepLemmas.{carried-for, port-for}
 
 -- the files of each command are those that it asks for
 asks_for : (request : Request) → AsksFor (file_words request) (ask_of request)
 asks_for (Check trace) = (refl, λ x. tt)
 asks_for (Read project) = (refl, λ x. tt)
 asks_for (Split project port) = port-for project port [] (λ split. Ends (λ a. a ≡ output_answer (split_text split))) (λ split. tt)
+asks_for (Drive project port value plan) =
+    carried-for project port (text_file value ∷ text_file plan ∷ []) (λ split. planned_ask value plan split (TellsDriven split)) (λ split. planned-for value plan split (TellsDriven split))
+asks_for (Sim bench run) = (refl, λ read. (refl, λ made. tt))
 
 asks_some : (request : Request) → AsksSome (ask_of request)
 asks_some (Check trace) = tt
 asks_some (Read project) = tt
 asks_some (Split project port) = tt
+asks_some (Drive project port value plan) = tt
+asks_some (Sim bench run) = tt
 
 -- ---- a run of a command
 
@@ -265,6 +275,27 @@ IsCaused-answered (Some known) (Some request) status out_old out_new err_old err
     let cause = told known request a.answer a.says in
     record { asked = request; is = refl; row = cause.0; answer = a.answer; cause = cause.1; ends = a.ends; out = a.out; err = a.err }
 
+pub is_done : (status : Status) → status ≡ statuses.Done → EndsInAnswer status
+is_done status done = subst EndsInAnswer (sym done) tt
+
+-- a text that is written for a port that is driven is that of such a trace
+pub WritesTrace-answered : (files : Option Files) (request : Option Request) (status : Status) (out_old out_new err_old err_new : Option (List ℕ)) →
+    IsAnswered files request status out_old out_new err_old err_new → status ≡ statuses.Done → IfSome files (λ known. WritesTrace known request out_old out_new)
+WritesTrace-answered None request status out_old out_new err_old err_new a done = tt
+WritesTrace-answered (Some known) None status out_old out_new err_old err_new a done = tt
+WritesTrace-answered (Some known) (Some (Check trace)) status out_old out_new err_old err_new a done = tt
+WritesTrace-answered (Some known) (Some (Read project)) status out_old out_new err_old err_new a done = tt
+WritesTrace-answered (Some known) (Some (Split project port)) status out_old out_new err_old err_new a done = tt
+WritesTrace-answered (Some known) (Some (Sim bench run)) status out_old out_new err_old err_new a done = tt
+WritesTrace-answered (Some known) (Some (Drive project port value plan)) status out_old out_new err_old err_new a done =
+    by a.answer a.says (sym a.ends ∙ done) a.out
+  where
+    by : (answer : Answer) → Says (Some known) (Some (Drive project port value plan)) answer → status_of_answer answer ≡ statuses.Done → Adds out_old out_new (out_of_answer answer)
+        → (text : List ℕ) × (WritesDriven known (drive_words project port value plan) text × Adds out_old out_new text)
+    by (answers.Done text) says ends out = (text, ((written-driven known project port value plan text says).1, out))
+    by (answers.Verdict line) says ends out = absurd cc
+    by (answers.Refused line) says ends out = absurd cc
+
 -- where the answer is a refusal, nothing goes to out
 no_out : (a : Answer) → IsRefusal a → out_of_answer a ≡ []
 no_out (answers.Refused line) h = refl
@@ -365,3 +396,129 @@ module _ (told : Option Files) (old new : Option (List ℕ × ℕ)) (rose out_ro
   pub LeavesErr-run : (request : Option Request) → Runs rose out_rose err_rose request told old new status out_old out_new err_old err_new → LeavesErr status → Adds err_old err_new []
   LeavesErr-run None r leaves = absurd (lined LeavesErr statuses.Usage usage_line (λ h. h) (λ h. h) r.err leaves)
   LeavesErr-run (Some request) r leaves = err_reply r.reply r.delivered leaves
+
+-- ---- clauses by the status alone
+
+never_usage : (reply : Reply) → status_of reply ≡ statuses.Usage → ⊥
+never_usage (replies.Says (answers.Refused line)) e = cc
+never_usage (replies.Says (answers.Verdict line)) e = cc
+never_usage (replies.Says (answers.Done text)) e = cc
+never_usage (replies.ReadFault line) e = cc
+never_usage replies.Memory e = cc
+
+never_write : (reply : Reply) → status_of reply ≡ statuses.WriteFault → ⊥
+never_write (replies.Says (answers.Refused line)) e = cc
+never_write (replies.Says (answers.Verdict line)) e = cc
+never_write (replies.Says (answers.Done text)) e = cc
+never_write (replies.ReadFault line) e = cc
+never_write replies.Memory e = cc
+
+memory_reply : (reply : Reply) → status_of reply ≡ statuses.Memory → reply ≡ replies.Memory
+memory_reply (replies.Says (answers.Refused line)) e = cc
+memory_reply (replies.Says (answers.Verdict line)) e = cc
+memory_reply (replies.Says (answers.Done text)) e = cc
+memory_reply (replies.ReadFault line) e = cc
+memory_reply replies.Memory e = refl
+
+apart : (s a b : Status) → s ≡ a → s ≡ b → a ≡ b
+apart s a b x y = sym x ∙ y
+
+usage_apart : (s : Status) → s ≡ statuses.Usage → s ≡ statuses.WriteFault → ⊥
+usage_apart s x y = let e = apart s statuses.Usage statuses.WriteFault x y in cc
+
+read_apart_usage : (s : Status) → s ≡ statuses.ReadFault → s ≡ statuses.Usage → ⊥
+read_apart_usage s x y = let e = apart s statuses.ReadFault statuses.Usage x y in cc
+
+read_apart : (s : Status) → s ≡ statuses.ReadFault → s ≡ statuses.WriteFault → ⊥
+read_apart s x y = let e = apart s statuses.ReadFault statuses.WriteFault x y in cc
+
+memory_apart : (s : Status) → s ≡ statuses.Memory → s ≡ statuses.WriteFault → ⊥
+memory_apart s x y = let e = apart s statuses.Memory statuses.WriteFault x y in cc
+
+memory_apart_usage : (s : Status) → s ≡ statuses.Memory → s ≡ statuses.Usage → ⊥
+memory_apart_usage s x y = let e = apart s statuses.Memory statuses.Usage x y in cc
+
+memory_apart_read : (s : Status) → s ≡ statuses.Memory → s ≡ statuses.ReadFault → ⊥
+memory_apart_read s x y = let e = apart s statuses.Memory statuses.ReadFault x y in cc
+
+-- how a reply was delivered, by the status
+record Whole (reply : Reply) (status : Status) (err_old err_new : Option (List ℕ)) : Type 0 where
+  ends : status ≡ status_of reply
+  err : Adds err_old err_new (err_of reply)
+
+record Failed (out_rose err_rose : Type 0) (status : Status) (err_old err_new : Option (List ℕ)) : Type 0 where
+  ends : status ≡ statuses.WriteFault
+  rose : out_rose ⊎ err_rose
+  line : (err_rose → ⊥) → Adds err_old err_new write_fault_line
+
+record Wanted (status : Status) (err_old err_new : Option (List ℕ)) : Type 0 where
+  ends : status ≡ statuses.Memory
+  err : Adds err_old err_new memory_line
+
+module _ (out_rose err_rose : Type 0) (reply : Reply) (status : Status) (out_old out_new err_old err_new : Option (List ℕ)) where
+  how : Delivers out_rose err_rose reply status out_old out_new err_old err_new →
+      Whole reply status err_old err_new ⊎ (Failed out_rose err_rose status err_old err_new ⊎ Wanted status err_old err_new)
+  how (inl w) =
+      ⊎_elim (λ (l : IsLined status (status_of reply) err_old err_new (err_of reply)). inl (record { ends = l.ends; err = l.err }))
+      (λ (c : IsCut err_rose status err_old err_new (err_of reply)). inr (inl (record { ends = c.ends; rose = inr c.rose; line = λ quiet. absurd (quiet c.rose) }))) w.err
+  how (inr (inl f)) = inr (inl (record { ends = f.ends; rose = inl f.rose; line = λ quiet. ⊎_elim (λ l. l) (λ p. absurd (quiet p.0)) f.err }))
+  how (inr (inr m)) =
+      ⊎_elim (λ (l : IsLined status statuses.Memory err_old err_new memory_line). inr (inr (record { ends = l.ends; err = l.err })))
+      (λ (c : IsCut err_rose status err_old err_new memory_line). inr (inl (record { ends = c.ends; rose = inr c.rose; line = λ quiet. absurd (quiet c.rose) }))) m.err
+
+  how_usage : Delivers out_rose err_rose reply status out_old out_new err_old err_new → status ≡ statuses.Usage → ⊥
+  how_usage d is = ⊎_elim (λ (w : Whole reply status err_old err_new). never_usage reply (sym w.ends ∙ is))
+      (⊎_elim (λ (f : Failed out_rose err_rose status err_old err_new). usage_apart status is f.ends) (λ (m : Wanted status err_old err_new). memory_apart_usage status m.ends is)) (how d)
+
+  how_write : Delivers out_rose err_rose reply status out_old out_new err_old err_new → status ≡ statuses.WriteFault → Failed out_rose err_rose status err_old err_new
+  how_write d is = ⊎_elim (λ (w : Whole reply status err_old err_new). absurd (never_write reply (sym w.ends ∙ is)))
+      (⊎_elim (λ (f : Failed out_rose err_rose status err_old err_new). f) (λ (m : Wanted status err_old err_new). absurd (memory_apart status m.ends is))) (how d)
+
+  how_read : Delivers out_rose err_rose reply status out_old out_new err_old err_new → status ≡ statuses.ReadFault → status_of reply ≡ statuses.ReadFault
+  how_read d is = ⊎_elim (λ (w : Whole reply status err_old err_new). sym w.ends ∙ is)
+      (⊎_elim (λ (f : Failed out_rose err_rose status err_old err_new). absurd (read_apart status is f.ends)) (λ (m : Wanted status err_old err_new). absurd (memory_apart_read status m.ends is))) (how d)
+
+  how_memory : Delivers out_rose err_rose reply status out_old out_new err_old err_new → status ≡ statuses.Memory → Adds err_old err_new memory_line
+  how_memory d is = ⊎_elim (λ (w : Whole reply status err_old err_new). subst (λ (r : Reply). Adds err_old err_new (err_of r)) (memory_reply reply (sym w.ends ∙ is)) w.err)
+      (⊎_elim (λ (f : Failed out_rose err_rose status err_old err_new). absurd (memory_apart status is f.ends)) (λ (m : Wanted status err_old err_new). m.err)) (how d)
+
+module _ (told : Option Files) where
+  pub usage-run : (request : Option Request) (old new : Option (List ℕ × ℕ)) (rose out_rose err_rose : Type 0) (status : Status) (out_old out_new err_old err_new : Option (List ℕ)) →
+      Runs rose out_rose err_rose request told old new status out_old out_new err_old err_new → status ≡ statuses.Usage → Adds out_old out_new [] × Adds err_old err_new usage_line
+  usage-run None old new rose out_rose err_rose status out_old out_new err_old err_new r is =
+      ⊎_elim (λ (l : IsLined status statuses.Usage err_old err_new usage_line). (r.out, l.err)) (λ (c : IsCut err_rose status err_old err_new usage_line). absurd (usage_apart status is c.ends)) r.err
+  usage-run (Some request) old new rose out_rose err_rose status out_old out_new err_old err_new r is = absurd (how_usage out_rose err_rose r.reply status out_old out_new err_old err_new r.delivered is)
+
+  pub write-run : (request : Option Request) (old new : Option (List ℕ × ℕ)) (rose out_rose err_rose : Type 0) (status : Status) (out_old out_new err_old err_new : Option (List ℕ)) →
+      Runs rose out_rose err_rose request told old new status out_old out_new err_old err_new → status ≡ statuses.WriteFault → out_rose ⊎ err_rose
+  write-run None old new rose out_rose err_rose status out_old out_new err_old err_new r is =
+      ⊎_elim (λ (l : IsLined status statuses.Usage err_old err_new usage_line). absurd (usage_apart status l.ends is)) (λ (c : IsCut err_rose status err_old err_new usage_line). inr c.rose) r.err
+  write-run (Some request) old new rose out_rose err_rose status out_old out_new err_old err_new r is = (how_write out_rose err_rose r.reply status out_old out_new err_old err_new r.delivered is).rose
+
+  pub write_line-run : (request : Option Request) (old new : Option (List ℕ × ℕ)) (rose out_rose err_rose : Type 0) (status : Status) (out_old out_new err_old err_new : Option (List ℕ)) →
+      Runs rose out_rose err_rose request told old new status out_old out_new err_old err_new → status ≡ statuses.WriteFault → (err_rose → ⊥) → Adds err_old err_new write_fault_line
+  write_line-run None old new rose out_rose err_rose status out_old out_new err_old err_new r is quiet =
+      ⊎_elim (λ (l : IsLined status statuses.Usage err_old err_new usage_line). absurd (usage_apart status l.ends is)) (λ (c : IsCut err_rose status err_old err_new usage_line). absurd (quiet c.rose)) r.err
+  write_line-run (Some request) old new rose out_rose err_rose status out_old out_new err_old err_new r is quiet = (how_write out_rose err_rose r.reply status out_old out_new err_old err_new r.delivered is).line quiet
+
+  pub memory-run : (request : Option Request) (old new : Option (List ℕ × ℕ)) (rose out_rose err_rose : Type 0) (status : Status) (out_old out_new err_old err_new : Option (List ℕ)) →
+      Runs rose out_rose err_rose request told old new status out_old out_new err_old err_new → status ≡ statuses.Memory → Adds err_old err_new memory_line
+  memory-run None old new rose out_rose err_rose status out_old out_new err_old err_new r is =
+      ⊎_elim (λ (l : IsLined status statuses.Usage err_old err_new usage_line). absurd (memory_apart_usage status is l.ends)) (λ (c : IsCut err_rose status err_old err_new usage_line). absurd (memory_apart status is c.ends)) r.err
+  memory-run (Some request) old new rose out_rose err_rose status out_old out_new err_old err_new r is = how_memory out_rose err_rose r.reply status out_old out_new err_old err_new r.delivered is
+
+  rose_of : (request : Request) (old new : Option (List ℕ × ℕ)) (rose out_rose err_rose : Type 0) (status : Status) (out_old out_new err_old err_new : Option (List ℕ)) (reply : Reply) →
+      Decides told old new rose (ask_of request) reply → status_of reply ≡ statuses.ReadFault → rose
+  rose_of request old new rose out_rose err_rose status out_old out_new err_old err_new (replies.Says (answers.Refused line)) d is = cc
+  rose_of request old new rose out_rose err_rose status out_old out_new err_old err_new (replies.Says (answers.Verdict line)) d is = cc
+  rose_of request old new rose out_rose err_rose status out_old out_new err_old err_new (replies.Says (answers.Done text)) d is = cc
+  rose_of request old new rose out_rose err_rose status out_old out_new err_old err_new (replies.ReadFault line) d is =
+      (Leaves-decided (file_words request) old new rose told (ask_of request) (replies.ReadFault line) (asks_for request) (asks_some request) d).rose
+  rose_of request old new rose out_rose err_rose status out_old out_new err_old err_new replies.Memory d is = cc
+
+  pub read-run : (request : Option Request) (old new : Option (List ℕ × ℕ)) (rose out_rose err_rose : Type 0) (status : Status) (out_old out_new err_old err_new : Option (List ℕ)) →
+      Runs rose out_rose err_rose request told old new status out_old out_new err_old err_new → status ≡ statuses.ReadFault → rose
+  read-run None old new rose out_rose err_rose status out_old out_new err_old err_new r is =
+      ⊎_elim (λ (l : IsLined status statuses.Usage err_old err_new usage_line). absurd (read_apart_usage status is l.ends)) (λ (c : IsCut err_rose status err_old err_new usage_line). absurd (read_apart status is c.ends)) r.err
+  read-run (Some request) old new rose out_rose err_rose status out_old out_new err_old err_new r is =
+      rose_of request old new rose out_rose err_rose status out_old out_new err_old err_new r.reply r.decided (how_read out_rose err_rose r.reply status out_old out_new err_old err_new r.delivered is)

@@ -3,7 +3,8 @@ use Rattle.std.proofs.Common.{ℕ, List, ◌∷◌, sym, ◌∙◌, refl, Result
 use Rattle.type_split.specs.Streams.{PlainSplit}
 use Rattle.tydi_tool.specs.declared.answer.Answer.TheVariants as answers
 use Rattle.tydi_tool.specs.Ask.{Ask, AsksFor, goes_on}
-use Rattle.tydi_tool.specs.Commands.{port_ask}
+use Rattle.tydi_tool.specs.Commands.{carried_ask, port_ask}
+use Rattle.tydi_tool.specs.Drives.{carried}
 use Rattle.tydi_tool.specs.Laws.{AsksAlways, AsksOnce}
 use Rattle.tydi_tool.specs.Ports.{split_at}
 use Rattle.tydi_tool.specs.Refusals.{Refusal, refusal_line}
@@ -34,3 +35,18 @@ port-always project port next always = (ReadsProject-some project, λ bytes read
 
 pub port-for : (project port : List ℕ) (files : List FileWord) (next : PlainSplit → Ask) → ((split : PlainSplit) → AsksFor files (next split)) → AsksFor (project_file project ∷ files) (port_ask project port next)
 port-for project port files next for = (refl, λ read. goes-for files (split_at read port) next for)
+
+-- ---- one that begins with the split of a port each of whose nodes is carried
+
+pub carried-once : (project port : List ℕ) (next : PlainSplit → Ask) → ((split : PlainSplit) → AsksOnce (next split)) → AsksOnce (carried_ask project port next)
+carried-once project port next once =
+    port-once project port (λ split. goes_on (carried split) (λ done. next split)) (λ split. goes-once (carried split) (λ done. next split) (λ done. once split))
+
+pub carried-always : (project port : List ℕ) (next : PlainSplit → Ask) → ((split : PlainSplit) → AsksAlways (next split)) → AsksAlways (carried_ask project port next)
+carried-always project port next always =
+    port-always project port (λ split. goes_on (carried split) (λ done. next split)) (λ split. goes-always (carried split) (λ done. next split) (λ done. always split))
+
+pub carried-for : (project port : List ℕ) (files : List FileWord) (next : PlainSplit → Ask) → ((split : PlainSplit) → AsksFor files (next split))
+    → AsksFor (project_file project ∷ files) (carried_ask project port next)
+carried-for project port files next for =
+    port-for project port files (λ split. goes_on (carried split) (λ done. next split)) (λ split. goes-for files (carried split) (λ done. next split) (λ done. for split))

@@ -1,6 +1,6 @@
 -- The table of causes: each row has the cause of an answer, and the very line or text that is said of it, written out here once
 -- more. So a name that is exchanged in the definition of the answers and in the code breaks a law (this project's own).
-use Rattle.std.specs.Prelude.{◌≡◌, ℕ, ◌<◌, ◌≤◌, ◌⊎◌, ◌↔◌, ◌==◌, ◌||◌, if◌then◌else◌, Bool, true, false, List, [], ◌∷◌, ◌++◌, length, drop, slice_get, Option, Some, None, option_map, Ok, Err, codes, decimal}
+use Rattle.std.specs.Prelude.{◌≡◌, ℕ, ◌<◌, ◌≤◌, ◌⊎◌, ◌↔◌, ◌==◌, ◌||◌, if◌then◌else◌, true, false, List, [], ◌∷◌, ◌++◌, length, drop, slice_get, Option, Some, None, option_map, Ok, Err, codes, decimal}
 use Rattle.std.specs.Str.{bytes_eq, is_utf8}
 use Rattle.std.specs.Str.Lossy.{utf8_valid_len}
 use Rattle.tydi_base.specs.Path.{path_text}
@@ -26,25 +26,49 @@ use Rattle.til_parser.specs.Lexemes.{lexemes_of}
 use Rattle.til_parser.specs.declared.fault.ParseFault.{ParseFault}
 use Rattle.til_parser.specs.declared.fault.ParseFault.TheVariants as parsing
 use Rattle.til_parser.specs.declared.tree.Ast.{Ast}
+use Rattle.logical_types.specs.Tree.{Ltype}
 use Rattle.logical_types.specs.declared.fault.TypeFault.{TypeFault}
 use Rattle.logical_types.specs.declared.fault.TypeFault.TheVariants as typing
 use Rattle.til_resolve.specs.Faults.{IsToldOf}
 use Rattle.til_resolve.specs.PlainProject.{PlainPort, PlainProject}
 use Rattle.til_resolve.specs.declared.fault.ResolveFault.{ResolveFault}
 use Rattle.til_resolve.specs.declared.fault.ResolveFault.TheVariants as resolving
-use Rattle.type_split.specs.Streams.{clash_of, split_of}
+use Rattle.type_split.specs.Carried.{uncarried_of}
+use Rattle.type_split.specs.Streams.{PlainSplit, clash_of, split_of}
+use Rattle.logical_value.specs.Tree.{plain_port}
+use Rattle.logical_value.specs.declared.value.PortValue.{PortValue}
+use Rattle.plan_text.specs.Text.{plan_of}
+use Rattle.plan_text.specs.declared.fault.PlanFault.{PlanFault}
+use Rattle.plan_text.specs.declared.fault.PlanFault.TheVariants as planning
+use Rattle.plan_text.specs.declared.plan.Plan.{Plan}
+use Rattle.port_drive.specs.Drives as driving
+use Rattle.port_drive.specs.Drives.{Undriven, drive_of}
+use Rattle.port_drive.specs.Text.{drive_text}
 use Rattle.split_text.specs.Text.{split_text}
+use Rattle.value_text.specs.Reading.{IsFaulty, IsValue}
+use Rattle.value_text.specs.declared.fault.ValueFault.{ValueFault}
+use Rattle.value_text.specs.declared.fault.ValueFault.TheVariants as valuing
 use Rattle.tydi_tool.specs.declared.answer.Answer.{Answer}
 use Rattle.tydi_tool.specs.declared.answer.Answer.TheVariants as answers
 use Rattle.tydi_tool.specs.Ask.{Ask, Ends, Asks}
 use Rattle.tydi_tool.specs.Commands.{ask_of, Says}
+use Rattle.tydi_tool.specs.Drives.{path_of}
 use Rattle.tydi_tool.specs.Files.{file_of}
 use Rattle.tydi_tool.specs.Lines.{counts_text}
 use Rattle.tydi_tool.specs.Ports.{port_named}
 use Rattle.tydi_tool.specs.Projects.{ReadsProject}
 use Rattle.tydi_tool.specs.Reports.{path_of_stream}
 use Rattle.tydi_tool.specs.Trees.{IsSpelled, ReadsTree}
-use Rattle.tydi_tool.specs.Words.{Request, Check, Read, Split, FileWord}
+use Rattle.vhdl_text.specs.Reading.{bench_of}
+use Rattle.vhdl_text.specs.declared.bench.Bench.{Bench}
+use Rattle.vhdl_text.specs.declared.fault.VhdlFault.{VhdlFault}
+use Rattle.vhdl_text.specs.declared.fault.VhdlFault.TheVariants as benching
+use Rattle.vhdl_meaning.specs.RunText.{run_of}
+use Rattle.vhdl_meaning.specs.declared.run.RunFault.{RunFault}
+use Rattle.vhdl_meaning.specs.declared.run.RunFault.TheVariants as running
+use Rattle.vhdl_meaning.specs.declared.run.SimRun.{SimRun}
+use Rattle.bench_run.specs.Traces.{trace_text_of}
+use Rattle.tydi_tool.specs.Words.{Request, Check, Drive, Read, Sim, Split, FileWord}
 
 -- ---- which row an answer is of
 
@@ -57,7 +81,10 @@ pub data Row : Type 0 where
   ResolverFault : Row
   NoPort : Row
   NameClash : Row
+  NoCarrier : Row
   TextFault : Row
+  CountNotMultiple : Row
+  NotFinished : Row
   OutputTooLong : Row
   AnOffence : Row
   AnUnfinished : Row
@@ -73,9 +100,16 @@ rows_of_faults =
     ∷ (codes "DeclaredTwice", ResolverFault) ∷ (codes "UnknownName", ResolverFault) ∷ (codes "WrongKind", ResolverFault)
     ∷ (codes "CyclicType", ResolverFault) ∷ (codes "TypeTooLarge", ResolverFault) ∷ (codes "BadType", ResolverFault)
     ∷ (codes "PortNotStream", ResolverFault) ∷ (codes "CyclicInstance", ResolverFault)
-    ∷ (codes "NoPort", NoPort) ∷ (codes "NameClash", NameClash)
+    ∷ (codes "NoPort", NoPort) ∷ (codes "NameClash", NameClash) ∷ (codes "NoCarrier", NoCarrier)
     ∷ (codes "BadHeader", TextFault) ∷ (codes "TooManyCycles", TextFault) ∷ (codes "BadRow", TextFault)
     ∷ (codes "WrongSignals", TextFault) ∷ (codes "RowsMissing", TextFault) ∷ (codes "RowsLeft", TextFault)
+    ∷ (codes "Syntax", TextFault) ∷ (codes "WrongShape", TextFault) ∷ (codes "UnknownField", TextFault)
+    ∷ (codes "OutOfRange", TextFault) ∷ (codes "TooManyLeaves", TextFault)
+    ∷ (codes "UnknownStream", TextFault) ∷ (codes "StreamTwice", TextFault) ∷ (codes "ReadyLength", TextFault)
+    ∷ (codes "MaskTooWide", TextFault) ∷ (codes "UserTooWide", TextFault)
+    ∷ (codes "NotForm", TextFault) ∷ (codes "UnknownSignal", TextFault) ∷ (codes "TwoDrivers", TextFault)
+    ∷ (codes "NotOrder", TextFault) ∷ (codes "TooManyOrders", TextFault)
+    ∷ (codes "CountNotMultiple", CountNotMultiple) ∷ (codes "NotFinished", NotFinished)
     ∷ (codes "OutputTooLong", OutputTooLong) ∷ []
 
 -- the row of each word with which a verdict begins
@@ -110,29 +144,134 @@ pub record HasBytes (known : Files) (word : List ℕ) (limit : ℕ) (bytes : Lis
   pub there : known word ≡ Some bytes
   pub within : length bytes ≤ limit
 
--- the project whose text a command reads: its word and its bytes, of at most 4 MiB
+-- ---- the words of each command, and the files that it reads
+
+-- the project whose text a command reads
+abbrev pub project_of : Request → Option (List ℕ)
+project_of (Check trace) = None
+project_of (Read project) = Some project
+project_of (Split project port) = Some project
+project_of (Drive project port value plan) = Some project
+project_of (Sim bench run) = None
+
+-- the project that a command resolves
+abbrev pub resolved_of : Request → Option (List ℕ)
+resolved_of (Check trace) = None
+resolved_of (Read project) = None
+resolved_of (Split project port) = Some project
+resolved_of (Drive project port value plan) = Some project
+resolved_of (Sim bench run) = None
+
+-- the trace that a command reads before it reads anything else
+abbrev pub trace_in : Request → Option (List ℕ)
+trace_in (Check trace) = Some trace
+trace_in request = None
+
+-- a port of a project
+pub record PortWords : Type 0 where
+  pub project : List ℕ
+  pub port : List ℕ
+
+-- the port that a command begins with
+abbrev pub port_in : Request → Option PortWords
+port_in (Split project port) = Some (record { project = project; port = port })
+port_in (Drive project port value plan) = Some (record { project = project; port = port })
+port_in request = None
+
+-- the port that a command begins with, each of whose nodes has to be carried
+abbrev pub carried_in : Request → Option PortWords
+carried_in (Drive project port value plan) = Some (record { project = project; port = port })
+carried_in request = None
+
+-- a port of a project, a value of it and a plan of its streams
+pub record DriveWords : Type 0 where
+  pub at : PortWords
+  pub value : List ℕ
+  pub plan : List ℕ
+
+-- the port that a command drives, with the files of the value and the plan
+abbrev pub driven_in : Request → Option DriveWords
+driven_in (Drive project port value plan) = Some (record { at = record { project = project; port = port }; value = value; plan = plan })
+driven_in request = None
+
+-- a bench and a run of it
+pub record SimWords : Type 0 where
+  pub bench : List ℕ
+  pub run : List ℕ
+
+-- the bench that a command runs
+abbrev pub simulated_in : Request → Option SimWords
+simulated_in (Sim bench run) = Some (record { bench = bench; run = run })
+simulated_in request = None
+
+-- a text of at most so many bytes that a command reads by this word
+pub record HasText (known : Files) (named : Option (List ℕ)) (limit : ℕ) (word bytes : List ℕ) : Type 0 where
+  pub word_is : named ≡ Some word
+  pub file : HasBytes known word limit bytes
+
+-- the project whose text a command reads, of at most 4 MiB
 abbrev pub HasProjectText : Files → Request → (word bytes : List ℕ) → Type 0
-HasProjectText known (Check trace) word bytes = ⊥
-HasProjectText known (Read project) word bytes = (word ≡ project) × HasBytes known word 4194304 bytes
-HasProjectText known (Split project port) word bytes = (word ≡ project) × HasBytes known word 4194304 bytes
+HasProjectText known request word bytes = HasText known (project_of request) 4194304 word bytes
 
 -- the same, of a command that resolves it
 abbrev pub HasProject : Files → Request → (word bytes : List ℕ) → Type 0
-HasProject known (Check trace) word bytes = ⊥
-HasProject known (Read project) word bytes = ⊥
-HasProject known (Split project port) word bytes = (word ≡ project) × HasBytes known word 4194304 bytes
+HasProject known request word bytes = HasText known (resolved_of request) 4194304 word bytes
 
--- the trace that a command reads: its word and its bytes, of at most 64 MiB
+-- the trace that a command reads first, of at most 64 MiB
 abbrev pub HasTraceText : Files → Request → (word bytes : List ℕ) → Type 0
-HasTraceText known (Check trace) word bytes = (word ≡ trace) × HasBytes known word 67108864 bytes
-HasTraceText known (Read project) word bytes = ⊥
-HasTraceText known (Split project port) word bytes = ⊥
+HasTraceText known request word bytes = HasText known (trace_in request) 67108864 word bytes
 
--- the port that a command names
-abbrev pub NamesPort : Request → List ℕ → Type 0
-NamesPort (Check trace) word = ⊥
-NamesPort (Read project) word = ⊥
-NamesPort (Split project port) word = word ≡ port
+-- the project is there and is read, and has this port
+pub record HasPort (known : Files) (words : PortWords) (ltype : Ltype) : Type 0 where
+  pub bytes : List ℕ
+  pub file : HasBytes known words.project 4194304 bytes
+  pub read : PlainProject
+  pub reads : ReadsProject words.project bytes (Ok read)
+  pub found : PlainPort
+  pub named : port_named read words.port ≡ Some found
+  pub type_is : ltype ≡ found.ltype
+
+-- the project has the port, and no two physical streams of it clash: this is its split
+pub record HasSplit (known : Files) (words : PortWords) (split : PlainSplit) : Type 0 where
+  pub ltype : Ltype
+  pub port : HasPort known words ltype
+  pub apart : clash_of ltype ≡ None
+  pub is : split ≡ split_of ltype
+
+-- the same, and each node of it is carried
+pub record HasCarried (known : Files) (words : PortWords) (split : PlainSplit) : Type 0 where
+  pub split_is : HasSplit known words split
+  pub carried : uncarried_of split ≡ None
+
+-- a file of at most 16 MiB has the text of this value of the port
+pub record HasValue (known : Files) (split : PlainSplit) (word : List ℕ) (value : PortValue) : Type 0 where
+  pub bytes : List ℕ
+  pub file : HasBytes known word 16777216 bytes
+  pub reads : IsValue split bytes value
+
+-- a file of at most 16 MiB has the text of this plan of the port
+pub record HasPlan (known : Files) (split : PlainSplit) (word : List ℕ) (plan : Plan) : Type 0 where
+  pub bytes : List ℕ
+  pub file : HasBytes known word 16777216 bytes
+  pub reads : plan_of split.streams bytes ≡ Ok plan
+
+-- all that a command needs to drive a port is there
+pub record HasDrive (known : Files) (words : DriveWords) (split : PlainSplit) (value : PortValue) (plan : Plan) : Type 0 where
+  pub at : HasCarried known words.at split
+  pub value_is : HasValue known split words.value value
+  pub plan_is : HasPlan known split words.plan plan
+
+-- a file of at most 64 MiB has the text of this bench
+pub record HasBench (known : Files) (word : List ℕ) (bench : Bench) : Type 0 where
+  pub bytes : List ℕ
+  pub file : HasBytes known word 67108864 bytes
+  pub reads : bench_of bytes ≡ Ok bench
+
+-- a file of at most 16 MiB has the text of this run of the bench
+pub record HasRun (known : Files) (bench : Bench) (word : List ℕ) (run : SimRun) : Type 0 where
+  pub bytes : List ℕ
+  pub file : HasBytes known word 16777216 bytes
+  pub reads : run_of bench bytes ≡ Ok run
 
 -- ---- the lines
 
@@ -189,6 +328,40 @@ trace_line word (reading.RowsMissing want got) =
     Some (codes "tydi: RowsMissing " ++ word ++ codes " " ++ decimal want ++ codes " " ++ decimal got ++ codes "\n")
 trace_line word (reading.RowsLeft line) = Some (codes "tydi: RowsLeft " ++ word ++ codes " " ++ decimal line ++ codes "\n")
 trace_line word reading.Memory = None
+
+abbrev pub value_line : List ℕ → ValueFault → Option (List ℕ)
+value_line word (valuing.Syntax place) = Some (codes "tydi: Syntax " ++ word ++ codes " " ++ at_place place ++ codes "\n")
+value_line word (valuing.WrongShape place) = Some (codes "tydi: WrongShape " ++ word ++ codes " " ++ at_place place ++ codes "\n")
+value_line word (valuing.UnknownField place) = Some (codes "tydi: UnknownField " ++ word ++ codes " " ++ at_place place ++ codes "\n")
+value_line word (valuing.OutOfRange place) = Some (codes "tydi: OutOfRange " ++ word ++ codes " " ++ at_place place ++ codes "\n")
+value_line word (valuing.TooManyLeaves place) = Some (codes "tydi: TooManyLeaves " ++ word ++ codes " " ++ at_place place ++ codes "\n")
+value_line word valuing.Memory = None
+
+abbrev pub plan_line : List ℕ → PlanFault → Option (List ℕ)
+plan_line word (planning.Syntax place) = Some (codes "tydi: Syntax " ++ word ++ codes " " ++ at_place place ++ codes "\n")
+plan_line word (planning.UnknownStream place) = Some (codes "tydi: UnknownStream " ++ word ++ codes " " ++ at_place place ++ codes "\n")
+plan_line word (planning.StreamTwice place) = Some (codes "tydi: StreamTwice " ++ word ++ codes " " ++ at_place place ++ codes "\n")
+plan_line word (planning.ReadyLength place) = Some (codes "tydi: ReadyLength " ++ word ++ codes " " ++ at_place place ++ codes "\n")
+plan_line word (planning.MaskTooWide place) = Some (codes "tydi: MaskTooWide " ++ word ++ codes " " ++ at_place place ++ codes "\n")
+plan_line word (planning.UserTooWide place) = Some (codes "tydi: UserTooWide " ++ word ++ codes " " ++ at_place place ++ codes "\n")
+plan_line word (planning.TooManyCycles place) = Some (codes "tydi: TooManyCycles " ++ word ++ codes " " ++ at_place place ++ codes "\n")
+plan_line word planning.Memory = None
+
+abbrev pub bench_line : List ℕ → VhdlFault → Option (List ℕ)
+bench_line word (benching.NotForm offset) = Some (codes "tydi: NotForm " ++ word ++ codes " " ++ decimal offset ++ codes "\n")
+bench_line word (benching.UnknownSignal offset) = Some (codes "tydi: UnknownSignal " ++ word ++ codes " " ++ decimal offset ++ codes "\n")
+bench_line word (benching.TwoDrivers offset) = Some (codes "tydi: TwoDrivers " ++ word ++ codes " " ++ decimal offset ++ codes "\n")
+bench_line word benching.Memory = None
+
+abbrev pub run_line : List ℕ → RunFault → Option (List ℕ)
+run_line word (running.Syntax place) = Some (codes "tydi: Syntax " ++ word ++ codes " " ++ at_place place ++ codes "\n")
+run_line word (running.UnknownStream place) = Some (codes "tydi: UnknownStream " ++ word ++ codes " " ++ at_place place ++ codes "\n")
+run_line word (running.StreamTwice place) = Some (codes "tydi: StreamTwice " ++ word ++ codes " " ++ at_place place ++ codes "\n")
+run_line word (running.ReadyLength place) = Some (codes "tydi: ReadyLength " ++ word ++ codes " " ++ at_place place ++ codes "\n")
+run_line word (running.NotOrder place) = Some (codes "tydi: NotOrder " ++ word ++ codes " " ++ at_place place ++ codes "\n")
+run_line word (running.TooManyCycles place) = Some (codes "tydi: TooManyCycles " ++ word ++ codes " " ++ at_place place ++ codes "\n")
+run_line word (running.TooManyOrders place) = Some (codes "tydi: TooManyOrders " ++ word ++ codes " " ++ at_place place ++ codes "\n")
+run_line word running.Memory = None
 
 -- the line of a stream that does not end whole
 abbrev pub unfinished_line : List (List ℕ) → End → Option (List ℕ)
@@ -264,41 +437,128 @@ pub record ResolverCause (known : Files) (request : Request) (a : Answer) : Type
 
 -- no port of the project has the path that the word spells, if it spells one
 pub record NoPortCause (known : Files) (request : Request) (a : Answer) : Type 0 where
-  pub word : List ℕ
+  pub words : PortWords
+  pub named : port_in request ≡ Some words
   pub bytes : List ℕ
-  pub project : HasProject known request word bytes
+  pub file : HasBytes known words.project 4194304 bytes
   pub read : PlainProject
-  pub reads : ReadsProject word bytes (Ok read)
-  pub port : List ℕ
-  pub named : NamesPort request port
-  pub none : port_named read port ≡ None
-  pub said : a ≡ answers.Refused (codes "tydi: NoPort " ++ port ++ codes "\n")
+  pub reads : ReadsProject words.project bytes (Ok read)
+  pub none : port_named read words.port ≡ None
+  pub said : a ≡ answers.Refused (codes "tydi: NoPort " ++ words.port ++ codes "\n")
 
 -- two physical streams of the port clash on this path
 pub record NameClashCause (known : Files) (request : Request) (a : Answer) : Type 0 where
-  pub word : List ℕ
-  pub bytes : List ℕ
-  pub project : HasProject known request word bytes
-  pub read : PlainProject
-  pub reads : ReadsProject word bytes (Ok read)
-  pub port : List ℕ
-  pub named : NamesPort request port
-  pub found : PlainPort
-  pub is : port_named read port ≡ Some found
+  pub words : PortWords
+  pub named : port_in request ≡ Some words
+  pub ltype : Ltype
+  pub port : HasPort known words ltype
   pub path : List (List ℕ)
-  pub clash : clash_of found.ltype ≡ Some path
+  pub clash : clash_of ltype ≡ Some path
   pub said : a ≡ answers.Refused (codes "tydi: NameClash " ++ path_text path ++ codes "\n")
 
--- the text of the trace has no reading
-pub record TextFaultCause (known : Files) (request : Request) (a : Answer) : Type 0 where
+-- a node of the port is not carried, and the first such one has this path
+pub record NoCarrierCause (known : Files) (request : Request) (a : Answer) : Type 0 where
+  pub words : PortWords
+  pub named : carried_in request ≡ Some words
+  pub split : PlainSplit
+  pub split_is : HasSplit known words split
+  pub path : List (List ℕ)
+  pub uncarried : uncarried_of split ≡ Some path
+  pub said : a ≡ answers.Refused (codes "tydi: NoCarrier " ++ path_text path ++ codes "\n")
+
+-- the text of the trace has no reading, with this line
+pub record HasTraceFault (known : Files) (request : Request) (line : List ℕ) : Type 0 where
   pub word : List ℕ
   pub bytes : List ℕ
   pub trace : HasTraceText known request word bytes
   pub fault : TraceFault
   pub reads : trace_of bytes ≡ Err fault
-  pub line : List ℕ
   pub told : trace_line word fault ≡ Some line
+
+-- the text of the value has no reading as one of the port, with this line
+pub record HasValueFault (known : Files) (request : Request) (line : List ℕ) : Type 0 where
+  pub words : DriveWords
+  pub named : driven_in request ≡ Some words
+  pub split : PlainSplit
+  pub at : HasCarried known words.at split
+  pub bytes : List ℕ
+  pub file : HasBytes known words.value 16777216 bytes
+  pub fault : ValueFault
+  pub reads : IsFaulty split bytes fault
+  pub told : value_line words.value fault ≡ Some line
+
+-- the value is read, and the text of the plan has no reading, with this line
+pub record HasPlanFault (known : Files) (request : Request) (line : List ℕ) : Type 0 where
+  pub words : DriveWords
+  pub named : driven_in request ≡ Some words
+  pub split : PlainSplit
+  pub at : HasCarried known words.at split
+  pub value : PortValue
+  pub value_is : HasValue known split words.value value
+  pub bytes : List ℕ
+  pub file : HasBytes known words.plan 16777216 bytes
+  pub fault : PlanFault
+  pub reads : plan_of split.streams bytes ≡ Err fault
+  pub told : plan_line words.plan fault ≡ Some line
+
+-- the text of the bench has no reading, with this line
+pub record HasBenchFault (known : Files) (request : Request) (line : List ℕ) : Type 0 where
+  pub words : SimWords
+  pub named : simulated_in request ≡ Some words
+  pub bytes : List ℕ
+  pub file : HasBytes known words.bench 67108864 bytes
+  pub fault : VhdlFault
+  pub reads : bench_of bytes ≡ Err fault
+  pub told : bench_line words.bench fault ≡ Some line
+
+-- the bench is read, and the text of the run has no reading, with this line
+pub record HasRunFault (known : Files) (request : Request) (line : List ℕ) : Type 0 where
+  pub words : SimWords
+  pub named : simulated_in request ≡ Some words
+  pub bench : Bench
+  pub bench_is : HasBench known words.bench bench
+  pub bytes : List ℕ
+  pub file : HasBytes known words.run 16777216 bytes
+  pub fault : RunFault
+  pub reads : run_of bench bytes ≡ Err fault
+  pub told : run_line words.run fault ≡ Some line
+
+-- an error of one of these texts, with this line
+abbrev pub HasTextFault : Files → Request → List ℕ → Type 0
+HasTextFault known request line =
+    HasTraceFault known request line ⊎ (HasValueFault known request line ⊎ (HasPlanFault known request line ⊎ (HasBenchFault known request line ⊎ HasRunFault known request line)))
+
+-- the text of a trace, a value, a plan, a bench or a run has no reading
+pub record TextFaultCause (known : Files) (request : Request) (a : Answer) : Type 0 where
+  pub line : List ℕ
+  pub faulty : HasTextFault known request line
   pub said : a ≡ answers.Refused line
+
+-- the value and the plan do not drive the port, for this reason
+pub record HasReason (known : Files) (request : Request) (split : PlainSplit) (reason : Undriven) : Type 0 where
+  pub words : DriveWords
+  pub named : driven_in request ≡ Some words
+  pub value : PortValue
+  pub plan : Plan
+  pub all : HasDrive known words split value plan
+  pub is : drive_of split (plain_port value) plan.streams ≡ Err reason
+
+-- the lanes of a stream do not divide its elements, and this is the first such stream
+pub record CountNotMultipleCause (known : Files) (request : Request) (a : Answer) : Type 0 where
+  pub split : PlainSplit
+  pub stream : ℕ
+  pub count : ℕ
+  pub lanes : ℕ
+  pub reason : HasReason known request split (driving.CountNotMultiple stream count lanes)
+  pub said : a ≡ answers.Refused (codes "tydi: CountNotMultiple " ++ path_text (path_of split stream) ++ codes " " ++ decimal count ++ codes " " ++ decimal lanes ++ codes "\n")
+
+-- the run of a stream leaves so many transfers after the cycles of the plan, and this is the first such stream
+pub record NotFinishedCause (known : Files) (request : Request) (a : Answer) : Type 0 where
+  pub split : PlainSplit
+  pub stream : ℕ
+  pub left : ℕ
+  pub reason : HasReason known request split (driving.NotFinished stream left)
+  pub said : a ≡ answers.Refused (codes "tydi: NotFinished " ++ path_text (path_of split stream) ++ codes " " ++ decimal left ++ codes "\n")
 
 -- the trace has an offence, and this is the first
 pub record OffenceCause (known : Files) (request : Request) (a : Answer) : Type 0 where
@@ -347,21 +607,34 @@ pub record IsTreeText (known : Files) (project text : List ℕ) : Type 0 where
   pub is : text ≡ canonical ast
 
 -- the project has the port, and no two physical streams of it clash
-pub record IsSplitText (known : Files) (project port text : List ℕ) : Type 0 where
-  pub bytes : List ℕ
-  pub file : HasBytes known project 4194304 bytes
-  pub read : PlainProject
-  pub reads : ReadsProject project bytes (Ok read)
-  pub found : PlainPort
-  pub named : port_named read port ≡ Some found
-  pub apart : clash_of found.ltype ≡ None
-  pub is : text ≡ split_text (split_of found.ltype)
+pub record IsSplitText (known : Files) (words : PortWords) (text : List ℕ) : Type 0 where
+  pub split : PlainSplit
+  pub split_is : HasSplit known words split
+  pub is : text ≡ split_text split
+
+-- the value and the plan drive the port
+pub record IsDriveText (known : Files) (words : DriveWords) (text : List ℕ) : Type 0 where
+  pub split : PlainSplit
+  pub value : PortValue
+  pub plan : Plan
+  pub all : HasDrive known words split value plan
+  pub is : drive_text split (plain_port value) plan ≡ Ok text
+
+-- the bench and the run are read
+pub record IsSimText (known : Files) (words : SimWords) (text : List ℕ) : Type 0 where
+  pub bench : Bench
+  pub run : SimRun
+  pub bench_is : HasBench known words.bench bench
+  pub run_is : HasRun known bench words.run run
+  pub is : text ≡ trace_text_of bench run
 
 -- the text that a command makes of the files
 abbrev pub IsTextOf : Files → Request → List ℕ → Type 0
 IsTextOf known (Check trace) text = IsLegalText known trace text
 IsTextOf known (Read project) text = IsTreeText known project text
-IsTextOf known (Split project port) text = IsSplitText known project port text
+IsTextOf known (Split project port) text = IsSplitText known (record { project = project; port = port }) text
+IsTextOf known (Drive project port value plan) text = IsDriveText known (record { at = record { project = project; port = port }; value = value; plan = plan }) text
+IsTextOf known (Sim bench run) text = IsSimText known (record { bench = bench; run = run }) text
 
 -- the text is over 64 MiB
 pub record OutputTooLongCause (known : Files) (request : Request) (a : Answer) : Type 0 where
@@ -386,7 +659,10 @@ CausedBy ParserFault known request a = ParserCause known request a
 CausedBy ResolverFault known request a = ResolverCause known request a
 CausedBy NoPort known request a = NoPortCause known request a
 CausedBy NameClash known request a = NameClashCause known request a
+CausedBy NoCarrier known request a = NoCarrierCause known request a
 CausedBy TextFault known request a = TextFaultCause known request a
+CausedBy CountNotMultiple known request a = CountNotMultipleCause known request a
+CausedBy NotFinished known request a = NotFinishedCause known request a
 CausedBy OutputTooLong known request a = OutputTooLongCause known request a
 CausedBy AnOffence known request a = OffenceCause known request a
 CausedBy AnUnfinished known request a = UnfinishedCause known request a

@@ -9,7 +9,15 @@ use Rattle.type_split.specs.Streams.{PlainSplit}
 use Rattle.split_text.specs.Text.{split_text}
 use Rattle.tydi_tool.specs.declared.answer.Answer.{Answer}
 use Rattle.tydi_tool.specs.declared.traces.Survey.{Survey}
-use Rattle.tydi_tool.specs.Words.{Request, Check, Read, Split, trace_file, project_file}
+use Rattle.logical_value.specs.declared.value.PortValue.{PortValue}
+use Rattle.plan_text.specs.declared.plan.Plan.{Plan}
+use Rattle.vhdl_text.specs.declared.bench.Bench.{Bench}
+use Rattle.vhdl_meaning.specs.declared.run.SimRun.{SimRun}
+use Rattle.bench_run.specs.Traces.{trace_text_of}
+use Rattle.tydi_tool.specs.Drives.{TellsDriven, carried}
+use Rattle.tydi_tool.specs.Texts.{ReadsPlan, ReadsValue}
+use Rattle.tydi_tool.specs.Benches.{ReadsBench, ReadsRun}
+use Rattle.tydi_tool.specs.Words.{Request, Check, Drive, Read, Sim, Split, bench_file, trace_file, project_file, text_file}
 use Rattle.tydi_tool.specs.Outcome.{output_answer}
 use Rattle.tydi_tool.specs.Ports.{split_at}
 use Rattle.tydi_tool.specs.Projects.{ReadsProject}
@@ -38,10 +46,36 @@ port_ask project port next = project_ask project (λ read. goes_on (split_at rea
 abbrev pub split_ask : (project port : List ℕ) → Ask
 split_ask project port = port_ask project port (λ split. Ends (λ a. a ≡ output_answer (split_text split)))
 
+-- a command that begins with the split of a port each of whose nodes is carried
+abbrev pub carried_ask : (project port : List ℕ) → (PlainSplit → Ask) → Ask
+carried_ask project port next = port_ask project port (λ split. goes_on (carried split) (λ done. next split))
+
+-- a command that ends with a plan of a port
+abbrev pub plan_ask : List ℕ → PlainSplit → (Plan → Answer → Type 0) → Ask
+plan_ask plan split Tells = Asks (text_file plan) Plan (ReadsPlan plan split) (λ read. Ends (Tells read))
+
+-- a command that ends with a value and then a plan of a port
+abbrev pub planned_ask : (value plan : List ℕ) → PlainSplit → (PortValue → Plan → Answer → Type 0) → Ask
+planned_ask value plan split Tells = Asks (text_file value) PortValue (ReadsValue value split) (λ read. plan_ask plan split (Tells read))
+
+-- `drive PROJECT PORT VALUE PLAN`: the trace that drives the port
+abbrev pub drive_ask : (project port value plan : List ℕ) → Ask
+drive_ask project port value plan = carried_ask project port (λ split. planned_ask value plan split (TellsDriven split))
+
+-- a command that ends with a run of a bench: the trace
+abbrev pub run_ask : List ℕ → Bench → Ask
+run_ask run bench = Asks (text_file run) SimRun (ReadsRun run bench) (λ read. Ends (λ a. a ≡ output_answer (trace_text_of bench read)))
+
+-- `sim BENCH RUN`: the trace of a bench under a run, by the meaning of the bench
+abbrev pub sim_ask : (bench run : List ℕ) → Ask
+sim_ask bench run = Asks (bench_file bench) Bench (ReadsBench bench) (run_ask run)
+
 abbrev pub ask_of : Request → Ask
 ask_of (Check trace) = check_ask trace
 ask_of (Read project) = read_ask project
 ask_of (Split project port) = split_ask project port
+ask_of (Drive project port value plan) = drive_ask project port value plan
+ask_of (Sim bench run) = sim_ask bench run
 
 -- the answer of the tool: none where the words spell no command
 abbrev pub Says : Option Files → Option Request → Answer → Type 0

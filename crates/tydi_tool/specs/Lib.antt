@@ -1,7 +1,9 @@
 pub mod Ask
+pub mod Benches
 pub mod Causes
 pub mod Commands
 pub mod Delivery
+pub mod Drives
 pub mod Files
 pub mod Laws
 pub mod Lines
@@ -16,6 +18,8 @@ pub mod Reports
 pub mod Run
 pub mod Started
 pub mod TraceFiles
+pub mod Texts
 pub mod Traces
 pub mod Trees
 pub mod Words
+pub mod DriveLaw

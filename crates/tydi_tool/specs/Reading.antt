@@ -10,6 +10,11 @@ abbrev pub RefusesBy : {X : Type 0} → Option Refusal → Result X (List ℕ) �
 RefusesBy (Some refusal) read = read ≡ Err (refusal_line refusal)
 RefusesBy None read = ⊥
 
+-- a value, or the refusal of an error, as the answer to a text
+abbrev pub ReadsResult : {X F : Type 0} → (F → Option Refusal) → Result X F → Result X (List ℕ) → Type 0
+ReadsResult refusal (Ok x) read = read ≡ Ok x
+ReadsResult refusal (Err fault) read = RefusesBy (refusal fault) read
+
 -- bytes are read as a y by way of an x: they are read as an x, of which a step makes a y, or the one or the other refuses them
 abbrev pub ReadsBy : {X Y : Type 0} → (List ℕ → Result X (List ℕ) → Type 0) → (X → Result Y (List ℕ) → Type 0) → List ℕ → Result Y (List ℕ) → Type 0
 ReadsBy {X} Reads Step bytes (Ok y) = (x : X) × (Reads bytes (Ok x) × Step x (Ok y))

@@ -11,6 +11,14 @@ use Rattle.logical_types.specs.declared.fault.TypeFault.{TypeFault}
 use Rattle.logical_types.specs.declared.fault.TypeFault.TheVariants as typing
 use Rattle.til_resolve.specs.declared.fault.ResolveFault.{ResolveFault}
 use Rattle.til_resolve.specs.declared.fault.ResolveFault.TheVariants as resolving
+use Rattle.value_text.specs.declared.fault.ValueFault.{ValueFault}
+use Rattle.value_text.specs.declared.fault.ValueFault.TheVariants as valuing
+use Rattle.plan_text.specs.declared.fault.PlanFault.{PlanFault}
+use Rattle.plan_text.specs.declared.fault.PlanFault.TheVariants as planning
+use Rattle.vhdl_text.specs.declared.fault.VhdlFault.{VhdlFault}
+use Rattle.vhdl_text.specs.declared.fault.VhdlFault.TheVariants as benching
+use Rattle.vhdl_meaning.specs.declared.run.RunFault.{RunFault}
+use Rattle.vhdl_meaning.specs.declared.run.RunFault.TheVariants as running
 use Rattle.tydi_tool.specs.declared.refusal.Detail.{Detail}
 use Rattle.tydi_tool.specs.declared.refusal.Detail.TheVariants as details
 
@@ -114,3 +122,45 @@ no_port port = of_file (codes "NoPort") port
 -- the refusal of a port of which two physical streams have this path
 abbrev pub name_clash : List (List ℕ) → Refusal
 name_clash path = record { name = codes "NameClash"; details = Stream path ∷ [] }
+
+-- the refusal of a port with a node of this path that no physical stream carries
+abbrev pub no_carrier : List (List ℕ) → Refusal
+no_carrier path = record { name = codes "NoCarrier"; details = Stream path ∷ [] }
+
+-- the refusal of the text of a value of this word with this error; want of memory is none
+abbrev pub refusal_of_value : List ℕ → ValueFault → Option Refusal
+refusal_of_value word (valuing.Syntax place) = Some (of_file_with (codes "Syntax") word (At place))
+refusal_of_value word (valuing.WrongShape place) = Some (of_file_with (codes "WrongShape") word (At place))
+refusal_of_value word (valuing.UnknownField place) = Some (of_file_with (codes "UnknownField") word (At place))
+refusal_of_value word (valuing.OutOfRange place) = Some (of_file_with (codes "OutOfRange") word (At place))
+refusal_of_value word (valuing.TooManyLeaves place) = Some (of_file_with (codes "TooManyLeaves") word (At place))
+refusal_of_value word valuing.Memory = None
+
+-- the refusal of the text of a plan of this word with this error; want of memory is none
+abbrev pub refusal_of_plan : List ℕ → PlanFault → Option Refusal
+refusal_of_plan word (planning.Syntax place) = Some (of_file_with (codes "Syntax") word (At place))
+refusal_of_plan word (planning.UnknownStream place) = Some (of_file_with (codes "UnknownStream") word (At place))
+refusal_of_plan word (planning.StreamTwice place) = Some (of_file_with (codes "StreamTwice") word (At place))
+refusal_of_plan word (planning.ReadyLength place) = Some (of_file_with (codes "ReadyLength") word (At place))
+refusal_of_plan word (planning.MaskTooWide place) = Some (of_file_with (codes "MaskTooWide") word (At place))
+refusal_of_plan word (planning.UserTooWide place) = Some (of_file_with (codes "UserTooWide") word (At place))
+refusal_of_plan word (planning.TooManyCycles place) = Some (of_file_with (codes "TooManyCycles") word (At place))
+refusal_of_plan word planning.Memory = None
+
+-- the refusal of a bench text of this word with this error; want of memory is none
+abbrev pub refusal_of_bench : List ℕ → VhdlFault → Option Refusal
+refusal_of_bench word (benching.NotForm offset) = Some (of_file_with (codes "NotForm") word (Number offset))
+refusal_of_bench word (benching.UnknownSignal offset) = Some (of_file_with (codes "UnknownSignal") word (Number offset))
+refusal_of_bench word (benching.TwoDrivers offset) = Some (of_file_with (codes "TwoDrivers") word (Number offset))
+refusal_of_bench word benching.Memory = None
+
+-- the refusal of a run text of this word with this error; want of memory is none
+abbrev pub refusal_of_run : List ℕ → RunFault → Option Refusal
+refusal_of_run word (running.Syntax place) = Some (of_file_with (codes "Syntax") word (At place))
+refusal_of_run word (running.UnknownStream place) = Some (of_file_with (codes "UnknownStream") word (At place))
+refusal_of_run word (running.StreamTwice place) = Some (of_file_with (codes "StreamTwice") word (At place))
+refusal_of_run word (running.ReadyLength place) = Some (of_file_with (codes "ReadyLength") word (At place))
+refusal_of_run word (running.NotOrder place) = Some (of_file_with (codes "NotOrder") word (At place))
+refusal_of_run word (running.TooManyCycles place) = Some (of_file_with (codes "TooManyCycles") word (At place))
+refusal_of_run word (running.TooManyOrders place) = Some (of_file_with (codes "TooManyOrders") word (At place))
+refusal_of_run word running.Memory = None

@@ -7,7 +7,8 @@ use Rattle.tydi_tool.specs.declared.answer.Answer.TheVariants as answers
 use Rattle.tydi_tool.specs.declared.answer.Reply.{Reply}
 use Rattle.tydi_tool.specs.declared.status.Status.{Status}
 use Rattle.tydi_tool.specs.declared.status.Status.TheVariants as statuses
-use Rattle.tydi_tool.specs.Words.{Request, FileWord, file_words}
+use Rattle.tydi_tool.specs.DriveLaw.{WritesDriven, drive_words}
+use Rattle.tydi_tool.specs.Words.{Request, Check, Drive, Read, Sim, Split, FileWord, file_words}
 use Rattle.tydi_tool.specs.Outcome.{read_fault_line, out_of_answer, err_of_answer, status_of_answer, usage_line, memory_line, write_fault_line}
 use Rattle.tydi_tool.specs.Delivery.{Adds, AddsFront, AddsPart, TakesLine, Delivers}
 use Rattle.tydi_tool.specs.Ask.{Decides}
@@ -162,3 +163,14 @@ pub record ErrFront (told : Option Files) (request : Option Request) (store_rose
 abbrev pub StartedAtEnd : Files → Option Request → Status → (old new : Option (List ℕ × ℕ)) → Type 0
 StartedAtEnd known None status old new = new ≡ old
 StartedAtEnd known (Some request) status old new = StartsWithin known (file_words request) old new × (EndsInAnswer status → IsPulledOut known (file_words request) new)
+
+-- where the command drives a port, out has exactly the text of a trace more that has the run of the planned transfers on each stream, breaks
+-- no rule, ends whole on each stream and carries the value
+abbrev pub WritesTrace : Files → Option Request → (out_old out_new : Option (List ℕ)) → Type 0
+WritesTrace known None out_old out_new = Unit {0}
+WritesTrace known (Some (Check trace)) out_old out_new = Unit {0}
+WritesTrace known (Some (Read project)) out_old out_new = Unit {0}
+WritesTrace known (Some (Split project port)) out_old out_new = Unit {0}
+WritesTrace known (Some (Sim bench run)) out_old out_new = Unit {0}
+WritesTrace known (Some (Drive project port value plan)) out_old out_new =
+    (text : List ℕ) × (WritesDriven known (drive_words project port value plan) text × Adds out_old out_new text)

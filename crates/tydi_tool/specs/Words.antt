@@ -10,11 +10,15 @@ pub data Request : Type 0 where
   Check : List ℕ → Request
   Read : List ℕ → Request
   Split : List ℕ → List ℕ → Request
+  Drive : List ℕ → List ℕ → List ℕ → List ℕ → Request
+  Sim : List ℕ → List ℕ → Request
 
 abbrev pub request_from : Command → Request
 request_from (commands.Check trace) = Check trace.now
 request_from (commands.Read project) = Read project.now
 request_from (commands.Split project port) = Split project.now port.now
+request_from (commands.Drive project port value plan) = Drive project.now port.now value.now plan.now
+request_from (commands.Sim bench run) = Sim bench.now run.now
 
 -- a word that is not empty and does not begin with `-`
 abbrev pub is_word : List ℕ → Bool
@@ -36,6 +40,17 @@ abbrev pub split_request : List (List ℕ) → Option Request
 split_request (project ∷ port ∷ []) = if is_word project && is_word port then Some (Split project port) else None
 split_request words = None
 
+-- `drive PROJECT PORT VALUE PLAN`
+abbrev pub drive_request : List (List ℕ) → Option Request
+drive_request (project ∷ port ∷ value ∷ plan ∷ []) =
+    if (is_word project && is_word port) && (is_word value && is_word plan) then Some (Drive project port value plan) else None
+drive_request words = None
+
+-- `sim BENCH RUN`
+abbrev pub sim_request : List (List ℕ) → Option Request
+sim_request (bench ∷ run ∷ []) = if is_word bench && is_word run then Some (Sim bench run) else None
+sim_request words = None
+
 -- the command that the words spell: the command's own word, and then exactly its words
 abbrev pub request_of : List (List ℕ) → Option Request
 request_of [] = None
@@ -43,7 +58,9 @@ request_of (command ∷ words) =
     if bytes_eq command (codes "check") then check_request words
     else (if bytes_eq command (codes "read") then read_request words
     else (if bytes_eq command (codes "split") then split_request words
-    else None))
+    else (if bytes_eq command (codes "drive") then drive_request words
+    else (if bytes_eq command (codes "sim") then sim_request words
+    else None))))
 
 -- a file that a command names, and the most bytes that it may have
 pub record FileWord : Type 0 where
@@ -58,17 +75,31 @@ trace_limit = 64 * 2 ^ 20
 abbrev pub project_limit : ℕ
 project_limit = 4 * 2 ^ 20
 
+-- the most bytes of a value, a plan or a run: 16 MiB
+abbrev pub text_limit : ℕ
+text_limit = 16 * 2 ^ 20
+
 abbrev pub trace_file : List ℕ → FileWord
 trace_file word = record { word = word; limit = trace_limit }
 
 abbrev pub project_file : List ℕ → FileWord
 project_file word = record { word = word; limit = project_limit }
 
+-- the file of a value, a plan or a run
+abbrev pub text_file : List ℕ → FileWord
+text_file word = record { word = word; limit = text_limit }
+
+-- a bench may have as many bytes as a trace
+abbrev pub bench_file : List ℕ → FileWord
+bench_file word = record { word = word; limit = trace_limit }
+
 -- the files of a command, in the order in which they are read
 abbrev pub file_words : Request → List FileWord
 file_words (Check trace) = trace_file trace ∷ []
 file_words (Read project) = project_file project ∷ []
 file_words (Split project port) = project_file project ∷ []
+file_words (Drive project port value plan) = project_file project ∷ text_file value ∷ text_file plan ∷ []
+file_words (Sim bench run) = bench_file bench ∷ text_file run ∷ []
 
 -- the store may start each file of the command
 abbrev pub Allows : (List ℕ → Bool) → Option Request → Type 0

@@ -2,7 +2,7 @@ use crate::output::Output;
 use tydi_base::List;
 
 /// The answer of the tool about the files that the words name.
-#[derive(Debug, Drop)]
+#[derive(Drop)]
 pub enum Answer {
     /// The input is refused; the line goes to err.
     Refused(List<u8>),
@@ -13,7 +13,7 @@ pub enum Answer {
 }
 
 /// The reply of a command, before anything is written.
-#[derive(Debug, Drop)]
+#[derive(Drop)]
 pub enum Reply {
     /// The answer to the command.
     Says(Answer),

@@ -19,10 +19,12 @@ ghost use Rattle.tydi_tool.specs.Words.{request_from, file_words, project_file};
 
 use crate::answer::Reply;
 use crate::asking::{ask, ask_text};
+use crate::drive::drive;
 use crate::ending::{OUTPUT_LIMIT, answered, answered_front};
 use crate::ports::split_of_port;
 use crate::projects::ProjectText;
 use crate::reports::report;
+use crate::sim::sim;
 use crate::traces::TraceFile;
 use crate::trees::TreeText;
 use crate::words::Command;
@@ -50,6 +52,13 @@ pub(crate) fn reply_to<S: Store>(alloc: Global, command: Command<'_>, store: &mu
         Command::Check { trace } => check(alloc, trace, store),
         Command::Read { project } => read(alloc, project, store),
         Command::Split { project, port } => split(alloc, project, port, store),
+        Command::Drive {
+            project,
+            port,
+            value,
+            plan,
+        } => drive(alloc, project, port, value, plan, store),
+        Command::Sim { bench, run } => sim(alloc, bench, run, store),
     }
 }
 
@@ -100,7 +109,11 @@ fn canonical_text(alloc: Global, ast: &Ast) -> Reply
 
 /// The project of this word, with which a command begins; it stands. The error is the reply where its file is lacking, a call fails
 /// or its text is refused.
-fn ask_project<S: Store>(alloc: Global, project: &Text, store: &mut S) -> Result<Project, Reply>
+pub(crate) fn ask_project<S: Store>(
+    alloc: Global,
+    project: &Text,
+    store: &mut S,
+) -> Result<Project, Reply>
     requires { IsTrue (S.allowed store.old project.now) }
     ensures allowed { S.allowed store.new ≡ S.allowed store.old }
     ensures files { S.files store.new ≡ S.files store.old }

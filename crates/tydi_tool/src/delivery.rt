@@ -6,7 +6,7 @@ use crate::answer::{Answer, Reply};
 use crate::output::Output;
 use crate::status::Status;
 use std::alloc::Global;
-use tydi_base::Memory;
+use tydi_base::{List, Memory};
 use tydi_io::{Failed, Sink};
 
 /// Why a text was not written to its end.
@@ -37,8 +37,9 @@ fn write_text<S: Sink>(alloc: Global, text: Output, sink: &mut S) -> Result<(), 
     ensures writes { Writes (Rose (S.faults sink.old) (S.faults sink.new)) result (S.taken sink.old) (S.taken sink.new) text }
 {
     let mut left = text;
+    let mut piece = List::new(alloc);
     'pieces: while left.len() > 0 {
-        match write_piece(alloc, &mut left, sink) {
+        match write_piece(alloc, &mut left, &mut piece, sink) {
             Ok(()) => {}
             Err(error) => return Err(error),
         }
@@ -46,14 +47,19 @@ fn write_text<S: Sink>(alloc: Global, text: Output, sink: &mut S) -> Result<(), 
     Ok(())
 }
 
-/// Makes the next piece of a text and pushes it.
-fn write_piece<S: Sink>(alloc: Global, text: &mut Output, sink: &mut S) -> Result<(), WriteError>
+/// Makes the next piece of a text, in the room of the last one, and pushes it.
+fn write_piece<S: Sink>(
+    alloc: Global,
+    text: &mut Output,
+    piece: &mut List<u8>,
+    sink: &mut S,
+) -> Result<(), WriteError>
     requires { 0 < length text.old }
     ensures writes { WritesPiece (Rose (S.faults sink.old) (S.faults sink.new)) result (S.taken sink.old) (S.taken sink.new) text.old text.new }
     ensures later { S.faults sink.old ≤ S.faults sink.new }
 {
-    match text.next(alloc) {
-        Ok(piece) => match push_all(sink, piece.as_slice()) {
+    match text.next(alloc, piece) {
+        Ok(()) => match push_all(sink, piece.as_slice()) {
             Ok(()) => Ok(()),
             Err(Failed) => Err(WriteError::Failed),
         },

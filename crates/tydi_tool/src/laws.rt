@@ -1,10 +1,13 @@
 ghost use Rattle.tydi_tool.specs.Causes.{
+  CountNotMultipleCause,
   EachIsOfARow,
   ExactlyWhere,
   LexerCause,
   NameClashCause,
+  NoCarrierCause,
   NoFileCause,
   NoPortCause,
+  NotFinishedCause,
   NotUtf8Cause,
   OffenceCause,
   OutputTooLongCause,
@@ -16,6 +19,7 @@ ghost use Rattle.tydi_tool.specs.Causes.{
   UnfinishedCause,
 };
 ghost use Rattle.tydi_tool.specs.Causes as rows;
+ghost use Rattle.tydi_tool.specs.DriveLaw.{AcceptedPortsAreDriven, WrittenTracesAreDriven};
 ghost use Rattle.tydi_tool.specs.Laws.{OneAnswer, SomeAnswer};
 
 /// The laws of answers: to given words and files there is an answer, and one.
@@ -35,10 +39,21 @@ pub fn causes_are_told()
     ensures resolver { ExactlyWhere rows.ResolverFault ResolverCause }
     ensures no_port { ExactlyWhere rows.NoPort NoPortCause }
     ensures name_clash { ExactlyWhere rows.NameClash NameClashCause }
-    ensures trace_text { ExactlyWhere rows.TextFault TextFaultCause }
+    ensures no_carrier { ExactlyWhere rows.NoCarrier NoCarrierCause }
+    ensures file_text { ExactlyWhere rows.TextFault TextFaultCause }
+    ensures count_not_multiple { ExactlyWhere rows.CountNotMultiple CountNotMultipleCause }
+    ensures not_finished { ExactlyWhere rows.NotFinished NotFinishedCause }
     ensures output_too_long { ExactlyWhere rows.OutputTooLong OutputTooLongCause }
     ensures offence { ExactlyWhere rows.AnOffence OffenceCause }
     ensures unfinished { ExactlyWhere rows.AnUnfinished UnfinishedCause }
     ensures text { ExactlyWhere rows.AText TextCause }
     ensures each { EachIsOfARow }
+{}
+
+/// The law of `drive`. Where it accepts a project, a port, a value and a plan, it writes the trace of the planned transfers on each stream,
+/// which breaks no rule, ends whole on each stream and carries the value; and it writes no other text. The premises are those of the files
+/// alone.
+pub fn drives_are_legal()
+    ensures accepted { AcceptedPortsAreDriven }
+    ensures written { WrittenTracesAreDriven }
 {}

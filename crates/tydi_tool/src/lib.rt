@@ -5,12 +5,16 @@
 
 mod answer;
 mod asking;
+mod benches;
 mod commands;
 mod delivery;
+mod drive;
+mod driving;
 mod ending;
 mod gather;
 mod laws;
 mod loading;
+mod making;
 mod output;
 mod ports;
 mod projects;
@@ -18,13 +22,16 @@ mod reader;
 mod refusal;
 mod reports;
 mod running;
+mod sim;
+mod source;
 mod status;
+mod texts;
 mod traces;
 mod trees;
 mod words;
 
 pub use answer::{Answer, Reply};
-pub use laws::{answers_are_one, causes_are_told};
+pub use laws::{answers_are_one, causes_are_told, drives_are_legal};
 pub use output::Output;
 pub use running::run;
 pub use status::Status;

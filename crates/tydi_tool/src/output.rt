@@ -1,31 +1,35 @@
-ghost use Rattle.std.specs.Prelude.{◌≡◌, ◌<◌, ◌++◌, length, IfOk};
+ghost use Rattle.std.specs.Prelude.{◌≡◌, ◌<◌, ◌-◌, ◌++◌, length, OnOk};
+ghost use Rattle.bench_run.specs.TextLeft as benches;
+ghost use Rattle.port_drive.specs.PortText.{text_left};
 
+use crate::making::make_piece;
+use crate::source::Source;
+use bench_run::BenchRows;
+use handshake::PortRun;
+use scheduler::Planner;
 use std::alloc::Global;
 use std::marker::Model;
-use std::mem;
+use trace_pieces::TracePieces;
 use tydi_base::{List, Memory};
 
 /// A text for out, which is made piece by piece as it is written. Contracts see what is left of it.
-#[derive(Debug, Drop)]
+#[derive(Drop)]
 pub struct Output {
     source: Source,
-}
-
-/// Where the pieces come from.
-#[derive(Debug, Drop)]
-enum Source {
-    /// One piece, which is there.
-    Whole(List<u8>),
+    /// How many bytes are left.
+    left: u64,
 }
 
 impl Model for Output {
-    ghost use Rattle.std.specs.Prelude.{List, ℕ};
+    ghost use Rattle.std.specs.Prelude.{◌≡◌, List, length, ℕ};
 
     ghost Value = { List ℕ };
 
     ghost use Rattle.tydi_tool.specs.Output.{text_of};
 
     ghost view = { λ output. text_of output.source };
+
+    ghost invariant = { λ output. output.left ≡ length (text_of output.source) };
 }
 
 impl Output {
@@ -33,8 +37,32 @@ impl Output {
     pub(crate) fn whole(text: List<u8>) -> Output
         ensures { result ≡ text }
     {
+        let left = text.len() as u64;
         Output {
             source: Source::Whole(text),
+            left,
+        }
+    }
+
+    /// The text of the trace of a port, which has so many bytes.
+    pub(crate) fn rows(pieces: TracePieces<PortRun<Planner>>, left: u64) -> Output
+        requires { left ≡ length (text_left pieces) }
+        ensures { result ≡ text_left pieces }
+    {
+        Output {
+            source: Source::Rows(pieces),
+            left,
+        }
+    }
+
+    /// The text of the trace of a bench, which has so many bytes.
+    pub(crate) fn cycles(pieces: TracePieces<BenchRows>, left: u64) -> Output
+        requires { left ≡ length (benches.text_left pieces) }
+        ensures { result ≡ benches.text_left pieces }
+    {
+        Output {
+            source: Source::Cycles(pieces),
+            left,
         }
     }
 
@@ -42,19 +70,25 @@ impl Output {
     pub(crate) fn len(&self) -> u64
         ensures { result ≡ length self.now }
     {
-        match &self.source {
-            Source::Whole(text) => text.len() as u64,
-        }
+        self.left
     }
 
-    /// Makes the next piece of a text that is not at its end. After `Memory` nothing can be made of it any more.
-    pub(crate) fn next(&mut self, alloc: Global) -> Result<List<u8>, Memory>
+    /// Makes the next piece of a text that is not at its end, in the room of the last one. After `Memory` nothing is left of the text.
+    pub(crate) fn next(&mut self, alloc: Global, piece: &mut List<u8>) -> Result<(), Memory>
         requires { 0 < length self.old }
-        ensures made { IfOk result (λ piece. self.old ≡ piece ++ self.new) }
-        ensures some { IfOk result (λ piece. 0 < length piece) }
+        ensures made { OnOk result (self.old ≡ piece.new ++ self.new) }
+        ensures some { OnOk result (0 < length piece.new) }
     {
-        match &mut self.source {
-            Source::Whole(text) => Ok(mem::replace(text, List::new(alloc))),
+        match make_piece(alloc, &mut self.source, piece) {
+            Ok(()) => {
+                self.left -= piece.len() as u64;
+                Ok(())
+            }
+            Err(Memory) => {
+                self.source = Source::Whole(List::new(alloc));
+                self.left = 0;
+                Err(Memory)
+            }
         }
     }
 }

@@ -18,6 +18,7 @@ ghost use Rattle.tydi_tool.specs.Run.{
   IsRefusal,
   ErrFront,
   StartedAtEnd,
+  WritesTrace,
 };
 ghost use Rattle.tydi_tool.specs.declared.answer.Answer.{Answer};
 ghost use Rattle.tydi_tool.specs.declared.status.Status.TheVariants as statuses;
@@ -65,6 +66,8 @@ pub fn run<S: Store, O: Sink, E: Sink>(
     // Where the store reports its files, such an answer comes only where its cause stands in them, by a row of the table of causes.
     ensures caused { EndsInAnswer result → IfSome (S.files store.old) (λ known. IsCaused known (request_of words.now) result
         (O.taken out.old) (O.taken out.new) (E.taken err.old) (E.taken err.new)) }
+    // Where a port is driven, out has exactly the text of a trace that breaks no rule, ends whole and carries the value.
+    ensures driven { result ≡ statuses.Done → IfSome (S.files store.old) (λ known. WritesTrace known (request_of words.now) (O.taken out.old) (O.taken out.new)) }
     // Where no count of faults rose, the run ends with that answer, as Usage, or for want of memory.
     ensures complete { (Rose (S.faults store.old) (S.faults store.new) → ⊥) →
         (Rose (O.faults out.old) (O.faults out.new) → ⊥) → (Rose (E.faults err.old) (E.faults err.new) → ⊥) →

@@ -1,5 +1,5 @@
-ghost use Rattle.std.specs.Prelude.{◌≡◌, option_map};
-ghost use Rattle.tydi_tool.specs.Words.{request_of, request_from, is_word, check_request, read_request, split_request};
+ghost use Rattle.std.specs.Prelude.{◌≡◌, ◌&&◌, option_map};
+ghost use Rattle.tydi_tool.specs.Words.{request_of, request_from, is_word, check_request, read_request, split_request, drive_request, sim_request};
 
 use tydi_base::Text;
 
@@ -22,6 +22,24 @@ pub enum Command<'a> {
         /// The port, as `a::b::s.p`.
         port: &'a Text,
     },
+    /// Write the trace in which a value drives a port by a plan.
+    Drive {
+        /// The file of the project.
+        project: &'a Text,
+        /// The port, as `a::b::s.p`.
+        port: &'a Text,
+        /// The file of the value.
+        value: &'a Text,
+        /// The file of the plan.
+        plan: &'a Text,
+    },
+    /// Write the trace of a testbench by its meaning.
+    Sim {
+        /// The file of the testbench.
+        bench: &'a Text,
+        /// The file of the run.
+        run: &'a Text,
+    },
 }
 
 /// The command that the words after the program's name spell. None exactly where they spell none. It takes no memory.
@@ -35,6 +53,10 @@ pub fn words_of<'a>(words: &'a [Text]) -> Option<Command<'a>>
         read_of(rest)
     } else if command.as_str() == "split" {
         split_of(rest)
+    } else if command.as_str() == "drive" {
+        drive_of(rest)
+    } else if command.as_str() == "sim" {
+        sim_of(rest)
     } else {
         None
     }
@@ -67,6 +89,37 @@ fn split_of<'a>(words: &'a [Text]) -> Option<Command<'a>>
         }
         _ => None,
     }
+}
+
+fn drive_of<'a>(words: &'a [Text]) -> Option<Command<'a>>
+    ensures { option_map request_from result ≡ drive_request words.now }
+{
+    match words {
+        [project, port, value, plan] if are_words(project, port) && are_words(value, plan) => {
+            Some(Command::Drive {
+                project,
+                port,
+                value,
+                plan,
+            })
+        }
+        _ => None,
+    }
+}
+
+fn sim_of<'a>(words: &'a [Text]) -> Option<Command<'a>>
+    ensures { option_map request_from result ≡ sim_request words.now }
+{
+    match words {
+        [bench, run] if is_word(bench) && is_word(run) => Some(Command::Sim { bench, run }),
+        _ => None,
+    }
+}
+
+fn are_words(one: &Text, other: &Text) -> bool
+    ensures { result ≡ (is_word one.now && is_word other.now) }
+{
+    is_word(one) && is_word(other)
 }
 
 /// A word that is not empty and does not begin with `-`.

@@ -14,3 +14,19 @@ returns-in-Split g c = record {
       (Rose (g.S.Store.faults c.args.store.now) (g.S.Store.faults c.split.new.store)) (ask_of (request_from command)) c.split.result)
       (sym c.in-Split.is) c.split.ensures.decided;
 }
+
+pub returns-in-Drive : goal.returns-in-Drive
+returns-in-Drive g c = record {
+  decided = subst (λ (command : Command). Decides
+      (g.S.Store.files c.args.store.now) (g.S.Store.started c.args.store.now) (g.S.Store.started c.drive.new.store)
+      (Rose (g.S.Store.faults c.args.store.now) (g.S.Store.faults c.drive.new.store)) (ask_of (request_from command)) c.drive.result)
+      (sym c.in-Drive.is) c.drive.ensures.decided;
+}
+
+pub returns-in-Sim : goal.returns-in-Sim
+returns-in-Sim g c = record {
+  decided = subst (λ (command : Command). Decides
+      (g.S.Store.files c.args.store.now) (g.S.Store.started c.args.store.now) (g.S.Store.started c.sim.new.store)
+      (Rose (g.S.Store.faults c.args.store.now) (g.S.Store.faults c.sim.new.store)) (ask_of (request_from command)) c.sim.result)
+      (sym c.in-Sim.is) c.sim.ensures.decided;
+}

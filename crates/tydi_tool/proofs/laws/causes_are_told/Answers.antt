@@ -26,8 +26,17 @@ returns-clause-no_port c = exactly rows.NoPort
 pub returns-clause-name_clash : goal.returns-clause-name_clash
 returns-clause-name_clash c = exactly rows.NameClash
 
-pub returns-clause-trace_text : goal.returns-clause-trace_text
-returns-clause-trace_text c = exactly rows.TextFault
+pub returns-clause-no_carrier : goal.returns-clause-no_carrier
+returns-clause-no_carrier c = exactly rows.NoCarrier
+
+pub returns-clause-file_text : goal.returns-clause-file_text
+returns-clause-file_text c = exactly rows.TextFault
+
+pub returns-clause-count_not_multiple : goal.returns-clause-count_not_multiple
+returns-clause-count_not_multiple c = exactly rows.CountNotMultiple
+
+pub returns-clause-not_finished : goal.returns-clause-not_finished
+returns-clause-not_finished c = exactly rows.NotFinished
 
 pub returns-clause-output_too_long : goal.returns-clause-output_too_long
 returns-clause-output_too_long c = exactly rows.OutputTooLong

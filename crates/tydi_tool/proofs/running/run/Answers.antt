@@ -1,4 +1,4 @@
-use Rattle.tydi_tool.proofs.RunLemmas.{IsAnswered-run, IsCaused-answered, IsComplete-run, ReportsRead-run, OutFront-run, OutPart-run, LeavesOut-run, Refusal-run, ErrFront-run, LeavesErr-run, StartedAtEnd-run}
+use Rattle.tydi_tool.proofs.RunLemmas.{is_done, IsAnswered-run, IsCaused-answered, IsComplete-run, ReportsRead-run, OutFront-run, OutPart-run, LeavesOut-run, Refusal-run, ErrFront-run, LeavesErr-run, StartedAtEnd-run, WritesTrace-answered, usage-run, read-run, write-run, write_line-run, memory-run}
 use Rattle.tydi_tool.proofs.running.run.Goals as goal
 
 pub returns-clause-read_fault_line : goal.returns-clause-read_fault_line
@@ -33,3 +33,21 @@ returns-clause-err_left g c = LeavesErr-run _ _ _ _ _ _ _ _ _ _ _ _ c.run_words.
 
 pub returns-clause-started : goal.returns-clause-started
 returns-clause-started g c = StartedAtEnd-run _ _ _ _ _ _ _ _ _ _ _ _ c.run_words.ensures
+
+pub returns-clause-usage_line : goal.returns-clause-usage_line
+returns-clause-usage_line g c = usage-run _ _ _ _ _ _ _ _ _ _ _ _ c.run_words.ensures
+
+pub returns-clause-read_fault : goal.returns-clause-read_fault
+returns-clause-read_fault g c = read-run _ _ _ _ _ _ _ _ _ _ _ _ c.run_words.ensures
+
+pub returns-clause-write_fault : goal.returns-clause-write_fault
+returns-clause-write_fault g c = write-run _ _ _ _ _ _ _ _ _ _ _ _ c.run_words.ensures
+
+pub returns-clause-write_fault_line : goal.returns-clause-write_fault_line
+returns-clause-write_fault_line g c = write_line-run _ _ _ _ _ _ _ _ _ _ _ _ c.run_words.ensures
+
+pub returns-clause-memory_line : goal.returns-clause-memory_line
+returns-clause-memory_line g c = memory-run _ _ _ _ _ _ _ _ _ _ _ _ c.run_words.ensures
+
+pub returns-clause-driven : goal.returns-clause-driven
+returns-clause-driven g c = λ done. WritesTrace-answered _ _ _ _ _ _ _ (IsAnswered-run _ _ _ _ _ _ _ _ _ _ _ _ c.run_words.ensures (is_done _ done)) done

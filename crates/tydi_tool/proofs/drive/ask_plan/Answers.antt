@@ -1,0 +1,10 @@
+use Rattle.type_split.specs.Streams.{plain_split}
+use Rattle.tydi_io.specs.Faults.{Rose}
+use Rattle.tydi_tool.specs.Words.{text_file}
+use Rattle.tydi_tool.proofs.TextLemmas.{asked-plan}
+use Rattle.tydi_tool.proofs.drive.ask_plan.Goals as goal
+
+pub returns-clause-fits : goal.returns-clause-fits
+returns-clause-fits g c =
+    asked-plan (g.S.Store.files c.args.store.now) (text_file c.args.plan.now) c.args.plan.now (plain_split c.args.split.now) (g.S.Store.started c.args.store.now) (g.S.Store.started c.ask_text.new.store)
+    (Rose (g.S.Store.faults c.args.store.now) (g.S.Store.faults c.ask_text.new.store)) c.ask_text.result c.ask_text.ensures.asked

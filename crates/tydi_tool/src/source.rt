@@ -1,0 +1,16 @@
+use bench_run::BenchRows;
+use handshake::PortRun;
+use scheduler::Planner;
+use trace_pieces::TracePieces;
+use tydi_base::List;
+
+/// Where the pieces of a text come from.
+#[derive(Drop)]
+pub(crate) enum Source {
+    /// One piece, which is there.
+    Whole(List<u8>),
+    /// The trace of a port, whose rows are made one after another.
+    Rows(TracePieces<PortRun<Planner>>),
+    /// The trace of a bench, whose rows are made one after another.
+    Cycles(TracePieces<BenchRows>),
+}
