@@ -2,8 +2,9 @@
 //! handed in, and the text of its result. A call that should not come to this ends in `Memory`, which no row expects.
 
 use crate::{
-    checkers, fractions, levels, nests, plan_texts, projects, readings, splits, streams, tokens,
-    traces, traces_written, value_texts, values, views, words,
+    architectures, checkers, decodes, fractions, levels, links, nests, plan_texts, projects,
+    readings, splits, streams, tokens, traces, traces_written, value_texts, values, vhdl_runs,
+    vhdl_texts, views, words,
 };
 use std::alloc::Global;
 use std::process::Abort;
@@ -37,15 +38,23 @@ pub(crate) enum Call {
     Tokens,
     Counted,
     Project,
+    Nets,
+    Sink,
     Split,
     Unpacked,
     Fitting,
     ValueText,
+    RawText,
+    ManyMembers,
     Viewed,
+    Decoded,
     Level,
     WideNumber,
     Binary,
     Plan,
+    Architectures,
+    Bench,
+    Run,
 }
 
 /// The first word of a text, and what comes after the space.
@@ -117,14 +126,22 @@ fn tell(
         Call::Tokens => tokens::tokens(alloc, first, out),
         Call::Counted => tokens::counted(alloc, first, second, out),
         Call::Project => projects::project(alloc, first, out),
+        Call::Architectures => architectures::architectures(alloc, first, out),
+        Call::Nets => links::nets(alloc, first, out),
+        Call::Sink => links::sink(alloc, first, second, out),
         Call::Unpacked => values::unpacked(alloc, first, second, out),
         Call::Fitting => values::fitting(alloc, first, second, out),
         Call::Viewed => views::viewed(alloc, first, second, out),
+        Call::Decoded => decodes::decoded(alloc, first, second, out),
         Call::ValueText => value_texts::value_text(alloc, first, second, out),
+        Call::RawText => value_texts::raw_text(alloc, first, second, out),
+        Call::ManyMembers => value_texts::many_members(alloc, first, second, out),
         Call::Level => levels::level(alloc, first, second, out),
         Call::WideNumber => levels::wide_numbers(first, out),
         Call::Binary => levels::binary(alloc, first, second, out),
         Call::Split => splits::split(alloc, first, second, out),
         Call::Plan => plan_texts::plan(alloc, first, second, out),
+        Call::Bench => vhdl_texts::bench_text(alloc, first, second, out),
+        Call::Run => vhdl_runs::run_text(alloc, first, out),
     }
 }

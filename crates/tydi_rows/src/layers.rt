@@ -1,24 +1,43 @@
 //! The tests of the layers below the tool. No constant holds all tables: the check of one that did ran out of steps.
 
 use crate::calls::{Call, check_calls};
+use crate::vhdl_tables::BENCH;
+use crate::vhdl_texts::check_front;
 use crate::{
-    checkers, fractions, levels, nests, plan_tables, projects, readings, splits, streams, tokens,
-    traces, traces_written, value_texts, values, views, words,
+    architectures, checkers, decodes, fractions, levels, link_tables, nests, plan_tables, projects,
+    readings, splits, streams, tokens, traces, traces_written, value_texts, values, vhdl_tables,
+    views, words,
 };
+use bench_run::traces_of_benches;
 use complexity_rules::{
     items_are_nested, levels_are_kept, pauses_are_as_tested, table_is_monotone,
     table_says_what_binds,
 };
+use link_check::{
+    carried_traces_keep_their_laws, chains_end_in_one_sink, compatible_ports_carry,
+    projects_have_one_answer, types_without_difference_are_compatible,
+};
 use physical_stream::shown_at_greater_levels;
+use port_drive::{driven_ports_are_legal, driven_texts_are_traces, finished_runs_drive};
 use signal_layout::{Signal, SignalDefault, default_of};
+use std::test::Fail;
 use til_lexer::{spelled_tokens_are_read, tokens_are_of_the_text, tokens_have_their_form};
 use til_parser::{trees_are_apart, trees_are_read_as_printed};
+use trace_decode::{driven_values_are_carried, offences_fall_with_tags, traces_have_one_outcome};
+use trace_pieces::rows_keep_their_laws;
 use tydi_base::{
     binary_is_read_as_spelled, decimals_are_read_as_spelled, hexadecimal_is_read_as_spelled,
     index_width_is_least, levels_are_ordered, levels_are_read_as_spelled,
     paths_are_read_as_spelled, pieces_are_parts,
 };
-use value_views::{nodes_have_series, streams_have_views, views_carry_their_value};
+use tydi_tool::{answers_are_one, causes_are_told, drives_are_legal};
+use value_text::{values_are_read_as_printed, values_that_are_read_fit};
+use value_views::{
+    agreeing_views_have_values, nodes_have_series, streams_have_views, views_carry_their_value,
+    views_determine_values, views_of_values_agree,
+};
+use vhdl_meaning::{benches_are_confluent, runs_fit};
+use vhdl_text::benches_are_read_as_printed;
 
 #[test]
 fn texts_and_numbers(rt: HostRuntime) {
@@ -71,10 +90,27 @@ fn tokens_and_projects(rt: HostRuntime) {
 }
 
 #[test]
+fn architectures_of_projects(rt: HostRuntime) {
+    check_calls(&rt, &Call::Architectures, architectures::ARCHITECTURES);
+}
+
+#[test]
+fn links_of_projects(rt: HostRuntime) {
+    check_calls(&rt, &Call::Nets, link_tables::DESIGNS);
+    check_calls(&rt, &Call::Nets, link_tables::TYPES);
+    check_calls(&rt, &Call::Sink, link_tables::SINKS);
+}
+
+#[test]
 fn values_of_types(rt: HostRuntime) {
     check_calls(&rt, &Call::Unpacked, values::UNPACKED);
     check_calls(&rt, &Call::Fitting, values::FITTING);
     check_calls(&rt, &Call::Viewed, views::VIEWS);
+}
+
+#[test]
+fn values_of_traces(rt: HostRuntime) {
+    check_calls(&rt, &Call::Decoded, decodes::DECODED);
 }
 
 #[test]
@@ -90,6 +126,36 @@ fn values_as_texts(rt: HostRuntime) {
     check_calls(&rt, &Call::ValueText, value_texts::READ);
     check_calls(&rt, &Call::ValueText, value_texts::UNFIT);
     check_calls(&rt, &Call::ValueText, value_texts::FORMLESS);
+    check_calls(&rt, &Call::RawText, value_texts::RAW);
+    check_calls(&rt, &Call::ManyMembers, value_texts::MANY);
+}
+
+/// Built without proof it takes more than a minute: `rt try --test --seconds 300`.
+#[test]
+fn a_leaf_too_many(rt: HostRuntime) {
+    check_calls(&rt, &Call::ManyMembers, value_texts::TOO_MANY);
+}
+
+#[test]
+fn benches_and_runs(rt: HostRuntime) {
+    check_calls(&rt, &Call::Bench, vhdl_tables::HEADS);
+    check_calls(&rt, &Call::Bench, vhdl_tables::STATEMENTS);
+    check_calls(&rt, &Call::Run, vhdl_tables::RUN_ERRORS);
+    check_calls(&rt, &Call::Run, vhdl_tables::RUNS);
+    check_calls(&rt, &Call::Run, vhdl_tables::ORDERS);
+}
+
+/// A bench that is cut has its error at the line that is cut, or at its end.
+#[test]
+fn benches_that_are_cut(rt: HostRuntime) -> Result<(), Fail> {
+    let mut line = 0;
+    for count in 0..BENCH.len() {
+        check_front(&rt, count, line)?;
+        if BENCH.as_bytes()[count] == b'\n' {
+            line = count + 1;
+        }
+    }
+    Ok(())
 }
 
 /// The defaults of signals that a stream lacks. How wide each is, a table of the examples says.
@@ -125,4 +191,28 @@ fn laws() {
     nodes_have_series();
     streams_have_views();
     views_carry_their_value();
+    views_of_values_agree();
+    agreeing_views_have_values();
+    views_determine_values();
+    driven_ports_are_legal();
+    driven_texts_are_traces();
+    finished_runs_drive();
+    rows_keep_their_laws();
+    traces_have_one_outcome();
+    driven_values_are_carried();
+    offences_fall_with_tags();
+    answers_are_one();
+    causes_are_told();
+    drives_are_legal();
+    benches_are_read_as_printed();
+    benches_are_confluent();
+    runs_fit();
+    traces_of_benches();
+    types_without_difference_are_compatible();
+    projects_have_one_answer();
+    chains_end_in_one_sink();
+    carried_traces_keep_their_laws();
+    compatible_ports_carry();
+    values_that_are_read_fit();
+    values_are_read_as_printed();
 }

@@ -4,9 +4,17 @@
 #![tactic(auto)]
 
 #[cfg(test)]
+mod architectures;
+#[cfg(test)]
 mod calls;
 #[cfg(test)]
 mod checkers;
+#[cfg(test)]
+mod decodes;
+#[cfg(test)]
+mod drive_tables;
+#[cfg(test)]
+mod drives;
 #[cfg(test)]
 mod edge;
 #[cfg(test)]
@@ -15,6 +23,10 @@ mod fractions;
 mod layers;
 #[cfg(test)]
 mod levels;
+#[cfg(test)]
+mod link_tables;
+#[cfg(test)]
+mod links;
 #[cfg(test)]
 mod nests;
 #[cfg(test)]
@@ -40,6 +52,8 @@ mod runs;
 #[cfg(test)]
 mod schedules;
 #[cfg(test)]
+mod sim_tables;
+#[cfg(test)]
 mod split_tables;
 #[cfg(test)]
 mod splits;
@@ -63,6 +77,12 @@ mod types;
 mod value_texts;
 #[cfg(test)]
 mod values;
+#[cfg(test)]
+mod vhdl_runs;
+#[cfg(test)]
+mod vhdl_tables;
+#[cfg(test)]
+mod vhdl_texts;
 #[cfg(test)]
 mod views;
 #[cfg(test)]

@@ -5,7 +5,7 @@ use std::alloc::Global;
 use til_resolve::{Impl, Instance, Link, LinkEnd, Project, Streamlet};
 use tydi_base::{Colons, List, Memory, emit};
 
-const VIDEO: &str = "namespace video {
+pub(crate) const VIDEO: &str = "namespace video {
   type rgb = Group(r: Bits(8), g: Bits(8), b: Bits(8));
   type frames = Stream(data: rgb, throughput: 2.0,
     dimensionality: 2, complexity: 4);

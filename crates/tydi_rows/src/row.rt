@@ -1,13 +1,14 @@
 //! The rows of a table. A line of it begins with a mark and a space: `#` says what a row shows, `$` has the words, `<` a line of
 //! the file, `~` a part of it that has no LF, `+ 9 text` nine such parts, `>` a line of out, `|` a part that has no LF, and `!` a line
-//! of err.
+//! of err. A line `@ name` ends a file of this name; the file that no such line ends is named `t`.
 //! `-` has what fails: `store 2` the call of the store of this number, `out 2` the push to out; `most 4` is the most bytes that a
 //! call gives or takes. `=` has the status, and ends the row; `again` is Done, where the text of out is then the file of the same
 //! words, which give it again.
 
 use crate::calls::{byte, cut, number, small};
-use crate::running::{Faults, Outcome, run_on};
+use crate::running::{Faults, Outcome, run_on, run_over};
 use std::alloc::Global;
+use std::mem;
 use std::process::Abort;
 use tydi_base::{List, Memory, Text};
 
@@ -22,6 +23,7 @@ pub(crate) const NO_FAULTS: Faults<'static> = Faults {
 #[derive(Drop)]
 struct Row {
     words: List<Text>,
+    files: List<(Text, List<u8>)>,
     file: List<u8>,
     out: List<u8>,
     err: List<u8>,
@@ -35,6 +37,7 @@ impl Row {
     fn new(alloc: Global, most: u16) -> Row {
         Row {
             words: List::new(alloc),
+            files: List::new(alloc),
             file: List::new(alloc),
             out: List::new(alloc),
             err: List::new(alloc),
@@ -48,6 +51,8 @@ impl Row {
     fn take(&mut self, alloc: Global, mark: &str, text: &str) -> Result<(), Memory> {
         if mark == "$" {
             self.words = words_of(alloc, text)?;
+        } else if mark == "@" {
+            self.end_file(alloc, text)?;
         } else if mark == "<" {
             push_line(text, &mut self.file)?;
         } else if mark == "~" {
@@ -66,6 +71,12 @@ impl Row {
         Ok(())
     }
 
+    /// Ends a file of this name.
+    fn end_file(&mut self, alloc: Global, name: &str) -> Result<(), Memory> {
+        let file = mem::replace(&mut self.file, List::new(alloc));
+        self.files.push((Text::new(alloc, name)?, file))
+    }
+
     /// Takes what fails.
     fn take_fault(&mut self, text: &str) -> Result<(), Memory> {
         let (name, digits) = cut(text);
@@ -80,45 +91,57 @@ impl Row {
         Ok(())
     }
 
-    /// Runs the row on this file, and compares what came of it.
+    /// The calls that fail.
+    fn faults(&self) -> Faults<'_> {
+        Faults {
+            store: self.failing_reads.as_slice(),
+            out: self.failing_writes.as_slice(),
+            err: &[],
+            most: self.most,
+        }
+    }
+
+    /// Runs the row on this file alone, which ends as done, and compares what came of it.
     fn check_on(
         &self,
         rt: &(impl Abort + AllocGlobal),
         number: usize,
         file: &[u8],
-        status: u8,
     ) -> Result<(), Memory> {
         let file = List::from_slice(rt.alloc(), file)?;
-        let faults = Faults {
-            store: self.failing_reads.as_slice(),
-            out: self.failing_writes.as_slice(),
-            err: &[],
-            most: self.most,
-        };
-        let outcome = run_on(rt.alloc(), self.words.as_slice(), file, &faults)?;
-        expect(
-            rt,
-            number,
-            &outcome,
-            status,
-            self.out.as_slice(),
-            self.err.as_slice(),
-        );
+        let outcome = run_on(rt.alloc(), self.words.as_slice(), file, &self.faults())?;
+        self.expect(rt, number, &outcome, 0);
         Ok(())
     }
 
-    /// Runs the row, and compares what came of it.
+    /// Runs the row on its files, and compares what came of it.
     fn check(
-        &self,
+        &mut self,
         rt: &(impl Abort + AllocGlobal),
         number: usize,
         status: &str,
     ) -> Result<(), Memory> {
         if status == "again" {
-            self.check_on(rt, number, self.file.as_slice(), 0)?;
-            return self.check_on(rt, number, self.out.as_slice(), 0);
+            self.check_on(rt, number, self.file.as_slice())?;
+            return self.check_on(rt, number, self.out.as_slice());
         }
-        self.check_on(rt, number, self.file.as_slice(), byte(status))
+        self.end_file(rt.alloc(), "t")?;
+        let files = mem::replace(&mut self.files, List::new(rt.alloc()));
+        let outcome = run_over(rt.alloc(), self.words.as_slice(), files, &self.faults())?;
+        self.expect(rt, number, &outcome, byte(status));
+        Ok(())
+    }
+
+    /// Compares what came of the run of this number with what the row has.
+    fn expect(&self, rt: &impl Abort, number: usize, outcome: &Outcome, status: u8) {
+        expect(
+            rt,
+            number,
+            outcome,
+            status,
+            self.out.as_slice(),
+            self.err.as_slice(),
+        );
     }
 }
 

@@ -30,9 +30,19 @@ pub(crate) fn run_on(
     file: List<u8>,
     faults: &Faults<'_>,
 ) -> Result<Outcome, Memory> {
-    let most = usize::from(faults.most) + 1;
     let mut files = List::new(alloc);
     files.push((Text::new(alloc, "t")?, file))?;
+    run_over(alloc, words, files, faults)
+}
+
+/// Runs the tool on these words, over a store with these files, and two sinks with room for 4,096 bytes.
+pub(crate) fn run_over(
+    alloc: Global,
+    words: &[Text],
+    files: List<(Text, List<u8>)>,
+    faults: &Faults<'_>,
+) -> Result<Outcome, Memory> {
+    let most = usize::from(faults.most) + 1;
     let failing = List::from_slice(alloc, faults.store)?;
     let mut store = MemStore::new(alloc, files, most, failing)?;
     let mut out = sink(alloc, most, faults.out)?;

@@ -1,11 +1,15 @@
 //! Types by their text, as part of a project. A table of the examples has their errors and widths.
 
-use logical_types::LType;
+ghost use Rattle.std.specs.Prelude.{IfOk};
+ghost use Rattle.type_split.specs.Streams.{IsPortSplit, plain_split};
+
+use logical_types::{LType, check, number_of_nodes};
 use std::alloc::Global;
 use til_lexer::lex;
 use til_parser::{Ast, parse};
 use til_resolve::{Project, resolve};
 use tydi_base::{List, Memory, emit};
+use type_split::{Split, number_of_streams, split_type};
 
 // A project with one port, whose elements are Groups of a part of this type.
 fn text_around(alloc: Global, ltype: &str) -> Result<List<u8>, Memory> {
@@ -34,7 +38,8 @@ pub(crate) fn project_of(alloc: Global, text: &str) -> Result<Project, Memory> {
     }
 }
 
-fn tree_of(alloc: Global, text: &str) -> Result<Ast, Memory> {
+/// The tree of a text.
+pub(crate) fn tree_of(alloc: Global, text: &str) -> Result<Ast, Memory> {
     if text.len() > 1_000_000 {
         return Err(Memory);
     }
@@ -61,5 +66,24 @@ pub(crate) fn type_in(project: &Project) -> Result<&LType, Memory> {
     match parts.as_slice().first() {
         Some(part) => Ok(&part.ltype),
         None => Err(Memory),
+    }
+}
+
+/// The split of a port of this type. Each error is reported as `Memory`, which no row expects.
+pub(crate) fn split_in(alloc: Global, ltype: &LType) -> Result<Split<'_>, Memory>
+    ensures { IfOk result (λ split. IsPortSplit (plain_split split)) }
+{
+    let LType::Stream(stream) = ltype else {
+        return Err(Memory);
+    };
+    if check(ltype).is_err() || number_of_streams(ltype) > 65536 {
+        return Err(Memory);
+    }
+    if number_of_nodes(ltype) > 65536 {
+        return Err(Memory);
+    }
+    match split_type(alloc, stream.get()) {
+        Ok(split) => Ok(split),
+        Err(_) => Err(Memory),
     }
 }

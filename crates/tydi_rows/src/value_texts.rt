@@ -1,10 +1,12 @@
 //! Values as texts, by tables found by hand.
 
-use crate::types::{project_around, type_in};
-use logical_types::{LType, check, number_of_nodes};
+use crate::calls::{cut, number};
+use crate::types::{project_around, split_in, type_in};
+use logical_types::LType;
+use logical_value::PortValue;
 use std::alloc::Global;
 use tydi_base::{Bits, List, Memory, Place, emit};
-use type_split::{Split, number_of_streams, split_type};
+use type_split::Split;
 use value_text::{ValueFault, print, read};
 
 // A Stream of bytes.
@@ -231,6 +233,36 @@ pub(crate) const FORMLESS: &[(&str, &str, &str)] = &[
     ),
 ];
 
+/// A port's type, and a text in which `#` stands for a comment of all bytes but LF, most of which are no UTF-8: the canonical text of the
+/// value that it is, or why it is none.
+pub(crate) const RAW: &[(&str, &str, &str)] = &[
+    (BYTES, "root - = 1# 2;#", "root - = 1 2;\n"),
+    (BYTES, "#root#-#=#1#;", "root - = 1;\n"),
+    (
+        FLATTENED,
+        "root - = [{a#: 1,# b:#[#2 ,#3]}];",
+        "root - = [{a: 1, b: [2, 3]}];\n",
+    ),
+    (BYTES, "root - =# 256;", "OutOfRange 2:2"),
+    (BYTES, "root - =##a(1);", "WrongShape 3:1"),
+    (BYTES, "root - = 1#x;", "Syntax 2:2"),
+];
+
+/// A port's type, and the members of its root: how many thousands of one text, that text, and the end of the line. How many are read and
+/// how long the canonical text is, or why there is no value.
+pub(crate) const MANY: &[(&str, &str, &str)] = &[
+    (BYTES, "3 1 ;", "3000 6010"),
+    (BYTES, "3 1 ]", "Syntax 1:6010"),
+    (EMPTY, "2 {} ;", "2000 6010"),
+];
+
+/// A leaf behind a million: it is reported before the shape of what has it.
+pub(crate) const TOO_MANY: &[(&str, &str, &str)] = &[(
+    BYTES,
+    "1000 1 a(256);",
+    "TooManyLeaves 1:2000012",
+)];
+
 fn fault_text(fault: &ValueFault, out: &mut List<u8>) -> Result<(), Memory> {
     match fault {
         ValueFault::Syntax(place) => write_fault("Syntax", place, out),
@@ -265,10 +297,20 @@ fn users_of(alloc: Global, split: &Split<'_>) -> Result<List<List<Bits>>, Memory
     Ok(users)
 }
 
+// How many members the first root has, and how long the text of the value is.
+fn write_size(value: &PortValue, text: &[u8], out: &mut List<u8>) -> Result<(), Memory> {
+    match value.roots.as_slice() {
+        [first, ..] => emit!(out; first.len(), " ", text.len()),
+        [] => Err(Memory),
+    }
+}
+
+// The value that a text is, or why it is none.
 fn write_read(
     alloc: Global,
     split: &Split<'_>,
     text: &[u8],
+    is_sized: bool,
     out: &mut List<u8>,
 ) -> Result<(), Memory> {
     if text.len() > 100_000_000 {
@@ -278,7 +320,11 @@ fn write_read(
         Ok(value) => {
             let users = users_of(alloc, split)?;
             let text = print(alloc, &value, split, users.as_slice())?;
-            out.extend_from_slice(text.as_slice())
+            if is_sized {
+                write_size(&value, text.as_slice(), out)
+            } else {
+                out.extend_from_slice(text.as_slice())
+            }
         }
         Err(fault) => fault_text(&fault, out),
     }
@@ -288,21 +334,11 @@ fn write_value(
     alloc: Global,
     ltype: &LType,
     text: &[u8],
+    is_sized: bool,
     out: &mut List<u8>,
 ) -> Result<(), Memory> {
-    let LType::Stream(stream) = ltype else {
-        return Err(Memory);
-    };
-    if check(ltype).is_err() || number_of_streams(ltype) > 65536 {
-        return Err(Memory);
-    }
-    if number_of_nodes(ltype) > 65536 {
-        return Err(Memory);
-    }
-    match split_type(alloc, stream.get()) {
-        Ok(split) => write_read(alloc, &split, text, out),
-        Err(_) => Err(Memory),
-    }
+    let split = split_in(alloc, ltype)?;
+    write_read(alloc, &split, text, is_sized, out)
 }
 
 /// The canonical text of the value of a port's type that a text is, or why it is none.
@@ -313,5 +349,58 @@ pub(crate) fn value_text(
     out: &mut List<u8>,
 ) -> Result<(), Memory> {
     let project = project_around(alloc, spelled)?;
-    write_value(alloc, type_in(&project)?, text.as_bytes(), out)
+    write_value(alloc, type_in(&project)?, text.as_bytes(), false, out)
+}
+
+// A comment of all bytes but LF, and LF.
+fn push_comment(text: &mut List<u8>) -> Result<(), Memory> {
+    emit!(text; "//")?;
+    'bytes: for byte in 0..=255u8 {
+        if byte != b'\n' {
+            text.push(byte)?;
+        }
+    }
+    text.push(b'\n')
+}
+
+/// The same of a text in which `#` stands for a comment of all bytes but LF.
+pub(crate) fn raw_text(
+    alloc: Global,
+    spelled: &str,
+    marked: &str,
+    out: &mut List<u8>,
+) -> Result<(), Memory> {
+    let mut text = List::new(alloc);
+    'bytes: for byte in marked.as_bytes() {
+        if *byte == b'#' {
+            push_comment(&mut text)?;
+        } else {
+            text.push(*byte)?;
+        }
+    }
+    let project = project_around(alloc, spelled)?;
+    write_value(alloc, type_in(&project)?, text.as_slice(), false, out)
+}
+
+/// How many members are read of a line with so many of one text, and how long the canonical text is.
+pub(crate) fn many_members(
+    alloc: Global,
+    spelled: &str,
+    members: &str,
+    out: &mut List<u8>,
+) -> Result<(), Memory> {
+    let (thousands, rest) = cut(members);
+    let (member, end) = cut(rest);
+    let mut thousand = List::new(alloc);
+    'members: for _ in 0..1000 {
+        emit!(thousand; member, " ")?;
+    }
+    let mut text = List::new(alloc);
+    emit!(text; "root - = ")?;
+    'thousands: for _ in 0..number(thousands) {
+        text.extend_from_slice(thousand.as_slice())?;
+    }
+    emit!(text; end)?;
+    let project = project_around(alloc, spelled)?;
+    write_value(alloc, type_in(&project)?, text.as_slice(), true, out)
 }

@@ -8,12 +8,11 @@ ghost use Rattle.logical_value.specs.Element.{IsElement};
 ghost use Rattle.logical_value.specs.Tree as values;
 
 use crate::calls::{byte, cut};
-use crate::types::{project_around, type_in};
+use crate::types::{project_around, split_in, type_in};
 use logical_types::*;
 use logical_value::*;
 use std::alloc::Global;
 use tydi_base::{Bits, Boxed, Hex, List, Memory, emit};
-use type_split::{number_of_streams, split_type};
 
 // A Union of a Bits of eight bits, a Bits of four and a Null.
 const THREE: &str = "Union(a: Bits(8), b: Bits(4), c: Null)";
@@ -286,16 +285,8 @@ fn write_fitting(
     value: &PortValue,
     out: &mut List<u8>,
 ) -> Result<(), Memory> {
-    let LType::Stream(stream) = ltype else {
-        return Err(Memory);
-    };
-    if check(ltype).is_err() || number_of_streams(ltype) > 65536 {
-        return Err(Memory);
-    }
-    match split_type(alloc, stream.get()) {
-        Ok(split) => emit!(out; if fits(value, &split) { "yes" } else { "no" }),
-        Err(_) => Err(Memory),
-    }
+    let split = split_in(alloc, ltype)?;
+    emit!(out; if fits(value, &split) { "yes" } else { "no" })
 }
 
 pub(crate) fn fitting(

@@ -6,13 +6,13 @@ ghost use Rattle.logical_value.specs.Tree.{plain_port};
 ghost use Rattle.type_split.specs.Streams.{IsPortSplit, plain_split};
 
 use crate::nests::write_nests;
-use crate::types::{project_around, type_in};
+use crate::types::{project_around, split_in, type_in};
 use crate::values::roots_of;
-use logical_types::{LType, check, number_of_nodes};
+use logical_types::LType;
 use logical_value::{PortValue, fits};
 use std::alloc::Global;
 use tydi_base::{List, Memory, emit};
-use type_split::{Split, number_of_streams, split_type};
+use type_split::Split;
 use value_views::view;
 
 // A Stream of bytes in lists of lists.
@@ -158,19 +158,8 @@ fn write_checked(
     value: &PortValue,
     out: &mut List<u8>,
 ) -> Result<(), Memory> {
-    let LType::Stream(stream) = ltype else {
-        return Err(Memory);
-    };
-    if check(ltype).is_err() || number_of_streams(ltype) > 65536 {
-        return Err(Memory);
-    }
-    if number_of_nodes(ltype) > 65536 {
-        return Err(Memory);
-    }
-    match split_type(alloc, stream.get()) {
-        Ok(split) => write_where_it_fits(alloc, &split, value, out),
-        Err(_) => Err(Memory),
-    }
+    let split = split_in(alloc, ltype)?;
+    write_where_it_fits(alloc, &split, value, out)
 }
 
 pub(crate) fn viewed(
