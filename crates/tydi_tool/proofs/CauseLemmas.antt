@@ -1,5 +1,5 @@
 -- Each answer comes exactly where its cause stands.
-use Rattle.std.proofs.Common.{◌≡◌, ℕ, ◌<◌, ◌≤◌, inl, inr, Bool, true, false, cond, nat_lt, List, length, Option, Some, None, Result, Ok, Err, codes, decimal, refl, sym, ap, ◌∙◌, subst}
+use Rattle.std.proofs.Common.{◌≡◌, ℕ, ◌<◌, ◌≤◌, inl, inr, Bool, true, false, cond, nat_lt, List, length, Option, Some, None, option_map, Result, Ok, Err, codes, decimal, refl, sym, ap, ◌∙◌, subst}
 use Rattle.std.specs.Str.Lossy.{utf8_valid_len}
 use Rattle.tydi_base.specs.Path.{path_text}
 use Rattle.tydi_base.specs.Reading.{◌>>=◌}
@@ -35,8 +35,8 @@ use Rattle.tydi_tool.specs.declared.answer.Answer.TheVariants as answers
 use Rattle.tydi_tool.specs.declared.traces.Survey.{Survey}
 use Rattle.tydi_tool.specs.Ask.{Ask, Ends, SaysBy, TellsOf, goes_on}
 use Rattle.tydi_tool.specs.Causes as rows
-use Rattle.tydi_tool.specs.Causes.{Row, row_of, HasBytes, HasText, HasTraceText, HasSplit, HasDrive, HasReason, HasTraceFault, HasValueFault, HasPlanFault, HasBench, HasRun, HasBenchFault, HasRunFault, HasTextFault, PortWords, DriveWords, SimWords, simulated_in, carried_in, driven_in, port_in, project_of, resolved_of, trace_in, unfinished_line, IsTextOf, CausedBy, ExactlyWhere, NoFileCause, TooLongCause, NotUtf8Cause, LexerCause, ParserCause, ResolverCause, NoPortCause, NameClashCause, NoCarrierCause, TextFaultCause, CountNotMultipleCause, NotFinishedCause, OffenceCause, UnfinishedCause}
-use Rattle.tydi_tool.specs.Commands.{ask_of, Says, check_ask, carried_ask, planned_ask, port_ask, run_ask, sim_ask}
+use Rattle.tydi_tool.specs.Causes.{Row, row_of, HasBytes, HasText, HasTraceText, HasSplit, HasDrive, HasReason, HasTraceFault, HasValueFault, HasPlanFault, HasBench, HasRun, HasBenchFault, HasRunFault, HasTextFault, PortWords, DriveWords, SimWords, simulated_in, carried_in, driven_in, port_in, project_of, resolved_of, trace_in, unfinished_line, IsTextOf, CausedBy, ExactlyWhere, NoFileCause, TooLongCause, NotUtf8Cause, LexerCause, ParserCause, ResolverCause, NoPortCause, NameClashCause, NoCarrierCause, TextFaultCause, CountNotMultipleCause, NotFinishedCause, LinkFaultCause, OffenceCause, UnfinishedCause, link_line, linked_in}
+use Rattle.tydi_tool.specs.Commands.{ask_of, Says, check_ask, carried_ask, link_ask, planned_ask, port_ask, run_ask, sim_ask}
 use Rattle.tydi_tool.specs.Drives.{TellsDriven, carried, path_of, refused_by, refusal_of_driving}
 use Rattle.tydi_tool.specs.Files.{NoFile, TooLong}
 use Rattle.tydi_tool.specs.Lines.{legal_text}
@@ -48,8 +48,14 @@ use Rattle.tydi_tool.specs.Reports.{Reports, ReportsEnd, path_of_stream}
 use Rattle.tydi_tool.specs.Texts.{ReadsPlan, ReadsPlanned}
 use Rattle.tydi_tool.specs.Traces.{ReadsReading, ReadsTrace}
 use Rattle.tydi_tool.specs.Trees.{ReadsCoded, ReadsTokens, ReadsTree, refusal_of_parsing}
-use Rattle.tydi_tool.specs.Words.{Request, Check, Drive, Read, Sim, Split, bench_file, project_file, text_file, trace_file}
+use Rattle.tydi_tool.specs.Words.{Request, Check, Drive, Link, Read, Sim, Split, bench_file, project_file, text_file, trace_file}
 use Rattle.tydi_tool.proofs.AnswerLemmas.{not_read}
+use Rattle.link_check.specs.Checked.{linked}
+use Rattle.link_check.specs.Text.{nets_text}
+use Rattle.link_check.specs.declared.fault.LinkFault.{LinkFault}
+use Rattle.link_check.specs.declared.nets.Nets.{Nets}
+use Rattle.tydi_tool.specs.Links.{TellsChecked, TellsLinked, TellsRefusal, refusal_of_linking}
+use Rattle.tydi_tool.specs.Refusals.{Refusal}
 use Rattle.vhdl_text.specs.Reading.{bench_of}
 use Rattle.vhdl_text.specs.declared.bench.Bench.{Bench}
 use Rattle.vhdl_text.specs.declared.fault.VhdlFault.{VhdlFault}
@@ -60,8 +66,8 @@ use Rattle.bench_run.specs.Traces.{trace_text_of}
 use Rattle.tydi_tool.specs.Reading.{ReadsResult}
 use Rattle.tydi_tool.specs.Benches.{ReadsBench, ReadsRun}
 use Rattle.tydi_tool.proofs.BenchLemmas.{ReadsBench-read, ReadsRun-read, bench-read, run-read}
-use Rattle.tydi_tool.proofs.CauseLines.{bench_text, by_line, caused_row, lexer_text, line_of, one_word, parser_text, plan_text, resolver_text, run_text, same_some, three_words, trace_text, two_words, value_text}
-use Rattle.tydi_tool.proofs.CauseSteps.{Told, over_test, reaches-read, refuses_tree, says-found, says-plan, says-planned, says-port, says-read, says-refused, says-uncarried, says-value, says_lack, test_over, test_within, told-carried, told-file, told-planned, told-port, within_test}
+use Rattle.tydi_tool.proofs.CauseLines.{bench_text, by_line, caused_row, lexer_text, line_of, link_text, one_word, parser_text, plan_text, resolver_text, run_text, same_some, three_words, trace_text, two_words, value_text}
+use Rattle.tydi_tool.proofs.CauseSteps.{Told, over_test, reaches-read, refuses_project, refuses_tree, says-found, says-plan, says-planned, says-port, says-read, says-refused, says-uncarried, says-value, says_lack, test_over, test_within, told-carried, told-file, told-planned, told-port, within_test}
 use Rattle.tydi_tool.proofs.FileLemmas.{file_of-long, file_of-missing}
 
 -- the words of a port of a project, and those of a port that is driven
@@ -295,6 +301,49 @@ told_sim known bench run a says =
           is = refl;
         }) said) said
 
+-- the links of a project
+checks_links : (known : Files) (project bytes : List ℕ) (a : Answer) (read : PlainProject) → HasBytes known project 4194304 bytes → ReadsProject project bytes (Ok read)
+    → TellsLinked project read a → Told known (Link project) a
+checks_links known project bytes a read file reads says = by (linked read.streamlets) refl says
+  where
+    by_refusal : (fault : LinkFault) → linked read.streamlets ≡ Err fault → (refusal : Option Refusal) → refusal_of_linking project fault ≡ refusal → TellsRefusal refusal a → Told known (Link project) a
+    by_refusal fault is None none says = absurd says
+    by_refusal fault is (Some refusal) some says = (
+      rows.NotLinked,
+      record {
+        word = project;
+        named = refl;
+        bytes = bytes;
+        file = file;
+        read = read;
+        reads = reads;
+        fault = fault;
+        is = is;
+        line = refusal_line refusal;
+        told = sym (link_text project fault) ∙ ap (option_map refusal_line) some;
+        said = says;
+      },
+    )
+
+    by : (found : Result Nets LinkFault) → linked read.streamlets ≡ found → TellsChecked project read.streamlets found a → Told known (Link project) a
+    by (Ok nets) is says =
+        gives_text known (Link project) (nets_text read.streamlets nets) a (record {
+          bytes = bytes;
+          file = file;
+          read = read;
+          reads = reads;
+          nets = nets;
+          nets_are = is;
+          is = refl;
+        }) says
+    by (Err fault) is says = by_refusal fault is (refusal_of_linking project fault) refl says
+
+told_link : (known : Files) (project : List ℕ) (a : Answer) → SaysBy (Some known) (link_ask project) a → Told known (Link project) a
+told_link known project a says =
+    told-file known (project_file project) (ReadsProject project) (λ read. Ends (TellsLinked project read)) a (Link project) (inl refl)
+    (λ bytes line file refused said. refuses_project known (Link project) project bytes line a refl refl file refused said)
+    (λ bytes read file reads said. checks_links known project bytes a read file reads said) says
+
 pub told : (known : Files) (request : Request) (a : Answer) → SaysBy (Some known) (ask_of request) a → Told known request a
 told known (Check trace) a says =
     told-file known (trace_file trace) (ReadsTrace trace) (λ survey. Ends (λ b. Reports survey.heads survey.found b)) a (Check trace) (inl refl)
@@ -313,6 +362,7 @@ told known (Drive project port value plan) a says =
     (λ read planned all tells. drives_port known (Drive project port value plan) (of_drive project port value plan) split read planned a refl all
     (λ text is. record { split = split; value = read; plan = planned; all = all; is = is }) tells) said) says
 told known (Sim bench run) a says = told_sim known bench run a says
+told known (Link project) a says = told_link known project a says
 
 -- ---- a cause gives its answer
 
@@ -334,6 +384,7 @@ from_port : (known : Files) (request : Request) (words : PortWords) (a : Answer)
 from_port known (Check trace) words a named said = absurd cc
 from_port known (Read project) words a named said = absurd cc
 from_port known (Sim bench run) words a named said = absurd cc
+from_port known (Link project) words a named said = absurd cc
 from_port known (Split project port) words a named said =
     subst (λ (w : PortWords). SaysBy (Some known) (port_ask w.project w.port split_end) a) (sym (same_words (of_project project port) words named)) said
 from_port known (Drive project port value plan) words a named said =
@@ -345,6 +396,7 @@ from_carried : (known : Files) (request : Request) (words : PortWords) (a : Answ
 from_carried known (Check trace) words a named said = absurd cc
 from_carried known (Read project) words a named said = absurd cc
 from_carried known (Sim bench run) words a named said = absurd cc
+from_carried known (Link project) words a named said = absurd cc
 from_carried known (Split project port) words a named said = absurd cc
 from_carried known (Drive project port value plan) words a named said =
     subst (λ (w : PortWords). SaysBy (Some known) (carried_ask w.project w.port (driven_next value plan)) a) (sym (same_words (of_project project port) words named)) said
@@ -357,6 +409,7 @@ from_driven : (known : Files) (request : Request) (words : DriveWords) (a : Answ
 from_driven known (Check trace) words a named said = absurd cc
 from_driven known (Read project) words a named said = absurd cc
 from_driven known (Sim bench run) words a named said = absurd cc
+from_driven known (Link project) words a named said = absurd cc
 from_driven known (Split project port) words a named said = absurd cc
 from_driven known (Drive project port value plan) words a named said =
     subst (λ (w : DriveWords). SaysBy (Some known) (drives_by (Drive project port value plan) w) a) (sym (same_driven (of_drive project port value plan) words named)) said
@@ -393,6 +446,10 @@ says_project known (Drive name port value plan) word bytes line a project refuse
     from_port known (Drive name port value plan) (of_project name port) a refl
     (refused_in_port known (of_project name port) (port_next (Drive name port value plan)) bytes line a
     (subst (λ (w : List ℕ). HasBytes known w 4194304 bytes) (sym same) project.file) (subst (λ (w : List ℕ). ReadsProject w bytes (Err line)) (sym same) refused) said)
+says_project known (Link name) word bytes line a project refused said =
+    let same = same_name name word project.word_is in
+    says-refused known (project_file name) (ReadsProject name) (λ read. Ends (TellsLinked name read)) a bytes line
+    (subst (λ (w : List ℕ). HasBytes known w 4194304 bytes) (sym same) project.file) (subst (λ (w : List ℕ). ReadsProject w bytes (Err line)) (sym same) refused) said
 
 -- the text of a command's project is refused
 says_tree : (known : Files) (request : Request) (word bytes line : List ℕ) (a : Answer) → HasText known (project_of request) 4194304 word bytes → ReadsTree word bytes (Err line) → a ≡ answers.Refused line
@@ -407,6 +464,8 @@ says_tree known (Split name port) word bytes line a project refused said =
     says_project known (Split name port) word bytes line a (record { word_is = project.word_is; file = project.file }) (inl refused) said
 says_tree known (Drive name port value plan) word bytes line a project refused said =
     says_project known (Drive name port value plan) word bytes line a (record { word_is = project.word_is; file = project.file }) (inl refused) said
+says_tree known (Link name) word bytes line a project refused said =
+    says_project known (Link name) word bytes line a (record { word_is = project.word_is; file = project.file }) (inl refused) said
 
 says_not_utf8 : (known : Files) (request : Request) (a : Answer) → NotUtf8Cause known request a → SaysBy (Some known) (ask_of request) a
 says_not_utf8 known request a cause =
@@ -464,6 +523,7 @@ says_no_carrier known request a cause =
 says_trace_fault : (known : Files) (request : Request) (line : List ℕ) (a : Answer) → HasTraceFault known request line → a ≡ answers.Refused line → SaysBy (Some known) (ask_of request) a
 says_trace_fault known (Read name) line a has said = absurd (no_word has.word has.trace.word_is)
 says_trace_fault known (Sim bench run) line a has said = absurd (no_word has.word has.trace.word_is)
+says_trace_fault known (Link name) line a has said = absurd (no_word has.word has.trace.word_is)
 says_trace_fault known (Split name port) line a has said = absurd (no_word has.word has.trace.word_is)
 says_trace_fault known (Drive name port value plan) line a has said = absurd (no_word has.word has.trace.word_is)
 says_trace_fault known (Check trace) line a has said =
@@ -499,6 +559,7 @@ from_simulated known (Check trace) words a named said = absurd cc
 from_simulated known (Read project) words a named said = absurd cc
 from_simulated known (Split project port) words a named said = absurd cc
 from_simulated known (Drive project port value plan) words a named said = absurd cc
+from_simulated known (Link project) words a named said = absurd cc
 from_simulated known (Sim bench run) words a named said =
     subst (λ (w : SimWords). SaysBy (Some known) (sim_ask w.bench w.run) a) (sym (same_simulated (record { bench = bench; run = run }) words named)) said
 
@@ -556,6 +617,7 @@ says_reason known request split reason a has said =
     ends (Check trace) named = absurd cc
     ends (Read project) named = absurd cc
     ends (Sim bench run) named = absurd cc
+    ends (Link project) named = absurd cc
     ends (Split project port) named = absurd cc
     ends (Drive project port value plan) named = tells
 
@@ -568,6 +630,30 @@ says_not_finished : (known : Files) (request : Request) (a : Answer) → NotFini
 says_not_finished known request a cause =
     says_reason known request cause.split (driving.NotFinished cause.stream cause.left) a cause.reason
     (cause.said ∙ ap answers.Refused (sym (two_words (codes "tydi: ") (codes "NotFinished") (codes " ") (path_text (path_of cause.split cause.stream)) (decimal cause.left) (codes "\n"))))
+
+-- the links of a project that is read
+says_linked : (known : Files) (project bytes : List ℕ) (a : Answer) (read : PlainProject) (found : Result Nets LinkFault) → HasBytes known project 4194304 bytes → ReadsProject project bytes (Ok read)
+    → linked read.streamlets ≡ found → TellsChecked project read.streamlets found a → SaysBy (Some known) (link_ask project) a
+says_linked known project bytes a read found file reads is tells =
+    says-read known (project_file project) (ReadsProject project) (λ one. Ends (TellsLinked project one)) a bytes read file reads
+    (subst (λ (r : Result Nets LinkFault). TellsChecked project read.streamlets r a) (sym is) tells)
+
+tells_by : (refusal : Option Refusal) (line : List ℕ) (a : Answer) → option_map refusal_line refusal ≡ Some line → a ≡ answers.Refused line → TellsRefusal refusal a
+tells_by (Some refusal) line a told said = said ∙ ap answers.Refused (sym (same_some (refusal_line refusal) line told))
+tells_by None line a told said = absurd cc
+
+says_link_fault : (known : Files) (request : Request) (a : Answer) → LinkFaultCause known request a → SaysBy (Some known) (ask_of request) a
+says_link_fault known (Check trace) a cause = absurd (no_word cause.word cause.named)
+says_link_fault known (Read name) a cause = absurd (no_word cause.word cause.named)
+says_link_fault known (Sim bench run) a cause = absurd (no_word cause.word cause.named)
+says_link_fault known (Split name port) a cause = absurd (no_word cause.word cause.named)
+says_link_fault known (Drive name port value plan) a cause = absurd (no_word cause.word cause.named)
+says_link_fault known (Link name) a cause =
+    let same = sym (same_name name cause.word cause.named) in
+    says_linked known name cause.bytes a cause.read (Err cause.fault)
+    (subst (λ (w : List ℕ). HasBytes known w 4194304 cause.bytes) same cause.file) (subst (λ (w : List ℕ). ReadsProject w cause.bytes (Ok cause.read)) same cause.reads) cause.is
+    (tells_by (refusal_of_linking name cause.fault) cause.line a
+    (link_text name cause.fault ∙ subst (λ (w : List ℕ). link_line w cause.fault ≡ Some cause.line) same cause.told) cause.said)
 
 -- a trace that is surveyed
 says_surveyed : (known : Files) (trace bytes : List ℕ) (t : TraceText) (found : Result Counts SurveyFault) (a : Answer) → HasBytes known trace 67108864 bytes → trace_of bytes ≡ Ok t
@@ -582,6 +668,7 @@ says_surveyed known trace bytes t found a file reads surveyed said =
 says_offence : (known : Files) (request : Request) (a : Answer) → OffenceCause known request a → SaysBy (Some known) (ask_of request) a
 says_offence known (Read name) a cause = absurd (no_word cause.word cause.trace.word_is)
 says_offence known (Sim bench run) a cause = absurd (no_word cause.word cause.trace.word_is)
+says_offence known (Link name) a cause = absurd (no_word cause.word cause.trace.word_is)
 says_offence known (Split name port) a cause = absurd (no_word cause.word cause.trace.word_is)
 says_offence known (Drive name port value plan) a cause = absurd (no_word cause.word cause.trace.word_is)
 says_offence known (Check trace) a cause =
@@ -598,6 +685,7 @@ reports_end path (ends.Unclosed k) line a told said = said ∙ ap answers.Verdic
 says_unfinished : (known : Files) (request : Request) (a : Answer) → UnfinishedCause known request a → SaysBy (Some known) (ask_of request) a
 says_unfinished known (Read name) a cause = absurd (no_word cause.word cause.trace.word_is)
 says_unfinished known (Sim bench run) a cause = absurd (no_word cause.word cause.trace.word_is)
+says_unfinished known (Link name) a cause = absurd (no_word cause.word cause.trace.word_is)
 says_unfinished known (Split name port) a cause = absurd (no_word cause.word cause.trace.word_is)
 says_unfinished known (Drive name port value plan) a cause = absurd (no_word cause.word cause.trace.word_is)
 says_unfinished known (Check trace) a cause =
@@ -623,6 +711,7 @@ says_text known (Drive name port value plan) text a is said =
     (subst (λ (r : Result (List ℕ) Undriven). TellsOf (refused_by is.split r) (λ t b. b ≡ output_answer t) a) (sym is.is) said)
 says_text known (Sim bench run) text a is said =
     says-simulated known bench run a is.bench is.run is.bench_is is.run_is (said ∙ ap output_answer is.is)
+says_text known (Link name) text a is said = says_linked known name is.bytes a is.read (Ok is.nets) is.file is.reads is.nets_are (said ∙ ap output_answer is.is)
 
 answer_over : (text : List ℕ) → 67108864 < length text → output_answer text ≡ answers.Refused (codes "tydi: OutputTooLong\n")
 answer_over text long = ap (λ (b : Bool). cond b (answers.Refused output_too_long_line) (answers.Done text)) (over_test output_limit (length text) long)
@@ -643,6 +732,7 @@ comes rows.NoCarrier known request a cause = says_no_carrier known request a cau
 comes rows.TextFault known request a cause = says_text_fault known request cause.line a cause.faulty cause.said
 comes rows.CountNotMultiple known request a cause = says_count known request a cause
 comes rows.NotFinished known request a cause = says_not_finished known request a cause
+comes rows.NotLinked known request a cause = says_link_fault known request a cause
 comes rows.OutputTooLong known request a cause = says_text known request cause.text a cause.is (cause.said ∙ sym (answer_over cause.text cause.long))
 comes rows.AnOffence known request a cause = says_offence known request a cause
 comes rows.AnUnfinished known request a cause = says_unfinished known request a cause

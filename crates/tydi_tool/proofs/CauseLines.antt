@@ -23,10 +23,16 @@ use Rattle.vhdl_text.specs.declared.fault.VhdlFault.{VhdlFault}
 use Rattle.vhdl_text.specs.declared.fault.VhdlFault.TheVariants as benching
 use Rattle.vhdl_meaning.specs.declared.run.RunFault.{RunFault}
 use Rattle.vhdl_meaning.specs.declared.run.RunFault.TheVariants as running
+use Rattle.link_check.specs.declared.difference.Why.{Why}
+use Rattle.link_check.specs.declared.difference.Why.TheVariants as whys
+use Rattle.link_check.specs.declared.fault.LinkFault.{LinkFault}
+use Rattle.link_check.specs.declared.fault.LinkFault.TheVariants as linking
+use Rattle.tydi_base.specs.Path.{path_text}
+use Rattle.tydi_tool.specs.Links.{refusal_of_linking, why_name}
 use Rattle.tydi_tool.specs.declared.answer.Answer.{Answer}
 use Rattle.tydi_tool.specs.declared.answer.Answer.TheVariants as answers
 use Rattle.tydi_tool.specs.Causes as rows
-use Rattle.tydi_tool.specs.Causes.{Row, row_of, at_place, lexer_line, parser_line, type_fault_text, resolver_line, trace_line, value_line, plan_line, bench_line, run_line, unfinished_line, CausedBy, HasTextFault}
+use Rattle.tydi_tool.specs.Causes.{Row, row_of, at_place, lexer_line, parser_line, type_fault_text, resolver_line, trace_line, value_line, plan_line, bench_line, run_line, why_text, link_line, unfinished_line, CausedBy, HasTextFault}
 use Rattle.tydi_tool.specs.Reading.{RefusesBy}
 use Rattle.tydi_tool.specs.Refusals.{Refusal, At, of_file_with, refusal_line, refusal_of_bench, refusal_of_lexing, refusal_of_plan, refusal_of_resolving, refusal_of_run, refusal_of_trace, refusal_of_value, type_fault_name}
 use Rattle.tydi_tool.specs.Reports.{path_of_stream}
@@ -54,6 +60,14 @@ three_words t n s w d f e =
     ∙ ap (λ (l : List ℕ). (l ++ (s ++ f)) ++ e) (sym (append_assoc ((t ++ n) ++ (s ++ w)) s d))
     ∙ ap (λ (l : List ℕ). l ++ e) (sym (append_assoc ((((t ++ n) ++ (s ++ w)) ++ s) ++ d) s f))
     ∙ ap (λ (l : List ℕ). ((((l ++ s) ++ d) ++ s) ++ f) ++ e) (sym (append_assoc (t ++ n) s w))
+
+pub four_words : (t n s w d f g e : List ℕ) → ((t ++ n) ++ ((s ++ w) ++ ((s ++ d) ++ ((s ++ f) ++ ((s ++ g) ++ []))))) ++ e ≡ (((((((((t ++ n) ++ s) ++ w) ++ s) ++ d) ++ s) ++ f) ++ s) ++ g) ++ e
+four_words t n s w d f g e =
+    ap (λ (l : List ℕ). ((t ++ n) ++ ((s ++ w) ++ ((s ++ d) ++ l))) ++ e)
+    (ap (λ (l : List ℕ). (s ++ f) ++ l) (append-nil (s ++ g)) ∙ append_assoc s f (s ++ g) ∙ sym (append-nil (s ++ (f ++ (s ++ g)))))
+    ∙ three_words t n s w d (f ++ (s ++ g)) e
+    ∙ ap (λ (l : List ℕ). l ++ e) (sym (append_assoc (((((((t ++ n) ++ s) ++ w) ++ s) ++ d) ++ s)) f (s ++ g)))
+    ∙ ap (λ (l : List ℕ). l ++ e) (sym (append_assoc ((((((((t ++ n) ++ s) ++ w) ++ s) ++ d) ++ s) ++ f)) s g))
 
 pub same_some : (l m : List ℕ) → ◌≡◌ {A = Option (List ℕ)} (Some l) (Some m) → l ≡ m
 same_some l m e = cc
@@ -148,6 +162,27 @@ run_text word (running.NotOrder place) = ap Some (two_words (codes "tydi: ") (co
 run_text word (running.TooManyCycles place) = ap Some (two_words (codes "tydi: ") (codes "TooManyCycles") (codes " ") word (at_place place) (codes "\n"))
 run_text word (running.TooManyOrders place) = ap Some (two_words (codes "tydi: ") (codes "TooManyOrders") (codes " ") word (at_place place) (codes "\n"))
 run_text word running.Memory = refl
+
+why_same : (difference : Why) → why_name difference ≡ why_text difference
+why_same whys.Shape = refl
+why_same whys.Throughput = refl
+why_same whys.Dims = refl
+why_same whys.Sync = refl
+why_same whys.Level = refl
+why_same whys.Direction = refl
+why_same whys.User = refl
+why_same whys.Keep = refl
+
+pub link_text : (word : List ℕ) (fault : LinkFault) → option_map refusal_line (refusal_of_linking word fault) ≡ link_line word fault
+link_text word (linking.UnknownEnd place) = ap Some (two_words (codes "tydi: ") (codes "UnknownEnd") (codes " ") word (at_place place) (codes "\n"))
+link_text word (linking.SameSide place) = ap Some (two_words (codes "tydi: ") (codes "SameSide") (codes " ") word (at_place place) (codes "\n"))
+link_text word (linking.NotCompatible place difference) =
+    ap Some (four_words (codes "tydi: ") (codes "NotCompatible") (codes " ") word (at_place place) (path_text difference.path) (why_name difference.why) (codes "\n")
+    ∙ ap (λ (l : List ℕ). codes "tydi: NotCompatible " ++ word ++ codes " " ++ at_place place ++ codes " " ++ path_text difference.path ++ codes " " ++ l ++ codes "\n") (why_same difference.why))
+link_text word (linking.LinkedTwice place) = ap Some (two_words (codes "tydi: ") (codes "LinkedTwice") (codes " ") word (at_place place) (codes "\n"))
+link_text word (linking.Unlinked place) = ap Some (two_words (codes "tydi: ") (codes "Unlinked") (codes " ") word (at_place place) (codes "\n"))
+link_text word linking.DesignTooLarge = ap Some (one_word (codes "tydi: ") (codes "DesignTooLarge") (codes " ") word (codes "\n"))
+link_text word linking.Memory = refl
 
 -- a text that is refused by a refusal has its line, and the other way round
 pub line_of : (X : Type 0) (refusal : Option Refusal) (line : List ℕ) → RefusesBy {X = X} refusal (Err line) → option_map refusal_line refusal ≡ Some line
@@ -252,6 +287,15 @@ text_row known request line (inr (inr (inl plan))) = plan_row plan.words.plan li
 text_row known request line (inr (inr (inr (inl bench)))) = bench_row bench.words.bench line bench.fault bench.told
 text_row known request line (inr (inr (inr (inr run)))) = run_row run.words.run line run.fault run.told
 
+link_row : (word line : List ℕ) (fault : LinkFault) → link_line word fault ≡ Some line → row_of (answers.Refused line) ≡ Some rows.NotLinked
+link_row word line (linking.UnknownEnd place) told = row_by rows.NotLinked _ line told refl
+link_row word line (linking.SameSide place) told = row_by rows.NotLinked _ line told refl
+link_row word line (linking.NotCompatible place difference) told = row_by rows.NotLinked _ line told refl
+link_row word line (linking.LinkedTwice place) told = row_by rows.NotLinked _ line told refl
+link_row word line (linking.Unlinked place) told = row_by rows.NotLinked _ line told refl
+link_row word line linking.DesignTooLarge told = row_by rows.NotLinked _ line told refl
+link_row word line linking.Memory told = absurd cc
+
 unfinished_row : (path : List (List ℕ)) (end : End) (line : List ℕ) → unfinished_line path end ≡ Some line → row_of (answers.Verdict line) ≡ Some rows.AnUnfinished
 unfinished_row path ends.Whole line told = absurd cc
 unfinished_row path ends.Pending line told = ap (λ (l : List ℕ). row_of (answers.Verdict l)) (sym (same_some _ line told)) ∙ refl
@@ -270,6 +314,7 @@ caused_row rows.NoCarrier known request a cause = row_as a _ rows.NoCarrier caus
 caused_row rows.TextFault known request a cause = row_as a _ rows.TextFault cause.said (text_row known request cause.line cause.faulty)
 caused_row rows.CountNotMultiple known request a cause = row_as a _ rows.CountNotMultiple cause.said refl
 caused_row rows.NotFinished known request a cause = row_as a _ rows.NotFinished cause.said refl
+caused_row rows.NotLinked known request a cause = row_as a _ rows.NotLinked cause.said (link_row cause.word cause.line cause.fault cause.told)
 caused_row rows.OutputTooLong known request a cause = row_as a _ rows.OutputTooLong cause.said refl
 caused_row rows.AnOffence known request a cause = row_as a _ rows.AnOffence cause.said refl
 caused_row rows.AnUnfinished known request a cause = row_as a _ rows.AnUnfinished cause.said (unfinished_row (path_of_stream cause.read.heads cause.left.stream) cause.left.end cause.line cause.told)

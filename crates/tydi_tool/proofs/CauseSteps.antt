@@ -206,7 +206,7 @@ refuses_tree known request word bytes line a project refused said = by (is_utf8 
     )
 
 -- the project is refused
-refuses_project : (known : Files) (request : Request) (word bytes line : List ℕ) (a : Answer) → project_of request ≡ Some word → resolved_of request ≡ Some word → HasBytes known word 4194304 bytes
+pub refuses_project : (known : Files) (request : Request) (word bytes line : List ℕ) (a : Answer) → project_of request ≡ Some word → resolved_of request ≡ Some word → HasBytes known word 4194304 bytes
     → ReadsProject word bytes (Err line) → a ≡ answers.Refused line → Told known request a
 refuses_project known request word bytes line a reads resolves file (inl refused) said = refuses_tree known request word bytes line a (record { word_is = reads; file = file }) refused said
 refuses_project known request word bytes line a reads resolves file (inr stepped) said = (

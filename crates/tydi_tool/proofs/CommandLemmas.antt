@@ -3,6 +3,7 @@ use Rattle.std.proofs.Common.{◌≡◌, sym, ◌∙◌, refl, Some}
 use Rattle.std.specs.Str.{is_utf8}
 use Rattle.tydi_io.specs.Store.{Files}
 use Rattle.cycle_trace.specs.TraceText.{trace_of}
+use Rattle.link_check.specs.Laws.{AnswersAreOfTheProject}
 use Rattle.til_parser.specs.Canonical.{canonical}
 use Rattle.tydi_tool.specs.declared.answer.Answer.{Answer}
 use Rattle.tydi_tool.specs.Ask.{Ends, SaysBy}
@@ -11,12 +12,14 @@ use Rattle.tydi_tool.specs.Drives.{TellsDriven}
 use Rattle.tydi_tool.specs.Laws.{AsksAlways, AsksOnce, HasSome}
 use Rattle.tydi_tool.specs.Outcome.{output_answer}
 use Rattle.split_text.specs.Text.{split_text}
-use Rattle.tydi_tool.specs.Words.{Request, Check, Drive, Read, Sim, Split}
+use Rattle.tydi_tool.specs.Words.{Request, Check, Drive, Link, Read, Sim, Split}
 use Rattle.bench_run.specs.Traces.{trace_text_of}
 use Rattle.tydi_tool.proofs.BenchLemmas.{ReadsBench-once, ReadsBench-some, ReadsRun-once, ReadsRun-some}
 use Rattle.tydi_tool.proofs.AnswerLemmas.{ReadsTrace-once, ReadsTree-once, Reports-one, SaysBy-one}
 use Rattle.tydi_tool.proofs.ReadingLemmas.{IsFoundAmong-read}
 use Rattle.tydi_tool.proofs.DriveLemmas.{driven-one, driven-some, planned-always, planned-once}
+use Rattle.tydi_tool.proofs.LinkLemmas.{linked-one, linked-some}
+use Rattle.tydi_tool.proofs.ProjectLemmas.{ReadsProject-once, ReadsProject-some}
 use Rattle.tydi_tool.proofs.StepLemmas.{carried-always, carried-once, port-always, port-once}
 use Rattle.tydi_tool.proofs.SomeLemmas.{ReadsCoded-some, ReadsReading-some, Reports-some, SaysBy-some}
 
@@ -27,25 +30,27 @@ asks_once (Split project port) = port-once project port (λ split. Ends (λ a. a
 asks_once (Drive project port value plan) =
     carried-once project port (λ split. planned_ask value plan split (TellsDriven split)) (λ split. planned-once value plan split (TellsDriven split) (driven-one split))
 asks_once (Sim bench run) = (ReadsBench-once bench, λ bytes read reads. (ReadsRun-once run read, λ run_bytes made said a b p q. p ∙ sym q))
+asks_once (Link project) = (ReadsProject-once project, λ bytes read reads. linked-one project read)
 
 -- one answer
 pub SaysBy-request : (told : Files) (request : Request) (a b : Answer) → SaysBy (Some told) (ask_of request) a → SaysBy (Some told) (ask_of request) b → a ≡ b
 SaysBy-request told request a b p q = SaysBy-one told (ask_of request) a b (asks_once request) p q
 
-asks_always : (request : Request) → AsksAlways (ask_of request)
-asks_always (Check trace) = (
+asks_always : AnswersAreOfTheProject → (request : Request) → AsksAlways (ask_of request)
+asks_always checks (Check trace) = (
   λ bytes. ReadsReading-some trace bytes (trace_of bytes) refl,
   λ bytes survey reads none. let a = Reports-some survey.heads survey.found (IsFoundAmong-read trace bytes survey reads) in none a.0 a.1,
 )
-asks_always (Read project) = (λ bytes. ReadsCoded-some project bytes (is_utf8 bytes) refl, λ bytes ast reads none. none (output_answer (canonical ast)) refl)
-asks_always (Split project port) = port-always project port (λ split. Ends (λ a. a ≡ output_answer (split_text split))) (λ split none. none (output_answer (split_text split)) refl)
-asks_always (Drive project port value plan) =
+asks_always checks (Read project) = (λ bytes. ReadsCoded-some project bytes (is_utf8 bytes) refl, λ bytes ast reads none. none (output_answer (canonical ast)) refl)
+asks_always checks (Split project port) = port-always project port (λ split. Ends (λ a. a ≡ output_answer (split_text split))) (λ split none. none (output_answer (split_text split)) refl)
+asks_always checks (Drive project port value plan) =
     carried-always project port (λ split. planned_ask value plan split (TellsDriven split)) (λ split. planned-always value plan split (TellsDriven split) (driven-some split))
-asks_always (Sim bench run) = (
+asks_always checks (Sim bench run) = (
   λ bytes. ReadsBench-some bench bytes,
   λ bytes read reads. (λ run_bytes. ReadsRun-some run read run_bytes, λ run_bytes made said none. none (output_answer (trace_text_of read made)) refl),
 )
+asks_always checks (Link project) = (ReadsProject-some project, λ bytes read reads. linked-some checks project read)
 
 -- some answer
-pub SaysBy-request-some : (told : Files) (request : Request) → HasSome Answer (SaysBy (Some told) (ask_of request))
-SaysBy-request-some told request = SaysBy-some told (ask_of request) (asks_always request)
+pub SaysBy-request-some : AnswersAreOfTheProject → (told : Files) (request : Request) → HasSome Answer (SaysBy (Some told) (ask_of request))
+SaysBy-request-some checks told request = SaysBy-some told (ask_of request) (asks_always checks request)

@@ -10,6 +10,7 @@ pub mod DriveLemmas
 pub mod FileLemmas
 pub mod FirstOfAll
 pub mod FormLemmas
+pub mod LinkLemmas
 pub mod LoadingLemmas
 pub mod PlanFaults
 pub mod PortLemmas

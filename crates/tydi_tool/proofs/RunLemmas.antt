@@ -8,7 +8,7 @@ use Rattle.tydi_tool.specs.declared.answer.Reply.TheVariants as replies
 use Rattle.tydi_tool.specs.declared.status.Status.{Status}
 use Rattle.tydi_tool.specs.declared.status.Status.TheVariants as statuses
 use Rattle.tydi_tool.specs.Drives.{TellsDriven}
-use Rattle.tydi_tool.specs.Words.{Request, Check, Drive, Read, Sim, Split, FileWord, file_words, text_file}
+use Rattle.tydi_tool.specs.Words.{Request, Check, Drive, Link, Read, Sim, Split, FileWord, file_words, text_file}
 use Rattle.split_text.specs.Text.{split_text}
 use Rattle.tydi_tool.specs.Outcome.{out_of_answer, output_answer, out_of, err_of, status_of, status_of_answer, usage_line, memory_line, write_fault_line}
 use Rattle.tydi_tool.specs.Delivery.{Adds, AddsFront, AddsPart, TakesLine, IsLined, IsCut, IsWritten, OutFails, OutWants, Delivers}
@@ -36,6 +36,7 @@ asks_for (Split project port) = port-for project port [] (λ split. Ends (λ a. 
 asks_for (Drive project port value plan) =
     carried-for project port (text_file value ∷ text_file plan ∷ []) (λ split. planned_ask value plan split (TellsDriven split)) (λ split. planned-for value plan split (TellsDriven split))
 asks_for (Sim bench run) = (refl, λ read. (refl, λ made. tt))
+asks_for (Link project) = (refl, λ x. tt)
 
 asks_some : (request : Request) → AsksSome (ask_of request)
 asks_some (Check trace) = tt
@@ -43,6 +44,7 @@ asks_some (Read project) = tt
 asks_some (Split project port) = tt
 asks_some (Drive project port value plan) = tt
 asks_some (Sim bench run) = tt
+asks_some (Link project) = tt
 
 -- ---- a run of a command
 
@@ -287,6 +289,7 @@ WritesTrace-answered (Some known) (Some (Check trace)) status out_old out_new er
 WritesTrace-answered (Some known) (Some (Read project)) status out_old out_new err_old err_new a done = tt
 WritesTrace-answered (Some known) (Some (Split project port)) status out_old out_new err_old err_new a done = tt
 WritesTrace-answered (Some known) (Some (Sim bench run)) status out_old out_new err_old err_new a done = tt
+WritesTrace-answered (Some known) (Some (Link project)) status out_old out_new err_old err_new a done = tt
 WritesTrace-answered (Some known) (Some (Drive project port value plan)) status out_old out_new err_old err_new a done =
     by a.answer a.says (sym a.ends ∙ done) a.out
   where

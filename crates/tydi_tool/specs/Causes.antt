@@ -68,7 +68,14 @@ use Rattle.vhdl_meaning.specs.declared.run.RunFault.{RunFault}
 use Rattle.vhdl_meaning.specs.declared.run.RunFault.TheVariants as running
 use Rattle.vhdl_meaning.specs.declared.run.SimRun.{SimRun}
 use Rattle.bench_run.specs.Traces.{trace_text_of}
-use Rattle.tydi_tool.specs.Words.{Request, Check, Drive, Read, Sim, Split, FileWord}
+use Rattle.link_check.specs.Checked.{linked}
+use Rattle.link_check.specs.Text.{nets_text}
+use Rattle.link_check.specs.declared.difference.Why.{Why}
+use Rattle.link_check.specs.declared.difference.Why.TheVariants as whys
+use Rattle.link_check.specs.declared.fault.LinkFault.{LinkFault}
+use Rattle.link_check.specs.declared.fault.LinkFault.TheVariants as linking
+use Rattle.link_check.specs.declared.nets.Nets.{Nets}
+use Rattle.tydi_tool.specs.Words.{Request, Check, Drive, Link, Read, Sim, Split, FileWord}
 
 -- ---- which row an answer is of
 
@@ -85,6 +92,7 @@ pub data Row : Type 0 where
   TextFault : Row
   CountNotMultiple : Row
   NotFinished : Row
+  NotLinked : Row
   OutputTooLong : Row
   AnOffence : Row
   AnUnfinished : Row
@@ -110,6 +118,8 @@ rows_of_faults =
     ∷ (codes "NotForm", TextFault) ∷ (codes "UnknownSignal", TextFault) ∷ (codes "TwoDrivers", TextFault)
     ∷ (codes "NotOrder", TextFault) ∷ (codes "TooManyOrders", TextFault)
     ∷ (codes "CountNotMultiple", CountNotMultiple) ∷ (codes "NotFinished", NotFinished)
+    ∷ (codes "UnknownEnd", NotLinked) ∷ (codes "SameSide", NotLinked) ∷ (codes "NotCompatible", NotLinked)
+    ∷ (codes "LinkedTwice", NotLinked) ∷ (codes "Unlinked", NotLinked) ∷ (codes "DesignTooLarge", NotLinked)
     ∷ (codes "OutputTooLong", OutputTooLong) ∷ []
 
 -- the row of each word with which a verdict begins
@@ -153,6 +163,7 @@ project_of (Read project) = Some project
 project_of (Split project port) = Some project
 project_of (Drive project port value plan) = Some project
 project_of (Sim bench run) = None
+project_of (Link project) = Some project
 
 -- the project that a command resolves
 abbrev pub resolved_of : Request → Option (List ℕ)
@@ -161,6 +172,7 @@ resolved_of (Read project) = None
 resolved_of (Split project port) = Some project
 resolved_of (Drive project port value plan) = Some project
 resolved_of (Sim bench run) = None
+resolved_of (Link project) = Some project
 
 -- the trace that a command reads before it reads anything else
 abbrev pub trace_in : Request → Option (List ℕ)
@@ -203,6 +215,11 @@ pub record SimWords : Type 0 where
 abbrev pub simulated_in : Request → Option SimWords
 simulated_in (Sim bench run) = Some (record { bench = bench; run = run })
 simulated_in request = None
+
+-- the project whose links a command checks
+abbrev pub linked_in : Request → Option (List ℕ)
+linked_in (Link project) = Some project
+linked_in request = None
 
 -- a text of at most so many bytes that a command reads by this word
 pub record HasText (known : Files) (named : Option (List ℕ)) (limit : ℕ) (word bytes : List ℕ) : Type 0 where
@@ -362,6 +379,26 @@ run_line word (running.NotOrder place) = Some (codes "tydi: NotOrder " ++ word +
 run_line word (running.TooManyCycles place) = Some (codes "tydi: TooManyCycles " ++ word ++ codes " " ++ at_place place ++ codes "\n")
 run_line word (running.TooManyOrders place) = Some (codes "tydi: TooManyOrders " ++ word ++ codes " " ++ at_place place ++ codes "\n")
 run_line word running.Memory = None
+
+abbrev pub why_text : Why → List ℕ
+why_text whys.Shape = codes "Shape"
+why_text whys.Throughput = codes "Throughput"
+why_text whys.Dims = codes "Dims"
+why_text whys.Sync = codes "Sync"
+why_text whys.Level = codes "Level"
+why_text whys.Direction = codes "Direction"
+why_text whys.User = codes "User"
+why_text whys.Keep = codes "Keep"
+
+abbrev pub link_line : List ℕ → LinkFault → Option (List ℕ)
+link_line word (linking.UnknownEnd place) = Some (codes "tydi: UnknownEnd " ++ word ++ codes " " ++ at_place place ++ codes "\n")
+link_line word (linking.SameSide place) = Some (codes "tydi: SameSide " ++ word ++ codes " " ++ at_place place ++ codes "\n")
+link_line word (linking.NotCompatible place difference) =
+    Some (codes "tydi: NotCompatible " ++ word ++ codes " " ++ at_place place ++ codes " " ++ path_text difference.path ++ codes " " ++ why_text difference.why ++ codes "\n")
+link_line word (linking.LinkedTwice place) = Some (codes "tydi: LinkedTwice " ++ word ++ codes " " ++ at_place place ++ codes "\n")
+link_line word (linking.Unlinked place) = Some (codes "tydi: Unlinked " ++ word ++ codes " " ++ at_place place ++ codes "\n")
+link_line word linking.DesignTooLarge = Some (codes "tydi: DesignTooLarge " ++ word ++ codes "\n")
+link_line word linking.Memory = None
 
 -- the line of a stream that does not end whole
 abbrev pub unfinished_line : List (List ℕ) → End → Option (List ℕ)
@@ -560,6 +597,20 @@ pub record NotFinishedCause (known : Files) (request : Request) (a : Answer) : T
   pub reason : HasReason known request split (driving.NotFinished stream left)
   pub said : a ≡ answers.Refused (codes "tydi: NotFinished " ++ path_text (path_of split stream) ++ codes " " ++ decimal left ++ codes "\n")
 
+-- the project is read, and its links have this error first
+pub record LinkFaultCause (known : Files) (request : Request) (a : Answer) : Type 0 where
+  pub word : List ℕ
+  pub named : linked_in request ≡ Some word
+  pub bytes : List ℕ
+  pub file : HasBytes known word 4194304 bytes
+  pub read : PlainProject
+  pub reads : ReadsProject word bytes (Ok read)
+  pub fault : LinkFault
+  pub is : linked read.streamlets ≡ Err fault
+  pub line : List ℕ
+  pub told : link_line word fault ≡ Some line
+  pub said : a ≡ answers.Refused line
+
 -- the trace has an offence, and this is the first
 pub record OffenceCause (known : Files) (request : Request) (a : Answer) : Type 0 where
   pub word : List ℕ
@@ -628,6 +679,16 @@ pub record IsSimText (known : Files) (words : SimWords) (text : List ℕ) : Type
   pub run_is : HasRun known bench words.run run
   pub is : text ≡ trace_text_of bench run
 
+-- the project is read, and its links have these nets and no error
+pub record IsLinkText (known : Files) (project text : List ℕ) : Type 0 where
+  pub bytes : List ℕ
+  pub file : HasBytes known project 4194304 bytes
+  pub read : PlainProject
+  pub reads : ReadsProject project bytes (Ok read)
+  pub nets : Nets
+  pub nets_are : linked read.streamlets ≡ Ok nets
+  pub is : text ≡ nets_text read.streamlets nets
+
 -- the text that a command makes of the files
 abbrev pub IsTextOf : Files → Request → List ℕ → Type 0
 IsTextOf known (Check trace) text = IsLegalText known trace text
@@ -635,6 +696,7 @@ IsTextOf known (Read project) text = IsTreeText known project text
 IsTextOf known (Split project port) text = IsSplitText known (record { project = project; port = port }) text
 IsTextOf known (Drive project port value plan) text = IsDriveText known (record { at = record { project = project; port = port }; value = value; plan = plan }) text
 IsTextOf known (Sim bench run) text = IsSimText known (record { bench = bench; run = run }) text
+IsTextOf known (Link project) text = IsLinkText known project text
 
 -- the text is over 64 MiB
 pub record OutputTooLongCause (known : Files) (request : Request) (a : Answer) : Type 0 where
@@ -663,6 +725,7 @@ CausedBy NoCarrier known request a = NoCarrierCause known request a
 CausedBy TextFault known request a = TextFaultCause known request a
 CausedBy CountNotMultiple known request a = CountNotMultipleCause known request a
 CausedBy NotFinished known request a = NotFinishedCause known request a
+CausedBy NotLinked known request a = LinkFaultCause known request a
 CausedBy OutputTooLong known request a = OutputTooLongCause known request a
 CausedBy AnOffence known request a = OffenceCause known request a
 CausedBy AnUnfinished known request a = UnfinishedCause known request a

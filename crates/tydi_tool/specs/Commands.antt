@@ -17,7 +17,8 @@ use Rattle.bench_run.specs.Traces.{trace_text_of}
 use Rattle.tydi_tool.specs.Drives.{TellsDriven, carried}
 use Rattle.tydi_tool.specs.Texts.{ReadsPlan, ReadsValue}
 use Rattle.tydi_tool.specs.Benches.{ReadsBench, ReadsRun}
-use Rattle.tydi_tool.specs.Words.{Request, Check, Drive, Read, Sim, Split, bench_file, trace_file, project_file, text_file}
+use Rattle.tydi_tool.specs.Links.{TellsLinked}
+use Rattle.tydi_tool.specs.Words.{Request, Check, Drive, Link, Read, Sim, Split, bench_file, trace_file, project_file, text_file}
 use Rattle.tydi_tool.specs.Outcome.{output_answer}
 use Rattle.tydi_tool.specs.Ports.{split_at}
 use Rattle.tydi_tool.specs.Projects.{ReadsProject}
@@ -70,12 +71,17 @@ run_ask run bench = Asks (text_file run) SimRun (ReadsRun run bench) (λ read. E
 abbrev pub sim_ask : (bench run : List ℕ) → Ask
 sim_ask bench run = Asks (bench_file bench) Bench (ReadsBench bench) (run_ask run)
 
+-- `link PROJECT`: the nets of its implementations
+abbrev pub link_ask : List ℕ → Ask
+link_ask project = project_ask project (λ read. Ends (TellsLinked project read))
+
 abbrev pub ask_of : Request → Ask
 ask_of (Check trace) = check_ask trace
 ask_of (Read project) = read_ask project
 ask_of (Split project port) = split_ask project port
 ask_of (Drive project port value plan) = drive_ask project port value plan
 ask_of (Sim bench run) = sim_ask bench run
+ask_of (Link project) = link_ask project
 
 -- the answer of the tool: none where the words spell no command
 abbrev pub Says : Option Files → Option Request → Answer → Type 0

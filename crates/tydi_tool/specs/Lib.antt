@@ -7,6 +7,7 @@ pub mod Drives
 pub mod Files
 pub mod Laws
 pub mod Lines
+pub mod Links
 pub mod Loading
 pub mod Outcome
 pub mod Output

@@ -8,7 +8,7 @@ use Rattle.tydi_tool.specs.declared.answer.Reply.{Reply}
 use Rattle.tydi_tool.specs.declared.status.Status.{Status}
 use Rattle.tydi_tool.specs.declared.status.Status.TheVariants as statuses
 use Rattle.tydi_tool.specs.DriveLaw.{WritesDriven, drive_words}
-use Rattle.tydi_tool.specs.Words.{Request, Check, Drive, Read, Sim, Split, FileWord, file_words}
+use Rattle.tydi_tool.specs.Words.{Request, Check, Drive, Link, Read, Sim, Split, FileWord, file_words}
 use Rattle.tydi_tool.specs.Outcome.{read_fault_line, out_of_answer, err_of_answer, status_of_answer, usage_line, memory_line, write_fault_line}
 use Rattle.tydi_tool.specs.Delivery.{Adds, AddsFront, AddsPart, TakesLine, Delivers}
 use Rattle.tydi_tool.specs.Ask.{Decides}
@@ -172,5 +172,6 @@ WritesTrace known (Some (Check trace)) out_old out_new = Unit {0}
 WritesTrace known (Some (Read project)) out_old out_new = Unit {0}
 WritesTrace known (Some (Split project port)) out_old out_new = Unit {0}
 WritesTrace known (Some (Sim bench run)) out_old out_new = Unit {0}
+WritesTrace known (Some (Link project)) out_old out_new = Unit {0}
 WritesTrace known (Some (Drive project port value plan)) out_old out_new =
     (text : List ℕ) × (WritesDriven known (drive_words project port value plan) text × Adds out_old out_new text)

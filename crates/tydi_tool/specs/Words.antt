@@ -12,6 +12,7 @@ pub data Request : Type 0 where
   Split : List ℕ → List ℕ → Request
   Drive : List ℕ → List ℕ → List ℕ → List ℕ → Request
   Sim : List ℕ → List ℕ → Request
+  Link : List ℕ → Request
 
 abbrev pub request_from : Command → Request
 request_from (commands.Check trace) = Check trace.now
@@ -19,6 +20,7 @@ request_from (commands.Read project) = Read project.now
 request_from (commands.Split project port) = Split project.now port.now
 request_from (commands.Drive project port value plan) = Drive project.now port.now value.now plan.now
 request_from (commands.Sim bench run) = Sim bench.now run.now
+request_from (commands.Link project) = Link project.now
 
 -- a word that is not empty and does not begin with `-`
 abbrev pub is_word : List ℕ → Bool
@@ -51,6 +53,11 @@ abbrev pub sim_request : List (List ℕ) → Option Request
 sim_request (bench ∷ run ∷ []) = if is_word bench && is_word run then Some (Sim bench run) else None
 sim_request words = None
 
+-- `link PROJECT`
+abbrev pub link_request : List (List ℕ) → Option Request
+link_request (project ∷ []) = if is_word project then Some (Link project) else None
+link_request words = None
+
 -- the command that the words spell: the command's own word, and then exactly its words
 abbrev pub request_of : List (List ℕ) → Option Request
 request_of [] = None
@@ -60,7 +67,8 @@ request_of (command ∷ words) =
     else (if bytes_eq command (codes "split") then split_request words
     else (if bytes_eq command (codes "drive") then drive_request words
     else (if bytes_eq command (codes "sim") then sim_request words
-    else None))))
+    else (if bytes_eq command (codes "link") then link_request words
+    else None)))))
 
 -- a file that a command names, and the most bytes that it may have
 pub record FileWord : Type 0 where
@@ -100,6 +108,7 @@ file_words (Read project) = project_file project ∷ []
 file_words (Split project port) = project_file project ∷ []
 file_words (Drive project port value plan) = project_file project ∷ text_file value ∷ text_file plan ∷ []
 file_words (Sim bench run) = bench_file bench ∷ text_file run ∷ []
+file_words (Link project) = project_file project ∷ []
 
 -- the store may start each file of the command
 abbrev pub Allows : (List ℕ → Bool) → Option Request → Type 0

@@ -21,6 +21,7 @@ use crate::answer::Reply;
 use crate::asking::{ask, ask_text};
 use crate::drive::drive;
 use crate::ending::{OUTPUT_LIMIT, answered, answered_front};
+use crate::link::link;
 use crate::ports::split_of_port;
 use crate::projects::ProjectText;
 use crate::reports::report;
@@ -59,6 +60,7 @@ pub(crate) fn reply_to<S: Store>(alloc: Global, command: Command<'_>, store: &mu
             plan,
         } => drive(alloc, project, port, value, plan, store),
         Command::Sim { bench, run } => sim(alloc, bench, run, store),
+        Command::Link { project } => link(alloc, project, store),
     }
 }
 

@@ -3,6 +3,7 @@ ghost use Rattle.tydi_tool.specs.Causes.{
   EachIsOfARow,
   ExactlyWhere,
   LexerCause,
+  LinkFaultCause,
   NameClashCause,
   NoCarrierCause,
   NoFileCause,
@@ -22,11 +23,15 @@ ghost use Rattle.tydi_tool.specs.Causes as rows;
 ghost use Rattle.tydi_tool.specs.DriveLaw.{AcceptedPortsAreDriven, WrittenTracesAreDriven};
 ghost use Rattle.tydi_tool.specs.Laws.{OneAnswer, SomeAnswer};
 
+use link_check::projects_have_one_answer;
+
 /// The laws of answers: to given words and files there is an answer, and one.
 pub fn answers_are_one()
     ensures one { OneAnswer }
     ensures some { SomeAnswer }
-{}
+{
+    projects_have_one_answer();
+}
 
 /// The table of causes: each row's answer comes exactly where its cause stands in the words and the files, and each answer is of a
 /// row.
@@ -43,6 +48,7 @@ pub fn causes_are_told()
     ensures file_text { ExactlyWhere rows.TextFault TextFaultCause }
     ensures count_not_multiple { ExactlyWhere rows.CountNotMultiple CountNotMultipleCause }
     ensures not_finished { ExactlyWhere rows.NotFinished NotFinishedCause }
+    ensures link_fault { ExactlyWhere rows.NotLinked LinkFaultCause }
     ensures output_too_long { ExactlyWhere rows.OutputTooLong OutputTooLongCause }
     ensures offence { ExactlyWhere rows.AnOffence OffenceCause }
     ensures unfinished { ExactlyWhere rows.AnUnfinished UnfinishedCause }

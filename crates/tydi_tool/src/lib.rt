@@ -13,6 +13,7 @@ mod driving;
 mod ending;
 mod gather;
 mod laws;
+mod link;
 mod loading;
 mod making;
 mod output;

@@ -1,5 +1,5 @@
 ghost use Rattle.std.specs.Prelude.{◌≡◌, ◌&&◌, option_map};
-ghost use Rattle.tydi_tool.specs.Words.{request_of, request_from, is_word, check_request, read_request, split_request, drive_request, sim_request};
+ghost use Rattle.tydi_tool.specs.Words.{request_of, request_from, is_word, check_request, read_request, split_request, drive_request, sim_request, link_request};
 
 use tydi_base::Text;
 
@@ -40,6 +40,11 @@ pub enum Command<'a> {
         /// The file of the run.
         run: &'a Text,
     },
+    /// Check the links of a project, and write its nets.
+    Link {
+        /// The file of the project.
+        project: &'a Text,
+    },
 }
 
 /// The command that the words after the program's name spell. None exactly where they spell none. It takes no memory.
@@ -57,6 +62,8 @@ pub fn words_of<'a>(words: &'a [Text]) -> Option<Command<'a>>
         drive_of(rest)
     } else if command.as_str() == "sim" {
         sim_of(rest)
+    } else if command.as_str() == "link" {
+        link_of(rest)
     } else {
         None
     }
@@ -112,6 +119,15 @@ fn sim_of<'a>(words: &'a [Text]) -> Option<Command<'a>>
 {
     match words {
         [bench, run] if is_word(bench) && is_word(run) => Some(Command::Sim { bench, run }),
+        _ => None,
+    }
+}
+
+fn link_of<'a>(words: &'a [Text]) -> Option<Command<'a>>
+    ensures { option_map request_from result ≡ link_request words.now }
+{
+    match words {
+        [project] if is_word(project) => Some(Command::Link { project }),
         _ => None,
     }
 }

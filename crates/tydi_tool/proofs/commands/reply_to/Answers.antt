@@ -30,3 +30,11 @@ returns-in-Sim g c = record {
       (Rose (g.S.Store.faults c.args.store.now) (g.S.Store.faults c.sim.new.store)) (ask_of (request_from command)) c.sim.result)
       (sym c.in-Sim.is) c.sim.ensures.decided;
 }
+
+pub returns-in-Link : goal.returns-in-Link
+returns-in-Link g c = record {
+  decided = subst (λ (command : Command). Decides
+      (g.S.Store.files c.args.store.now) (g.S.Store.started c.args.store.now) (g.S.Store.started c.link.new.store)
+      (Rose (g.S.Store.faults c.args.store.now) (g.S.Store.faults c.link.new.store)) (ask_of (request_from command)) c.link.result)
+      (sym c.in-Link.is) c.link.ensures.decided;
+}

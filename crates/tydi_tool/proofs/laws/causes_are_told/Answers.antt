@@ -38,6 +38,9 @@ returns-clause-count_not_multiple c = exactly rows.CountNotMultiple
 pub returns-clause-not_finished : goal.returns-clause-not_finished
 returns-clause-not_finished c = exactly rows.NotFinished
 
+pub returns-clause-link_fault : goal.returns-clause-link_fault
+returns-clause-link_fault c = exactly rows.NotLinked
+
 pub returns-clause-output_too_long : goal.returns-clause-output_too_long
 returns-clause-output_too_long c = exactly rows.OutputTooLong
 
