@@ -1,6 +1,7 @@
 //! The tests of commands of several files: tables, and each call that fails in turn.
 
 use crate::drive_tables::{DRIVEN, UNDRIVEN};
+use crate::link_rows::LINKED;
 use crate::row::{NO_FAULTS, check_rows, expect, words_of};
 use crate::running::{Faults, Outcome, run_over};
 use crate::sim_tables::SIMULATED;
@@ -33,6 +34,13 @@ stream b lanes 1 dims 1 level 1 element 8 user 0 forward
 fn driven(rt: HostRuntime) -> Result<(), Fail> {
     assert!(rt; check_rows(&rt, DRIVEN, u16::MAX)? == 29);
     assert!(rt; check_rows(&rt, UNDRIVEN, u16::MAX)? == 14);
+    Ok(())
+}
+
+/// Designs with their nets.
+#[test]
+fn linked(rt: HostRuntime) -> Result<(), Fail> {
+    assert!(rt; check_rows(&rt, LINKED, u16::MAX)? == 16);
     Ok(())
 }
 

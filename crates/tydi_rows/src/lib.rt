@@ -24,6 +24,8 @@ mod layers;
 #[cfg(test)]
 mod levels;
 #[cfg(test)]
+mod link_rows;
+#[cfg(test)]
 mod link_tables;
 #[cfg(test)]
 mod links;
