@@ -1,15 +1,16 @@
 -- The bytes of a word of a width from digits whose ones stand below the width.
-use Rattle.std.proofs.Common.{inl, inr, ◌≡◌, ◌∙◌, sym, ℕ, zero, suc, ◌+◌, ◌-◌, ◌*◌, ◌/◌, ◌%◌, ◌^◌, ◌<◌, ◌≤◌, min, Bool, true, false, List, [], ◌∷◌, ◌++◌, length, take, drop, replicate, Option, Some, None, option_map, ap, arith, append_assoc}
-use Rattle.std.specs.Prelude.{MatchBool}
+use Rattle.std.proofs.Common.{inl, inr, ◌≡◌, ◌∙◌, sym, ℕ, zero, suc, ◌+◌, ◌-◌, ◌*◌, ◌/◌, ◌%◌, ◌^◌, ◌<◌, ◌≤◌, min, Bool, true, false, List, [], ◌∷◌, ◌++◌, length, take, drop, replicate, Option, Some, None, option_map, refl, ap, arith, append_assoc}
+use Rattle.std.specs.Prelude.{MatchBool, IfSome, Ok, ltb, if◌then◌else◌}
 use Rattle.std.proofs.lemmas.Bool.{cases_lt, lt-ltb, ltb-true}
 use Rattle.std.proofs.Math.Seq.{take-append-add}
 use Rattle.std.proofs.lemmas.List.{length-take, length-drop, drop-replicate, replicate-append-replicate, take-append-drop, take-append-le, take-replicate, take-take, take_all}
 use Rattle.tydi_base.specs.Bits.{bits_of, number_of_bits, zero_bits, unpack, IsPacked}
-use Rattle.tydi_base.specs.Hex.{bits_of_digits, no_ones, whole_bytes}
-use Rattle.tydi_base.specs.HexWords.{resized}
+use Rattle.tydi_base.specs.Hex.{bits_of_digits, fitted, no_ones, whole_bytes}
+use Rattle.tydi_base.specs.HexWords.{hex_bits, hex_word, resized}
 use Rattle.tydi_base.proofs.BitsLemmas.{unpack-append, unpack-replicate_zero}
 use Rattle.tydi_base.proofs.HexLemmas.{hex_of-digits, parts}
 use Rattle.tydi_base.proofs.HexBytes.{packed_fitted}
+use Rattle.tydi_base.proofs.HexWordLemmas.{hex_word-read}
 use Rattle.tydi_base.proofs.NumberLemmas.{no_ones-drop, number_of_bits-append, number_of_bits-zeros}
 
 -- ---- the lowest digits
@@ -155,3 +156,42 @@ packing_bits width used count digits new bits p =
           ∙ ap (λ (front : List Bool). take width (front ++ zero_bits (8 * count - 4 * used))) whole
           ∙ take_zeros width (8 * count - 4 * used) width bits (omega (arith, p.wide, p.is_used, p.is_count)) (omega arith)
     ]
+
+-- ---- few digits
+
+few_by : (width : ℕ) (digits : List ℕ) (bits : List Bool) (none : Bool)
+    → (none ≡ true → hex_word width digits ≡ Ok bits)
+    → IfSome (if none then Some bits else None) (λ bits. hex_word width digits ≡ Ok bits)
+few_by width digits bits true word = word refl
+few_by width digits bits false word = _
+
+-- a word in the bytes of digits that are no more than spell one
+pub few_hex_word : (width count : ℕ) (digits new : List ℕ)
+    → length digits ≤ (width + 3) / 4
+    → count ≡ width / 8 + min 1 (width % 8)
+    → length new ≡ count
+    → bits_of_digits digits ≡ Some (hex_bits digits)
+    → unpack new ≡ hex_bits digits ++ zero_bits (8 * count - 4 * length digits)
+    → IfSome (fitted width (unpack new)) (λ bits. hex_word width digits ≡ Ok bits)
+unfolding fitted
+few_hex_word width count digits new few is_count long are filled =
+    let bits = hex_bits digits
+    in let wide = hex_of-digits digits bits are
+    in let packs : Packing width (length digits) count digits new bits =
+    record {
+      is_used = omega arith;
+      is_count = is_count;
+      wide = wide.0;
+      long = long;
+      bits_are =
+          filled
+          ∙ ap (λ (front : List Bool). front ++ zero_bits (8 * count - 4 * length digits))
+          (sym (take_all (4 * length digits) bits (omega (arith, wide.0))));
+    }
+    in let same : no_ones (drop width (unpack new)) ≡ no_ones (drop width bits) =
+    no_ones-drop width (unpack new)
+    ∙ ap (λ (number : ℕ). ltb number (2 ^ width)) (ap number_of_bits filled ∙ number_of_bits-zeros bits (8 * count - 4 * length digits))
+    ∙ sym (no_ones-drop width bits)
+    in few_by width digits (take width (unpack new)) (no_ones (drop width (unpack new)))
+    (λ none. hex_word-read width digits are (sym same ∙ none)
+    ∙ ap (λ (bits : List Bool). Ok bits) (sym (packing_bits width (length digits) count digits new bits packs)))

@@ -1,16 +1,17 @@
 -- Words of a width from any number of digits: where the highest one stands, and which byte is no digit.
-use Rattle.std.proofs.Common.{◌≡◌, ◌∙◌, sym, ℕ, zero, suc, ◌+◌, ◌-◌, ◌^◌, ◌<◌, ◌≤◌, min, Bool, true, false, List, [], ◌∷◌, ◌++◌, length, get_or, take, drop, Option, Some, None, option_map, Ok, Err, refl, ap, arith}
+use Rattle.std.proofs.Common.{◌≡◌, ◌∙◌, sym, ℕ, zero, suc, ◌+◌, ◌-◌, ◌*◌, ◌%◌, ◌^◌, ◌<◌, ◌≤◌, min, Bool, true, false, List, [], ◌∷◌, ◌++◌, length, get_or, take, drop, Option, Some, None, option_map, Ok, Err, refl, ap, arith}
+use Rattle.std.specs.Prelude.{IsTrue, MatchBool}
 use Rattle.std.specs.List.{position_from}
 use Rattle.std.specs.Option.{is_none}
 use Rattle.std.proofs.lemmas.Bool.{le-ltb, lt-ltb}
 use Rattle.std.proofs.Math.Nat.{zero-add, suc-add}
 use Rattle.std.proofs.lemmas.List.{drop_more, drop_all, take_more}
-use Rattle.tydi_base.specs.Bits.{bits_of, number_of_bits}
-use Rattle.tydi_base.specs.Hex.{bits_of_digits, digit_of, no_ones}
+use Rattle.tydi_base.specs.Bits.{bits_of, number_of_bits, zero_bits}
+use Rattle.tydi_base.specs.Hex.{bits_of_digits, digit_of, no_ones, whole_bytes}
 use Rattle.tydi_base.specs.HexWords.{counted, first_not_hex, hex_bits, hex_fault, hex_word, highest_one, in_width, one_from, resized, value_in_width}
 use Rattle.tydi_base.specs.declared.hex_word.BitsFault.TheVariants as faults
 use Rattle.tydi_base.proofs.BitsLemmas.{length-bits_of, number_of_bits-bits_of}
-use Rattle.tydi_base.proofs.HexLemmas.{bits_of_digits-push}
+use Rattle.tydi_base.proofs.HexLemmas.{bits_of_digits-push, parts}
 
 -- ---- the highest one
 
@@ -322,3 +323,87 @@ pub hex_word-wide : (width index : ℕ) (digits : List ℕ)
     → (hex_word width digits ≡ Err (faults.TooWide index)) × (hex_fault (faults.TooWide index) ≡ Some (faults.TooWide index))
 hex_word-wide width index digits first was above =
     (wide_by width index digits (highest_one (hex_bits digits)) first refl was above, refl)
+
+-- ---- few digits
+
+-- the bits of digits that are read
+hex_bits-read : (digits : List ℕ) (bits : List Bool) → bits_of_digits digits ≡ Some bits → bits_of_digits digits ≡ Some (hex_bits digits)
+hex_bits-read digits bits are = are ∙ ap (λ (bits : List Bool). Some bits) (sym (hex_bits-some digits bits are))
+
+whole_by : (digits : List ℕ) (bytes : List Bool) (read : Option (List Bool))
+    → bits_of_digits digits ≡ read
+    → option_map (λ (bits : List Bool). bits ++ zero_bits (4 * (length digits % 2))) read ≡ Some bytes
+    → bits_of_digits digits ≡ Some (hex_bits digits)
+whole_by digits bytes None is_read whole = cc
+whole_by digits bytes (Some bits) is_read whole = hex_bits-read digits bits is_read
+
+-- digits that fill bytes
+hex_bits-whole : (digits : List ℕ) (bytes : List Bool) → whole_bytes digits ≡ Some bytes → bits_of_digits digits ≡ Some (hex_bits digits)
+unfolding whole_bytes
+hex_bits-whole digits bytes whole = whole_by digits bytes (bits_of_digits digits) refl whole
+
+pub hex_bits-filled : (digits : List ℕ) (bytes : List Bool) (whole : Bool)
+    → MatchBool whole (whole_bytes digits ≡ Some bytes) (bits_of_digits digits ≡ None)
+    → IsTrue whole
+    → bits_of_digits digits ≡ Some (hex_bits digits)
+hex_bits-filled digits bytes true filled holds = hex_bits-whole digits bytes filled
+hex_bits-filled digits bytes false filled holds = cc
+
+-- each byte of digits that are read is a digit
+all_digits : (digits : List ℕ) (bits : List Bool) (index : ℕ)
+    → bits_of_digits digits ≡ Some bits
+    → position_from (λ byte. is_none (digit_of byte)) index digits ≡ None
+all_digits [] bits index are = refl
+all_digits (digit ∷ digits) bits index are =
+    let p = parts digit digits bits are
+    in rw p.value_is (all_digits digits p.low (index + 1) p.low_is)
+
+highest_one-none_of : (bits : List Bool) → no_ones bits ≡ true → highest_one bits ≡ None
+unfolding highest_one one_from no_ones
+highest_one-none_of [] none = refl
+highest_one-none_of (true ∷ bits) none = cc
+highest_one-none_of (false ∷ bits) none = rw (highest_one-none_of bits none) refl
+
+below_by : (width : ℕ) (bit : Bool) (index : ℕ) (highest : Option ℕ)
+    → ((place : ℕ) → highest ≡ Some place → place < width)
+    → one_from bit highest ≡ Some index
+    → index < suc width
+unfolding one_from
+below_by width bit index (Some place) within is_index =
+    let next : suc place ≡ index = cc
+    in omega (arith, within place refl)
+below_by width true index None within is_index =
+    let first : 0 ≡ index = cc
+    in omega arith
+below_by width false index None within is_index = cc
+
+highest_one-below : (width : ℕ) (bits : List Bool) (index : ℕ)
+    → no_ones (drop width bits) ≡ true
+    → highest_one bits ≡ Some index
+    → index < width
+unfolding highest_one
+highest_one-below zero bits index none is_index = absurd (differ (highest_one-none_of bits none) is_index)
+  where
+    differ : {highest : Option ℕ} → highest ≡ None → highest ≡ Some index → ⊥
+    differ none some = cc
+highest_one-below (suc width) [] index none is_index = cc
+highest_one-below (suc width) (bit ∷ bits) index none is_index =
+    below_by width bit index (highest_one bits) (λ place is_place. highest_one-below width bits place none is_place) is_index
+
+in_width_by : (width : ℕ) (bits : List Bool) (highest : Option ℕ)
+    → ((place : ℕ) → highest ≡ Some place → place < width)
+    → in_width width bits highest ≡ Ok (resized width bits)
+unfolding in_width
+in_width_by width bits None within = refl
+in_width_by width bits (Some index) within = rw (lt-ltb index width (within index refl)) refl
+
+-- the word of digits whose ones stand below the width
+pub hex_word-read : (width : ℕ) (digits : List ℕ)
+    → bits_of_digits digits ≡ Some (hex_bits digits)
+    → no_ones (drop width (hex_bits digits)) ≡ true
+    → hex_word width digits ≡ Ok (resized width (hex_bits digits))
+unfolding hex_word value_in_width
+hex_word-read width digits are none =
+    let first : first_not_hex digits ≡ None = sym (first_not_hex-start digits) ∙ all_digits digits (hex_bits digits) 0 are
+    in rw first
+    (in_width_by width (hex_bits digits) (highest_one (hex_bits digits)) (λ index is_index. highest_one-below width (hex_bits digits) index none is_index))

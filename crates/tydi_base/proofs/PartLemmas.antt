@@ -1,6 +1,7 @@
 -- Parts of bytes: some bits of them read, and some bits of one written.
 use Rattle.std.proofs.Common.{◌≡◌, ◌∙◌, sym, ℕ, zero, suc, ◌+◌, ◌-◌, ◌*◌, ◌/◌, ◌%◌, ◌^◌, ◌<◌, ◌≤◌, Bool, List, [], ◌∷◌, ◌++◌, length, get_or, take, drop, refl, ap, arith, append_assoc}
 use Rattle.std.proofs.Math.Nat.{mul_comm, pow-le-pow_right}
+use Rattle.std.proofs.Math.Seq.{take-append-add}
 use Rattle.std.proofs.lemmas.List.{append-nil, drop-append-le, drop-drop, drop_at, drop_more, take-append-le, take_at}
 use Rattle.std.proofs.lemmas.Nat.{mod_below, mul-add-lt, pow-add, pow_pos, shr_below, shr_split}
 use Rattle.tydi_base.specs.Bits.{bits_of, unpack, written_at}
@@ -52,7 +53,7 @@ part-bits_of width skip count more number rest is_width =
 
 -- ---- a part of bytes
 
-drop-unpack : (index : ℕ) (bytes : List ℕ) → drop (8 * index) (unpack bytes) ≡ unpack (drop index bytes)
+pub drop-unpack : (index : ℕ) (bytes : List ℕ) → drop (8 * index) (unpack bytes) ≡ unpack (drop index bytes)
 drop-unpack zero bytes = refl
 drop-unpack (suc index) [] = rw unpack-nil (nothing (8 * suc index))
   where
@@ -66,6 +67,21 @@ drop-unpack (suc index) (byte ∷ bytes) =
     ∙ ap (λ (bits : List Bool). drop (8 * index) (drop 8 bits)) (unpack-cons byte bytes)
     ∙ ap (drop (8 * index)) (drop_at (bits_of 8 byte) (unpack bytes) 8 (length-bits_of 8 byte))
     ∙ drop-unpack index bytes
+
+pub take-unpack_bytes : (count : ℕ) (bytes : List ℕ) → take (8 * count) (unpack bytes) ≡ unpack (take count bytes)
+take-unpack_bytes zero bytes = sym unpack-nil
+take-unpack_bytes (suc count) [] = rw unpack-nil (nothing (8 * suc count))
+  where
+    nothing : (count : ℕ) → ◌≡◌ {A = List Bool} (take count []) []
+    nothing zero = refl
+    nothing (suc count) = refl
+take-unpack_bytes (suc count) (byte ∷ bytes) =
+    let places : 8 * suc count ≡ length (bits_of 8 byte) + 8 * count = omega (arith, length-bits_of 8 byte)
+    in ap (λ (count : ℕ). take count (unpack (byte ∷ bytes))) places
+    ∙ ap (take (length (bits_of 8 byte) + 8 * count)) (unpack-cons byte bytes)
+    ∙ take-append-add (bits_of 8 byte) (unpack bytes) (8 * count)
+    ∙ ap (λ (bits : List Bool). bits_of 8 byte ++ bits) (take-unpack_bytes count bytes)
+    ∙ sym (unpack-cons byte (take count bytes))
 
 low_byte : (count number : ℕ) → count ≤ 8 → bits_of count (number % 256) ≡ bits_of count number
 low_byte count number few =

@@ -1,11 +1,13 @@
 -- The bytes of words copied and compared, and parts of them copied, byte by byte.
-use Rattle.std.proofs.Common.{inl, inr, false, replicate, ◌≡◌, ◌∙◌, sym, ℕ, suc, ◌+◌, ◌-◌, ◌*◌, ◌/◌, ◌%◌, ◌<◌, ◌≤◌, min, Bool, List, [], ◌∷◌, ◌++◌, length, get_or, set, take, drop, refl, ap, arith, length-append, append_assoc}
+use Rattle.std.proofs.Common.{inl, inr, false, replicate, ◌≡◌, ◌∙◌, sym, ℕ, suc, ◌+◌, ◌-◌, ◌*◌, ◌/◌, ◌%◌, ◌^◌, ◌<◌, ◌≤◌, min, Bool, List, [], ◌∷◌, ◌++◌, length, get_or, set, take, drop, refl, ap, arith, length-append, append_assoc}
 use Rattle.std.specs.Prelude.{bytes_eq, nat_eq}
 use Rattle.std.proofs.lemmas.Bool.Decides.{nat_tests}
 use Rattle.std.proofs.Math.Seq.{take-add, take-append-add, drop-append-add}
 use Rattle.std.proofs.lemmas.List.{append-nil, drop-append-le, drop-drop, drop_all, drop_at, drop_more, length-take, length-drop, length-replicate, replicate-append-replicate, set_split, take-append-le, take-append-drop, take_all, take_at}
 use Rattle.std.specs.List.{AllClonesOf, AppendsClonesOf, refill}
+use borrow.Rule.Slice.PartMut.{put_mid}
 use Rattle.tydi_base.specs.Bits.{bits_of, unpack, written_at, zero_bits, IsPacked}
+use Rattle.tydi_base.proofs.PartLemmas.{drop-unpack, part-pair, take-unpack_bytes}
 use Rattle.tydi_base.proofs.BitsLemmas.{length-bits_of, length-unpack, length_packed, packed_whole, refill_whole, unpack-append, unpack-cons, unpack-replicate_zero}
 
 -- ---- one byte
@@ -65,6 +67,11 @@ written_at-more at first word bits room =
     ∙ ap (λ (count : ℕ). take at bits ++ first ++ word ++ drop count bits) all
     ∙ ap (λ (low : List Bool). low ++ drop (at + length (first ++ word)) bits) (append_assoc (take at bits) first word)
 
+-- all of a word written
+pub written_at-whole : (part word : List Bool) → length part ≡ length word → written_at 0 part word ≡ part
+written_at-whole part word same =
+    ap (λ (rest : List Bool). part ++ rest) (drop_all (0 + length part) word (omega arith)) ∙ append-nil part
+
 -- bits written among others that have more before and behind them
 written_at-within : (front bits rest word : List Bool) (place : ℕ)
     → place + length word ≤ length bits
@@ -118,33 +125,119 @@ unpack-set_part bytes index place byte word within few byte_is =
     ∙ ap (λ (count : ℕ). written_at (count + place) word (unpack (take index bytes) ++ (bits_of 8 (get_or bytes index 0) ++ unpack (drop (index + 1) bytes)))) front
     ∙ ap (written_at (8 * index + place) word) (sym old)
 
--- one byte more of a copy
-pub copied_more : (bytes old source : List ℕ) (at from done step part byte : ℕ)
-    → at + done + step ≤ 8 * length old
-    → from + done + step ≤ 8 * length source
-    → (at + done) % 8 + step ≤ 8
-    → 0 < step
-    → unpack bytes ≡ written_at at (take done (drop from (unpack source))) (unpack old)
-    → bits_of step part ≡ take step (drop (from + done) (unpack source))
-    → bits_of 8 byte ≡ written_at ((at + done) % 8) (bits_of step part) (bits_of 8 (get_or bytes ((at + done) / 8) 0))
-    → unpack (set bytes ((at + done) / 8) byte) ≡ written_at at (take (done + step) (drop from (unpack source))) (unpack old)
-copied_more bytes old source at from done step part byte room within few some was part_is byte_is =
+-- ---- whole bytes copied
+
+pub copied_whole : (bytes source new : List ℕ) (at from count : ℕ)
+    → at % 8 ≡ 0
+    → from % 8 ≡ 0
+    → at + count ≤ 8 * length bytes
+    → from + count ≤ 8 * length source
+    → new ≡ take (count / 8) (drop (from / 8) source)
+    → unpack (put_mid (at / 8) (count / 8) bytes new) ≡ written_at at (take (8 * (count / 8)) (drop from (unpack source))) (unpack bytes)
+copied_whole bytes source new at from count begins source_begins room within is_new =
+    let at_is : at ≡ 8 * (at / 8) = omega arith
+    in let from_is : from ≡ 8 * (from / 8) = omega arith
+    in let word : take (8 * (count / 8)) (drop from (unpack source)) ≡ unpack new =
+    ap (λ (place : ℕ). take (8 * (count / 8)) (drop place (unpack source))) from_is
+    ∙ ap (take (8 * (count / 8))) (drop-unpack (from / 8) source)
+    ∙ take-unpack_bytes (count / 8) (drop (from / 8) source)
+    ∙ ap unpack (sym is_new)
+    in let long : length new ≡ count / 8 =
+    ap length is_new ∙ length-take (count / 8) (drop (from / 8) source) ∙ omega (arith, length-drop (from / 8) source)
+    in let low : take at (unpack bytes) ≡ unpack (take (at / 8) bytes) =
+    ap (λ (place : ℕ). take place (unpack bytes)) at_is ∙ take-unpack_bytes (at / 8) bytes
+    in let place_is : at + length (unpack new) ≡ 8 * (at / 8 + count / 8) = omega (arith, length-unpack new)
+    in let high : drop (at + length (unpack new)) (unpack bytes) ≡ unpack (drop (at / 8 + count / 8) bytes) =
+    ap (λ (place : ℕ). drop place (unpack bytes)) place_is ∙ drop-unpack (at / 8 + count / 8) bytes
+    in let rest : drop (count / 8) (drop (at / 8) bytes) ≡ drop (at / 8 + count / 8) bytes = drop-drop (count / 8) (at / 8) bytes
+    in ap (λ (rest : List ℕ). unpack (take (at / 8) bytes ++ (new ++ rest))) rest
+    ∙ unpack-append (take (at / 8) bytes) (new ++ drop (at / 8 + count / 8) bytes)
+    ∙ ap (λ (bits : List Bool). unpack (take (at / 8) bytes) ++ bits) (unpack-append new (drop (at / 8 + count / 8) bytes))
+    ∙ sym (append_assoc (unpack (take (at / 8) bytes)) (unpack new) (unpack (drop (at / 8 + count / 8) bytes)))
+    ∙ ap (λ (bits : List Bool). bits ++ unpack new ++ unpack (drop (at / 8 + count / 8) bytes)) (sym low)
+    ∙ ap (λ (bits : List Bool). take at (unpack bytes) ++ unpack new ++ bits) (sym high)
+    ∙ ap (λ (word : List Bool). written_at at word (unpack bytes)) (sym word)
+
+-- bits copied behind others
+pub copied_on : (old mid new source : List ℕ) (at from done count : ℕ)
+    → at + count ≤ 8 * length old
+    → from + count ≤ 8 * length source
+    → done ≤ count
+    → unpack mid ≡ written_at at (take done (drop from (unpack source))) (unpack old)
+    → unpack new ≡ written_at (at + done) (take (count - done) (drop (from + done) (unpack source))) (unpack mid)
+    → unpack new ≡ written_at at (take count (drop from (unpack source))) (unpack old)
+copied_on old mid new source at from done count room within few was now =
     let first = take done (drop from (unpack source))
+    in let word = take (count - done) (drop (from + done) (unpack source))
     in let first_long : length first ≡ done =
     length-take done (drop from (unpack source)) ∙ omega (arith, length-drop from (unpack source), length-unpack source)
-    in let word_long : length (bits_of step part) ≡ step = length-bits_of step part
+    in let word_long : length word ≡ count - done =
+    length-take (count - done) (drop (from + done) (unpack source)) ∙ omega (arith, length-drop (from + done) (unpack source), length-unpack source)
+    in let place : at + done ≡ at + length first = omega arith
+    in let both : first ++ word ≡ take (done + (count - done)) (drop from (unpack source)) =
+    ap (λ (bits : List Bool). first ++ take (count - done) bits) (sym (drop-drop done from (unpack source)))
+    ∙ sym (take-add done (count - done) (drop from (unpack source)))
+    in let all : done + (count - done) ≡ count = omega arith
+    in now
+    ∙ ap (λ (place : ℕ). written_at place word (unpack mid)) place
+    ∙ ap (written_at (at + length first) word) was
+    ∙ written_at-more at first word (unpack old) (omega (arith, length-unpack old))
+    ∙ ap (λ (word : List Bool). written_at at word (unpack old)) both
+    ∙ ap (λ (count : ℕ). written_at at (take count (drop from (unpack source))) (unpack old)) all
+
+-- a part of one byte copied
+pub copied_part : (bytes source : List ℕ) (at from count part byte : ℕ)
+    → at + count ≤ 8 * length bytes
+    → at % 8 + count ≤ 8
+    → 0 < count
+    → bits_of count part ≡ take count (drop from (unpack source))
+    → bits_of 8 byte ≡ written_at (at % 8) (bits_of count part) (bits_of 8 (get_or bytes (at / 8) 0))
+    → unpack (set bytes (at / 8) byte) ≡ written_at at (take count (drop from (unpack source))) (unpack bytes)
+copied_part bytes source at from count part byte room few some part_is byte_is =
+    let long : length (bits_of count part) ≡ count = length-bits_of count part
+    in let place : 8 * (at / 8) + at % 8 ≡ at = omega arith
+    in unpack-set_part bytes (at / 8) (at % 8) byte (bits_of count part) (omega arith) (omega arith) byte_is
+    ∙ ap (λ (place : ℕ). written_at place (bits_of count part) (unpack bytes)) place
+    ∙ ap (λ (word : List Bool). written_at at word (unpack bytes)) part_is
+
+-- a byte more of a copy, of two bytes of the source
+pub copied_shifted : (bytes old source : List ℕ) (at from done byte : ℕ)
+    → at % 8 ≡ 0
+    → at + 8 * done + 8 ≤ 8 * length old
+    → from + 8 * done + 8 ≤ 8 * length source
+    → 0 < from % 8
+    → get_or source (from / 8 + done) 0 < 256
+    → byte ≡ (get_or source (from / 8 + done) 0 + 256 * get_or source (from / 8 + done + 1) 0) / 2 ^ (from % 8) % 256
+    → unpack bytes ≡ written_at at (take (8 * done) (drop from (unpack source))) (unpack old)
+    → unpack (set bytes (at / 8 + done) byte) ≡ written_at at (take (8 * (done + 1)) (drop from (unpack source))) (unpack old)
+copied_shifted bytes old source at from done byte begins room within skips fits byte_is was =
+    let here : (from + 8 * done) / 8 ≡ from / 8 + done = omega arith
+    in let place : (from + 8 * done) % 8 ≡ from % 8 = omega arith
+    in let to : (at + 8 * done) / 8 ≡ at / 8 + done = omega arith
+    in let to_place : (at + 8 * done) % 8 ≡ 0 = omega arith
+    in let pair = get_or source (from / 8 + done) 0 + 256 * get_or source (from / 8 + done + 1) 0
+    in let pair_is : pair ≡ get_or source ((from + 8 * done) / 8) 0 + 256 * get_or source ((from + 8 * done) / 8 + 1) 0 =
+    ap (λ (index : ℕ). get_or source index 0 + 256 * get_or source (index + 1) 0) (sym here)
+    in let part : bits_of 8 byte ≡ take 8 (drop (from + 8 * done) (unpack source)) =
+    ap (bits_of 8) byte_is
+    ∙ ap (λ (place : ℕ). bits_of 8 (pair / 2 ^ place % 256)) (sym place)
+    ∙ part-pair source (from + 8 * done) 8 pair (omega arith) (omega arith) (rw here fits) pair_is
+    in let long : length (bits_of 8 byte) ≡ 8 = length-bits_of 8 byte
     in let many : length (unpack bytes) ≡ length (unpack old) =
-    ap length was ∙ length-written_at at first (unpack old) (omega (arith, length-unpack old))
-    in let place : 8 * ((at + done) / 8) + (at + done) % 8 ≡ at + length first = omega arith
-    in let next : first ++ bits_of step part ≡ take (done + step) (drop from (unpack source)) =
-    ap (λ (bits : List Bool). first ++ bits) (part_is ∙ ap (take step) (sym (drop-drop done from (unpack source))))
-    ∙ sym (take-add done step (drop from (unpack source)))
-    in unpack-set_part bytes ((at + done) / 8) ((at + done) % 8) byte (bits_of step part)
-    (omega (arith, many, length-unpack bytes, length-unpack old)) (omega arith) byte_is
-    ∙ ap (λ (count : ℕ). written_at count (bits_of step part) (unpack bytes)) place
-    ∙ ap (written_at (at + length first) (bits_of step part)) was
-    ∙ written_at-more at first (bits_of step part) (unpack old) (omega (arith, length-unpack old))
-    ∙ ap (λ (word : List Bool). written_at at word (unpack old)) next
+    ap length was ∙ length-written_at at (take (8 * done) (drop from (unpack source))) (unpack old)
+    (omega (arith, length-unpack old, length-take (8 * done) (drop from (unpack source))))
+    in let written : unpack (set bytes ((at + 8 * done) / 8) byte)
+    ≡ written_at (at + 8 * done) (take 8 (drop (from + 8 * done) (unpack source))) (unpack bytes) =
+    copied_part bytes source (at + 8 * done) (from + 8 * done) 8 byte byte
+    (omega (arith, many, length-unpack bytes, length-unpack old)) (omega arith) (omega arith)
+    part
+    (sym (ap (λ (place : ℕ). written_at place (bits_of 8 byte) (bits_of 8 (get_or bytes ((at + 8 * done) / 8) 0))) to_place
+    ∙ written_at-whole (bits_of 8 byte) (bits_of 8 (get_or bytes ((at + 8 * done) / 8) 0))
+    (long ∙ sym (length-bits_of 8 (get_or bytes ((at + 8 * done) / 8) 0)))))
+    in let one : 8 * (done + 1) - 8 * done ≡ 8 = omega arith
+    in ap (λ (index : ℕ). unpack (set bytes index byte)) (sym to)
+    ∙ copied_on old bytes (set bytes ((at + 8 * done) / 8) byte) source at from (8 * done) (8 * (done + 1)) (omega arith) (omega arith) (omega arith) was
+    (rw one written)
 
 -- ---- words
 
@@ -212,11 +305,6 @@ copied width other at from count old new source word other_word packed word_is p
     in rw (refill_whole old new same)
     (copied_by width at old new (take count (drop from other_word)) word packed word_is (omega arith) same
     (written ∙ ap (λ (part : List Bool). written_at at part (unpack old)) part))
-
--- all of a word written
-pub written_at-whole : (part word : List Bool) → length part ≡ length word → written_at 0 part word ≡ part
-written_at-whole part word same =
-    ap (λ (rest : List Bool). part ++ rest) (drop_all (0 + length part) word (omega arith)) ∙ append-nil part
 
 -- all of a word, as a part of it
 pub whole_part : (word : List Bool) (count : ℕ) → count ≡ length word → take count (drop 0 word) ≡ word

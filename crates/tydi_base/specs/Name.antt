@@ -6,10 +6,10 @@ use Rattle.std.specs.Str.{bytes_eq}
 use Rattle.tydi_base.specs.declared.name.Letters.{Letters}
 use Rattle.tydi_base.specs.declared.name.Letters.TheVariants as letters
 
--- the bytes that a name keeps, in place or in a block of their own. This project's own.
+-- the bytes that a name keeps, in place or in a block that its copies share. This project's own.
 abbrev pub letters_of : Letters → List ℕ
 letters_of (letters.Few few) = few
-letters_of (letters.Many many) = many
+letters_of (letters.Many many) = many.value
 
 -- an ASCII letter, a digit or `_`
 abbrev pub is_name_byte : ℕ → Bool

@@ -1,4 +1,4 @@
-ghost use Rattle.std.specs.Prelude.{◌≡◌, ◌↔◌, ◌+◌, ◌*◌, ◌/◌, ◌<◌, not, false, Some, None, get_or, set, drop, length, IsTrue, IfOk, MatchBool, OnOk, OnErr, ◌++◌, ◌-◌, ◌≤◌, take};
+ghost use Rattle.std.specs.Prelude.{◌≡◌, ◌↔◌, ◌+◌, ◌*◌, ◌/◌, ◌<◌, not, false, Some, None, get_or, set, drop, length, IsTrue, IfOk, IfSome, Ok, MatchBool, OnOk, OnErr, ◌++◌, ◌-◌, ◌≤◌, take};
 ghost use Rattle.std.proofs.Common.{rules};
 ghost use Rattle.std.proofs.Math.Bool.{beq};
 ghost use Rattle.std.specs.Cmp.Lexicographic.{pointwise};
@@ -12,7 +12,7 @@ ghost use Rattle.tydi_base.specs.Writing.{StandsInFront};
 
 use crate::hex::write_digits;
 use crate::hex_digits::fill_digits;
-use crate::hex_word::{BitsFault, hex_fault_of, packed_digits};
+use crate::hex_word::{BitsFault, fill_low, hex_fault_of, packed_digits};
 use crate::list::List;
 use crate::memory::Memory;
 use crate::numbers::{number_of, push_number};
@@ -101,6 +101,32 @@ impl Bits {
     /// The word of this width that these hexadecimal digits spell, the highest first: any number of them, and none are zero. It
     /// fails with the first byte that is no digit; else with the highest one at or above the width; and with `Memory`.
     pub fn from_hex(alloc: Global, width: usize, digits: &[u8]) -> Result<Bits, BitsFault>
+        ensures { Gives hex_fault (λ bits. bits) result (hex_word width digits.now) }
+    {
+        if digits.len() > width.div_ceil(4) {
+            return Bits::from_any_hex(alloc, width, digits);
+        }
+        match Bits::from_few_hex(alloc, width, digits) {
+            Ok(Some(word)) => Ok(word),
+            Ok(None) => Bits::from_any_hex(alloc, width, digits),
+            Err(Memory) => Err(BitsFault::Memory),
+        }
+    }
+
+    // The word of digits that are no more than spell a word of this width. None where they spell none.
+    fn from_few_hex(alloc: Global, width: usize, digits: &[u8]) -> Result<Option<Bits>, Memory>
+        requires { length digits.now ≤ (width + 3) / 4 }
+        ensures { IfOk result (λ read. IfSome read (λ bits. hex_word width digits.now ≡ Ok bits)) }
+    {
+        let mut bytes = SmallVec::from_elem(alloc, 0, width.div_ceil(8))?;
+        if !fill_low(digits, bytes.as_mut_slice()) {
+            return Ok(None);
+        }
+        Ok(fitted(width, bytes))
+    }
+
+    // What `from_hex` gives, whose fault is found first.
+    fn from_any_hex(alloc: Global, width: usize, digits: &[u8]) -> Result<Bits, BitsFault>
         ensures { Gives hex_fault (λ bits. bits) result (hex_word width digits.now) }
     {
         if let Some(fault) = hex_fault_of(width, digits) {

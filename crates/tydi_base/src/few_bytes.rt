@@ -48,4 +48,13 @@ impl FewBytes {
     {
         &self.places[..usize::from(self.count)]
     }
+    /// A copy of them. It takes no memory.
+    pub(crate) fn copied(&self) -> FewBytes
+        ensures { result ≡ self.now }
+    {
+        FewBytes {
+            count: self.count,
+            places: self.places,
+        }
+    }
 }

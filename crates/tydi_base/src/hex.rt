@@ -1,4 +1,4 @@
-ghost use Rattle.std.specs.Prelude.{◌≡◌, ◌+◌, ◌-◌, ◌*◌, ◌/◌, ◌^◌, ◌<◌, ◌≤◌, ◌++◌, take, [], ℕ, List, Bool, Some, None, length, IfSome, OnOk, OnErr};
+ghost use Rattle.std.specs.Prelude.{◌≡◌, ◌+◌, ◌-◌, ◌*◌, ◌/◌, ◌%◌, ◌^◌, ◌<◌, ◌≤◌, ◌++◌, take, [], ℕ, List, Bool, Some, None, length, IfSome, OnOk, OnErr};
 ghost use Rattle.tydi_base.specs.Bits.{bits_of, unpack};
 ghost use Rattle.tydi_base.specs.Hex.{hex_digit, hex_of, digit_of, byte_of_digits, word_at};
 ghost use Rattle.tydi_base.specs.Writing.{StandsInFront};
@@ -62,6 +62,7 @@ pub(crate) fn byte_value(high: u8, low: u8) -> Option<u8>
 }
 
 // The digit of this value, lower case.
+#[inline(always)]
 #[tactic(auto, unfolding(crate::specs::Hex::hex_digit))]
 fn hex_digit(value: u8) -> u8
     requires { value < 16 }
@@ -91,12 +92,82 @@ pub(crate) fn write_digits(bytes: &[u8], count: usize, out: &mut List<u8>) -> Re
     ensures ok { OnOk result (out.new ≡ out.old ++ hex_of (take (4 * count) (unpack bytes.now))) }
     ensures err { OnErr result (StandsInFront out.old out.new) }
 {
+    let low = count / 16 * 16;
+    write_high(bytes, low, count, out)?;
+    write_blocks(bytes, low, out)
+}
+
+// The same of the digits above so many.
+#[inline(always)]
+fn write_high(bytes: &[u8], low: usize, count: usize, out: &mut List<u8>) -> Result<(), Memory>
+    requires within { count ≤ 2 * length bytes.now }
+    requires low { low ≤ count }
+    ensures ok { OnOk result (out.new ++ hex_of (take (4 * low) (unpack bytes.now)) ≡ out.old ++ hex_of (take (4 * count) (unpack bytes.now))) }
+    ensures front { StandsInFront out.old out.new }
+{
     let mut at = count;
-    'digits: while at > 0 {
+    'digits: while at > low {
         at -= 1;
         out.push(hex_digit(four_bits(bytes, at)))?;
     }
     Ok(())
+}
+
+// The same of sixteen digits after another.
+fn write_blocks(bytes: &[u8], count: usize, out: &mut List<u8>) -> Result<(), Memory>
+    requires within { count ≤ 2 * length bytes.now }
+    requires whole { count % 16 ≡ 0 }
+    ensures ok { OnOk result (out.new ≡ out.old ++ hex_of (take (4 * count) (unpack bytes.now))) }
+    ensures err { OnErr result (StandsInFront out.old out.new) }
+{
+    let mut at = count / 2;
+    'sixteens: while at > 0 {
+        at -= 8;
+        out.extend_from_slice(&block_digits(&bytes[at..at + 8]))?;
+    }
+    Ok(())
+}
+
+// The digits of eight bytes, the highest first.
+#[inline(always)]
+fn block_digits(bytes: &[u8]) -> [u8; 16]
+    requires { length bytes.now ≡ 8 }
+    ensures { result ≡ hex_of (unpack bytes.now) }
+{
+    [
+        high_digit(bytes[7]),
+        low_digit(bytes[7]),
+        high_digit(bytes[6]),
+        low_digit(bytes[6]),
+        high_digit(bytes[5]),
+        low_digit(bytes[5]),
+        high_digit(bytes[4]),
+        low_digit(bytes[4]),
+        high_digit(bytes[3]),
+        low_digit(bytes[3]),
+        high_digit(bytes[2]),
+        low_digit(bytes[2]),
+        high_digit(bytes[1]),
+        low_digit(bytes[1]),
+        high_digit(bytes[0]),
+        low_digit(bytes[0]),
+    ]
+}
+
+// The digit of the high half of a byte.
+#[inline(always)]
+fn high_digit(byte: u8) -> u8
+    ensures { result ≡ hex_digit (byte / 16) }
+{
+    hex_digit(byte / 16)
+}
+
+// The digit of the low half of a byte.
+#[inline(always)]
+fn low_digit(byte: u8) -> u8
+    ensures { result ≡ hex_digit (byte % 16) }
+{
+    hex_digit(byte % 16)
 }
 
 /// How many hexadecimal digits a word of this width has.

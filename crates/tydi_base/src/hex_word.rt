@@ -1,6 +1,6 @@
 //! A word of a width from any number of hexadecimal digits, the highest first.
 
-ghost use Rattle.std.specs.Prelude.{◌≡◌, ◌+◌, ◌-◌, ◌*◌, ◌/◌, ◌<◌, ◌≤◌, ◌++◌, ℕ, List, Bool, true, None, Some, Ok, Err, drop, take, length, replicate, option_map, IfOk, MatchOption, MatchResult};
+ghost use Rattle.std.specs.Prelude.{◌≡◌, ◌+◌, ◌-◌, ◌*◌, ◌/◌, ◌<◌, ◌≤◌, ◌++◌, ℕ, List, Bool, true, None, Some, Ok, Err, drop, take, length, replicate, option_map, IfOk, IsTrue, MatchOption, MatchResult};
 ghost use Rattle.tydi_base.specs.Bits.{bits_of, unpack, zero_bits, IsPacked};
 ghost use Rattle.tydi_base.specs.Hex.{bits_of_digits, no_ones};
 ghost use Rattle.tydi_base.specs.HexWords.{counted, fault_text, first_not_hex, hex_bits, hex_fault, hex_word, highest_one, resized};
@@ -122,11 +122,14 @@ pub(crate) fn packed_digits(
     Ok(bytes)
 }
 
-// Fills bytes of zeros with these digits, the last two in the first byte. The bytes past them stay zeros.
-fn fill_low(digits: &[u8], bytes: &mut [u8])
+/// Fills bytes of zeros with these digits, the last two in the first byte. The bytes past them stay zeros. False where one of the
+/// digits is none.
+pub(crate) fn fill_low(digits: &[u8], bytes: &mut [u8]) -> bool
     requires room { (length digits.now + 1) / 2 ≤ length bytes.old }
     requires zeros { bytes.old ≡ replicate (length bytes.old) 0 }
-    ensures { (bits : List Bool) → bits_of_digits digits.now ≡ Some bits → unpack bytes.new ≡ bits ++ zero_bits (8 * length bytes.old - 4 * length digits.now) }
+    ensures digits { IsTrue result → bits_of_digits digits.now ≡ Some (hex_bits digits.now) }
+    ensures bits { (bits : List Bool) → bits_of_digits digits.now ≡ Some bits
+        → unpack bytes.new ≡ bits ++ zero_bits (8 * length bytes.old - 4 * length digits.now) }
 {
-    fill_digits(digits, &mut bytes[..digits.len().div_ceil(2)]);
+    fill_digits(digits, &mut bytes[..digits.len().div_ceil(2)])
 }

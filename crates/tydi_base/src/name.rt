@@ -4,30 +4,30 @@ ghost use Rattle.std.specs.Prelude.{◌≡◌, IsTrue, IfOk, OnErr};
 ghost use Rattle.std.specs.List.{list_all};
 ghost use Rattle.tydi_base.specs.Name as spec;
 
-use crate::boxed::Boxed;
 use crate::few_bytes::FewBytes;
 use crate::list::List;
 use crate::memory::Memory;
 use crate::try_clone::TryClone;
 use std::alloc::Global;
 use std::marker::Model;
+use std::rc::Rc;
 
 /// The byte that may join the words of a name.
 const UNDERSCORE: u8 = b'_';
 
 /// A name (Tydi specification, names): ASCII letters, digits and `_`, with a letter first, no two `_` together, no `_`
 /// last, and not one of the words `Null`, `Bits`, `Group`, `Union` and `Stream`. Contracts see its bytes. One of up to 15 bytes takes
-/// no memory.
+/// no memory. A copy shares its bytes with it, so that it takes no memory either.
 #[derive(Debug, Drop)]
 pub struct Name {
     letters: Letters,
 }
 
-/// The bytes of a name: few in place, or more in a block of their own.
+/// The bytes of a name: few in place, or more in a block that its copies share.
 #[derive(Debug, Drop)]
 enum Letters {
     Few(FewBytes),
-    Many(Boxed<List<u8>>),
+    Many(Rc<List<u8>>),
 }
 
 // trees hold a name for each name of a text, so that its size counts
@@ -74,7 +74,7 @@ impl Letters {
             return Ok(Letters::Few(few));
         }
         let many = List::from_slice(alloc, text)?;
-        Ok(Letters::Many(Boxed::new(alloc, many)?))
+        Ok(Letters::Many(Rc::new(alloc, many)?))
     }
 
     fn as_slice(&self) -> &[u8]
@@ -82,7 +82,17 @@ impl Letters {
     {
         match self {
             Letters::Few(few) => few.as_slice(),
-            Letters::Many(many) => many.get().as_slice(),
+            Letters::Many(many) => many.as_slice(),
+        }
+    }
+
+    /// The same bytes, in place again or with one more owner of their block.
+    fn copied(&self, _alloc: Global) -> Result<Letters, Memory>
+        ensures { IfOk result (λ letters. spec.letters_of letters ≡ spec.letters_of self.now) }
+    {
+        match self {
+            Letters::Few(few) => Ok(Letters::Few(few.copied())),
+            Letters::Many(many) => Ok(Letters::Many(many.clone()?)),
         }
     }
 }
@@ -90,7 +100,7 @@ impl Letters {
 impl TryClone for Name {
     fn try_clone(&self, alloc: Global) -> Result<Name, Memory> {
         Ok(Name {
-            letters: Letters::new(alloc, self.letters.as_slice())?,
+            letters: self.letters.copied(alloc)?,
         })
     }
 }

@@ -14,7 +14,7 @@ packs : (c : After-fill_low)
 packs c =
     packing c.args.width c.min-used.result c.div_ceil-count.result (length c.as_mut_slice.result.now) c.args.digits.now _
     c.fill_low.new.bytes (hex_bits c.args.digits.now) (omega arith) c.div_ceil-count.ensures c.requires.digits
-    (take_rest c.args.digits.now (length c.args.digits.now - c.min-used.result)) c.fill_low.ensures c.fill_low.auto.bytes
+    (take_rest c.args.digits.now (length c.args.digits.now - c.min-used.result)) c.fill_low.ensures.bits c.fill_low.auto.bytes
     (ap length c.as_mut_slice.ensures.value ∙ c.in_ok-bytes.ensures.len)
 
 pub returns-clause-packed : goal.returns-clause-packed
