@@ -12,7 +12,7 @@ use Rattle.physical_stream.specs.declared.end.End.TheVariants as ends
 use Rattle.physical_stream.specs.declared.head.Head.{Head}
 use Rattle.complexity_rules.specs.Checking.{StandsFor, params_in}
 use Rattle.complexity_rules.specs.declared.checker.Checker.{Checker}
-use Rattle.cycle_trace.specs.declared.counts.Counts.{Counts}
+use Rattle.cycle_trace.specs.declared.surveying.counts.Counts.{Counts}
 use Rattle.cycle_trace.specs.Trace.{TraceText, cycles_of_stream, row_in, streams_from, streams_of}
 use Rattle.cycle_trace.specs.Survey.{Surveys, UnfinishedStream, counts_of, first_unfinished, or_unfinished, survey_of}
 use Rattle.cycle_trace.specs.Surveying.{AreChecked, IsChecked, offends_in, unseen}

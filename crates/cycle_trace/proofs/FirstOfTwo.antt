@@ -1,15 +1,13 @@
 -- The first offence by two kinds of rule.
-use Rattle.std.proofs.Common.{◌≡◌, ◌⊎◌, inl, inr, ℕ, Bool, true, false, if◌then◌else◌, List, Option, None, Some, Result, Ok, Err, refl, arith}
+use Rattle.std.proofs.Common.{◌≡◌, inl, inr, ℕ, Bool, true, false, if◌then◌else◌, List, Option, None, Some, Result, Ok, Err, refl, arith}
 use Rattle.std.proofs.lemmas.Bool.Decides.{nat_tests}
 use Rattle.physical_stream.specs.Cycles.{StreamTrace}
 use Rattle.physical_stream.specs.First.{Offence, IsNotAfter, IsFirst}
-use Rattle.physical_stream.specs.Rules.{number_of_rule}
-use Rattle.physical_stream.specs.declared.end.End.{End}
 use Rattle.physical_stream.specs.declared.rule.Rule.{Rule}
 use Rattle.cycle_trace.specs.Survey.{Answers, OffendsByEither, Surveys, UnfinishedStream, counts_of, earlier_of, first_unfinished, found_with, is_not_after, offence_fault, survey_of}
-use Rattle.cycle_trace.specs.declared.counts.Counts.{Counts}
-use Rattle.cycle_trace.specs.declared.counts.SurveyFault.{SurveyFault}
-use Rattle.cycle_trace.specs.declared.counts.SurveyFault.TheVariants as faults
+use Rattle.cycle_trace.specs.declared.surveying.counts.Counts.{Counts}
+use Rattle.cycle_trace.specs.declared.surveying.counts.SurveyFault.{SurveyFault}
+use Rattle.cycle_trace.specs.declared.surveying.counts.SurveyFault.TheVariants as faults
 
 IsNotAfter-after : (a b c : Offence) → IsNotAfter a b → IsNotAfter b c → IsNotAfter a c
 IsNotAfter-after a b c ab bc = grind arith

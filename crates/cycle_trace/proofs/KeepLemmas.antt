@@ -13,7 +13,7 @@ use Rattle.physical_stream.specs.declared.head.Header.{Header}
 use Rattle.cycle_trace.specs.Trace.{TraceText, IsTrace, cycle_of, cycles_of, owed, params_of_heads, text_of}
 use Rattle.cycle_trace.specs.KeepView.{IsBegun}
 use Rattle.cycle_trace.specs.RowSink.{CanTake, with_row}
-use Rattle.cycle_trace.specs.declared.own_row.OwnRow.{OwnRow}
+use Rattle.cycle_trace.specs.declared.trace.OwnRow.{OwnRow}
 use Rattle.tydi_base.proofs.PlaceLemmas.{slice_get-front, slice_get-next, slice_get-there}
 use Rattle.cycle_trace.proofs.RowsLemmas.{length-owed_heads}
 

@@ -8,7 +8,7 @@ use Rattle.signal_layout.specs.declared.layout.Signals.{Signals}
 use Rattle.signal_layout.specs.Layout.{is_present, bits_of_signal, where_present, width_of, width_in}
 use Rattle.cycle_trace.specs.RowText.{has_payload}
 use Rattle.cycle_trace.specs.RowLayout.{IsWord, has_payload_in}
-use Rattle.cycle_trace.specs.declared.row_layout.WordSignal.{WordSignal}
+use Rattle.cycle_trace.specs.declared.row.layout.WordSignal.{WordSignal}
 
 some_where : (present : Bool) (width : ℕ) → is_some (where_present present width) ≡ present
 some_where true width = refl

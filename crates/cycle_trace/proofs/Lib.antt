@@ -23,4 +23,5 @@ pub mod BeginningLemmas
 pub mod KeepLemmas
 pub mod RowsReadLemmas
 pub mod ReaderLemmas
+pub mod FirstOfAll
 pub mod FirstOfTwo

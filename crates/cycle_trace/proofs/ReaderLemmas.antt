@@ -9,15 +9,17 @@ use Rattle.tydi_base.specs.Pieces.{Lacks, lines_of}
 use Rattle.cycle_trace.specs.HeaderText.{header_start_of, header_start_after}
 use Rattle.cycle_trace.specs.Faults.{fault_in}
 use Rattle.cycle_trace.specs.LineBegun.{Begins, IsSoFar}
-use Rattle.cycle_trace.specs.ReaderView.{AfterLine, AfterRow, HoldsHeader, HoldsLine, IsInHeader, StandsAt, StaysCalm, StaysFailed, is_past_header}
+use Rattle.cycle_trace.specs.ReaderView.{AfterLine, AfterRow, HoldsHeader, HoldsLine, OpensAt, Stands, StandsAt, StaysCalm, StaysFailed, is_past_header}
 use Rattle.cycle_trace.specs.Trace.{TraceText}
 use Rattle.cycle_trace.specs.declared.fault.TraceFault.{TraceFault}
 use Rattle.cycle_trace.specs.declared.fault.TraceFault.TheVariants.{BadHeader, BadRow, Memory, RowsLeft, RowsMissing, TooManyCycles, WrongSignals}
-use Rattle.cycle_trace.specs.declared.line_begun.LineBegun.{LineBegun}
-use Rattle.cycle_trace.specs.declared.row_form.RowForm.{RowForm}
-use Rattle.cycle_trace.specs.declared.text_read.Stage.{Stage}
-use Rattle.cycle_trace.specs.declared.text_read.Stage.TheVariants as stages
-use Rattle.cycle_trace.specs.declared.text_read.TextRead.{TextRead}
+use Rattle.cycle_trace.specs.declared.reader.line_begun.LineBegun.{LineBegun}
+use Rattle.cycle_trace.specs.declared.row.form.RowForm.{RowForm}
+use Rattle.cycle_trace.specs.declared.reader.text.HeaderPart.{HeaderPart}
+use Rattle.cycle_trace.specs.declared.reader.text.HeaderPart.TheVariants as parts
+use Rattle.cycle_trace.specs.declared.reader.text.Stage.{Stage}
+use Rattle.cycle_trace.specs.declared.reader.text.Stage.TheVariants as stages
+use Rattle.cycle_trace.specs.declared.reader.text.TextRead.{TextRead}
 use Rattle.cycle_trace.proofs.BeginningLemmas.{Fails-more, Opens-more, OpensWith-more, GoesOn-more, none_held, past-Heads}
 use Rattle.cycle_trace.proofs.HeaderLemmas.{header_start_after-one, header_start_of-one}
 
@@ -25,14 +27,25 @@ use Rattle.cycle_trace.proofs.HeaderLemmas.{header_start_after-one, header_start
 pub plain-none : Lacks 10 []
 plain-none = All-nil (λ byte. byte ≢ 10)
 
+OpensAt-more : (text : TextRead) (part : HeaderPart) (line bytes more : List ℕ) → OpensAt text part line bytes → OpensAt text part (line ++ more) (bytes ++ more)
+OpensAt-more text parts.Title line bytes more h = (h.0, Opens-more bytes line more header_start_of h.1)
+OpensAt-more text parts.Cycles line bytes more h = (h.0, Opens-more bytes line more (header_start_after text.version) h.1)
+OpensAt-more text parts.Heads line bytes more h = OpensWith-more bytes line more text.version text.cycles text.heads text.paths h
+
 module _ {K : Type 0} (stands : K → Option TraceText → Type 0) (sink : K) (text : TextRead) where
   -- the line that is begun goes on
   pub StandsAt-more : (stage : Stage) (line bytes more : List ℕ) → Lacks 10 more → StandsAt stands sink text stage line bytes → StandsAt stands sink text stage (line ++ more) (bytes ++ more)
-  StandsAt-more stages.Title line bytes more plain h = (h.0, All-append (λ byte. byte ≢ 10) line more h.1 plain, h.2, Opens-more bytes line more header_start_of h.3)
-  StandsAt-more stages.Cycles line bytes more plain h = (h.0, All-append (λ byte. byte ≢ 10) line more h.1 plain, h.2, Opens-more bytes line more (header_start_after text.version) h.3)
-  StandsAt-more stages.Heads line bytes more plain h = (h.0, All-append (λ byte. byte ≢ 10) line more h.1 plain, OpensWith-more bytes line more text.version text.cycles text.heads text.paths h.2)
+  StandsAt-more (stages.Header part) line bytes more plain h = (h.0, All-append (λ byte. byte ≢ 10) line more h.1 plain, OpensAt-more text part line bytes more h.2)
   StandsAt-more stages.Rows line bytes more plain h = (h.0, (h.1.0, All-append (λ byte. byte ≢ 10) line more h.1.1 plain, h.1.2, GoesOn-more bytes line more h.0 h.1.3))
   StandsAt-more (stages.Failed fault) line bytes more plain h = Fails-more bytes more fault h
+
+-- the facts known within the rows, and in a part of the header
+pub in_rows : {K : Type 0} (stands : K → Option TraceText → Type 0) (sink : K) (text : TextRead) (line bytes : List ℕ) → text.stage ≡ stages.Rows → Stands stands sink text line bytes → StandsAt stands sink text stages.Rows line bytes
+in_rows stands sink text line bytes is h = subst (λ (s : Stage). StandsAt stands sink text s line bytes) is h
+
+pub in_header : {K : Type 0} (stands : K → Option TraceText → Type 0) (sink : K) (text : TextRead) (line bytes : List ℕ) (part at : HeaderPart) → text.stage ≡ stages.Header part → part ≡ at → Stands stands sink text line bytes
+    → StandsAt stands sink text (stages.Header at) line bytes
+in_header stands sink text line bytes part at is same h = subst (λ (s : Stage). StandsAt stands sink text s line bytes) (is ∙ ap stages.Header same) h
 
 -- the line of a row is one of the text
 pub after_row-line : {K : Type 0} (stands : K → Option TraceText → Type 0) (sink : K) (text : TextRead) (bytes : List ℕ) (result : Result (Unit {0}) TraceFault) → text.stage ≡ stages.Rows → AfterRow stands sink text.rows bytes result → AfterLine stands sink text bytes result
@@ -62,28 +75,19 @@ FedSoFar-all piece rest Old Now New h last bytes old = subst New (append_assoc b
 pub plain-first : (text front : List ℕ) (others : List (List ℕ)) → lines_of text ≡ front ∷ others → Lacks 10 front
 plain-first text front others is = All-head (Lacks 10) front others (subst (λ (lines : List (List ℕ)). All (Lacks 10) lines) is (pieces_of-each_lacks 10 text))
 
--- the facts known within a piece, where the sink is fixed or not as it was
-pub record Feeds (old new : Stage) (was is : Bool) (So : Type 0) : Type 0 where
+-- the facts known within a piece, where the sink is fixed or not as it was, and has the setting that it had
+pub record Feeds {Setting : Type 0} (old new : Stage) (was is : Bool) (had has : Setting) (So : Type 0) : Type 0 where
   pub so_far : So
   pub spent : StaysFailed old new
   pub fixed : is ≡ was
+  pub setting : has ≡ had
   pub calm : StaysCalm was old new
 
 -- ---- the line that is begun
 
--- a line of the header is whole
-pub header_line : (stage : Stage) (room : ℕ) (begun : LineBegun) (line : List ℕ) → IsInHeader stage → HoldsLine stage room begun line → Begins begun line × (begun.long ≡ None)
-header_line stages.Title room begun line is h = h
-header_line stages.Cycles room begun line is h = h
-header_line stages.Heads room begun line is h = h
-header_line stages.Rows room begun line is h = absurd is
-header_line (stages.Failed fault) room begun line is h = absurd is
-
 -- no line is begun
 pub holds_none : (stage : Stage) (room : ℕ) (begun : LineBegun) → Begins begun [] → begun.long ≡ None → (stage ≡ stages.Rows → begun.room ≡ room) → HoldsLine stage room begun []
-holds_none stages.Title room begun begins whole same = (begins, whole)
-holds_none stages.Cycles room begun begins whole same = (begins, whole)
-holds_none stages.Heads room begun begins whole same = (begins, whole)
+holds_none (stages.Header part) room begun begins whole same = (begins, whole)
 holds_none stages.Rows room begun begins whole same = (begins, same refl)
 holds_none (stages.Failed fault) room begun begins whole same = tt
 
@@ -113,9 +117,12 @@ spent_or_past Memory = inl refl
 -- where the bytes hold a header and a line after it, the header is read
 pub past_header : {K : Type 0} (stands : K → Option TraceText → Type 0) (sink : K) (text : TextRead) (stage : Stage) (line bytes : List ℕ) → StandsAt stands sink text stage line bytes → HoldsHeader bytes
     → (stage ≡ stages.Failed Memory) ⊎ (is_past_header stage ≡ true)
-past_header stands sink text stages.Title line bytes h held = absurd (none_held bytes line h.1 header_start_of h.3 (BadHeader 1) (header_start_of-one line) held)
-past_header stands sink text stages.Cycles line bytes h held = absurd (none_held bytes line h.1 (header_start_after text.version) h.3 (BadHeader 2) (header_start_after-one text.version line) held)
-past_header stands sink text stages.Heads line bytes h held = absurd (past-Heads bytes line h.1 text.version text.cycles text.heads text.paths h.2 held)
+past_header stands sink text (stages.Header part) line bytes h held = absurd (not_in_header part h.2)
+  where
+    not_in_header : (part : HeaderPart) → OpensAt text part line bytes → ⊥
+    not_in_header parts.Title opens = none_held bytes line h.1 header_start_of opens.1 (BadHeader 1) (header_start_of-one line) held
+    not_in_header parts.Cycles opens = none_held bytes line h.1 (header_start_after text.version) opens.1 (BadHeader 2) (header_start_after-one text.version line) held
+    not_in_header parts.Heads opens = past-Heads bytes line h.1 text.version text.cycles text.heads text.paths opens held
 past_header stands sink text stages.Rows line bytes h held = inr refl
 past_header stands sink text (stages.Failed fault) line bytes h held = spent_or_past fault
 

@@ -12,9 +12,9 @@ use Rattle.tydi_base.specs.Pieces.{words_of}
 use Rattle.cycle_trace.specs.RowForm.{Goes, IsForm, fits, is_spelled, row_keys}
 use Rattle.cycle_trace.specs.RowText.{are_signals, has_form, is_dash, is_payload, is_value, row_fault}
 use Rattle.cycle_trace.specs.declared.fault.TraceFault.TheVariants.{BadRow, WrongSignals}
-use Rattle.cycle_trace.specs.declared.row_form.RowForm.{RowForm}
-use Rattle.cycle_trace.specs.declared.row_form.RowForm.TheVariants as forms
-use Rattle.cycle_trace.specs.declared.row_form.ValueKind.{ValueKind}
+use Rattle.cycle_trace.specs.declared.row.form.RowForm.{RowForm}
+use Rattle.cycle_trace.specs.declared.row.form.RowForm.TheVariants as forms
+use Rattle.cycle_trace.specs.declared.row.form.ValueKind.{ValueKind}
 
 -- ---- a byte more
 

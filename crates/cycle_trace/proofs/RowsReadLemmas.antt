@@ -15,9 +15,9 @@ use Rattle.physical_stream.specs.Signals.{Shows}
 use Rattle.physical_stream.specs.declared.head.Head.{Head}
 use Rattle.physical_stream.specs.declared.transfer.Transfer.{Transfer}
 use Rattle.cycle_trace.specs.declared.fault.TraceFault.{TraceFault}
-use Rattle.cycle_trace.specs.declared.row_fields.RowBits.{RowBits}
-use Rattle.cycle_trace.specs.declared.rows_read.RowsRead.{RowsRead}
-use Rattle.cycle_trace.specs.declared.stream_rows.StreamRows.{StreamRows}
+use Rattle.cycle_trace.specs.declared.row.fields.RowBits.{RowBits}
+use Rattle.cycle_trace.specs.declared.reader.rows.RowsRead.{RowsRead}
+use Rattle.cycle_trace.specs.declared.row.fields.StreamRows.{StreamRows}
 use Rattle.cycle_trace.specs.Faults.{fault_in}
 use Rattle.cycle_trace.specs.ReaderView.{ReadsRows, kept_of}
 use Rattle.cycle_trace.specs.RowKept.{cycle_in}

@@ -19,7 +19,7 @@ use Rattle.complexity_rules.specs.declared.checker.Checker.{Checker}
 use Rattle.cycle_trace.specs.Trace.{TraceText, cycles_of_stream, most_cycles, owed, params_of_heads, streams_of}
 use Rattle.cycle_trace.specs.RowSink.{CanTake, with_row}
 use Rattle.cycle_trace.specs.Surveying.{IsChecked, IsNextRow, RowsSay, offence_of, offends_in}
-use Rattle.cycle_trace.specs.declared.survey_outcome.FoundOffence.{FoundOffence}
+use Rattle.cycle_trace.specs.declared.surveying.outcome.FoundOffence.{FoundOffence}
 use Rattle.tydi_base.proofs.PlaceLemmas.{same_or_other, slice_get-there, slice_get-set_same, slice_get-set_other}
 use Rattle.cycle_trace.proofs.RowsLemmas.{length-owed_heads, owed_at, some_stream, turn_below}
 use Rattle.physical_stream.proofs.AddedLemmas.{AddsOffences, HasMore, IsFirst-here, IsFirst-none, IsFirst-stays}

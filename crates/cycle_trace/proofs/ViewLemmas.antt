@@ -9,7 +9,7 @@ use Rattle.physical_stream.specs.Signals.{Shows}
 use Rattle.physical_stream.specs.declared.head.Head.{Head}
 use Rattle.physical_stream.specs.declared.head.Header.{Header}
 use Rattle.physical_stream.specs.declared.transfer.Transfer.{Transfer}
-use Rattle.cycle_trace.specs.declared.own_row.OwnRow.{OwnRow}
+use Rattle.cycle_trace.specs.declared.trace.OwnRow.{OwnRow}
 use Rattle.cycle_trace.specs.Trace.{IsTrace, cycle_of, cycles_of, row_in, text_of}
 use Rattle.cycle_trace.specs.TraceView.{IsShownIn}
 use Rattle.cycle_trace.proofs.RowsLemmas.{length-owed_heads, owed_at}

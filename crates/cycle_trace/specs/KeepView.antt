@@ -5,8 +5,8 @@ use Rattle.physical_stream.specs.Signals.{Shows}
 use Rattle.physical_stream.specs.Cycles.{Cycle}
 use Rattle.physical_stream.specs.declared.transfer.Transfer.{Transfer}
 use Rattle.cycle_trace.specs.Trace.{TraceText, IsTrace, are_heads, most_cycles, owed, params_of_heads, text_of}
-use Rattle.cycle_trace.specs.declared.keep.Keep.{Keep}
-use Rattle.cycle_trace.specs.declared.keep.Kept.{Kept}
+use Rattle.cycle_trace.specs.declared.trace.keep.Keep.{Keep}
+use Rattle.cycle_trace.specs.declared.trace.keep.Kept.{Kept}
 
 -- the beginning of a trace: a header, and rows that are not more than it asks for, each one that its stream can show
 pub record IsBegun (t : TraceText) : Type 0 where

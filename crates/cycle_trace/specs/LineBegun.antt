@@ -2,8 +2,8 @@
 use Rattle.std.specs.Prelude.{◌≡◌, ℕ, ◌≤◌, ◌<◌, List, length, Option, Some, None, Result, Ok, Err, vec_capacity}
 use Rattle.std.specs.Borrow.{Bor}
 use Rattle.cycle_trace.specs.RowForm.{IsForm}
-use Rattle.cycle_trace.specs.declared.line_begun.LineBegun.{LineBegun}
-use Rattle.cycle_trace.specs.declared.row_form.RowForm.{RowForm}
+use Rattle.cycle_trace.specs.declared.reader.line_begun.LineBegun.{LineBegun}
+use Rattle.cycle_trace.specs.declared.row.form.RowForm.{RowForm}
 
 -- a line is longer than any row, and has this form so far
 pub record IsLong (form : RowForm) (room : ℕ) (line : List ℕ) : Type 0 where

@@ -13,15 +13,17 @@ use Rattle.cycle_trace.specs.Surveying.{IsNextRow}
 use Rattle.tydi_base.specs.TextSet.{HasTexts}
 use Rattle.cycle_trace.specs.Trace.{TraceText, most_cycles, params_of_heads}
 use Rattle.cycle_trace.specs.declared.fault.TraceFault.{TraceFault}
-use Rattle.cycle_trace.specs.declared.line_begun.LineBegun.{LineBegun}
+use Rattle.cycle_trace.specs.declared.reader.line_begun.LineBegun.{LineBegun}
 use Rattle.cycle_trace.specs.declared.fault.TraceFault.TheVariants.{Memory}
-use Rattle.cycle_trace.specs.declared.row_fields.RowBits.{RowBits}
-use Rattle.cycle_trace.specs.declared.rows_read.RowsRead.{RowsRead}
-use Rattle.cycle_trace.specs.declared.stream_rows.StreamRows.{StreamRows}
-use Rattle.cycle_trace.specs.declared.text_read.Stage.{Stage}
-use Rattle.cycle_trace.specs.declared.text_read.Stage.TheVariants as stages
-use Rattle.cycle_trace.specs.declared.text_read.TextRead.{TextRead}
-use Rattle.cycle_trace.specs.declared.trace_reader.TraceReader.{TraceReader}
+use Rattle.cycle_trace.specs.declared.row.fields.RowBits.{RowBits}
+use Rattle.cycle_trace.specs.declared.reader.rows.RowsRead.{RowsRead}
+use Rattle.cycle_trace.specs.declared.row.fields.StreamRows.{StreamRows}
+use Rattle.cycle_trace.specs.declared.reader.text.HeaderPart.{HeaderPart}
+use Rattle.cycle_trace.specs.declared.reader.text.HeaderPart.TheVariants as parts
+use Rattle.cycle_trace.specs.declared.reader.text.Stage.{Stage}
+use Rattle.cycle_trace.specs.declared.reader.text.Stage.TheVariants as stages
+use Rattle.cycle_trace.specs.declared.reader.text.TextRead.{TextRead}
+use Rattle.cycle_trace.specs.declared.reader.trace_reader.TraceReader.{TraceReader}
 
 -- rows are read after this header and these rows
 pub record ReadsRows (rows : RowsRead) (t : TraceText) : Type 0 where
@@ -56,30 +58,26 @@ OpensText text line bytes = OpensWith bytes line text.version text.cycles text.h
 abbrev pub header_read : TextRead → TraceText
 header_read text = begun text.cycles text.heads
 
+-- how the text may go on, where this part of the header comes next
+abbrev pub OpensAt : TextRead → HeaderPart → (line bytes : List ℕ) → Type 0
+OpensAt text parts.Title line bytes = HasNoHeads text × Opens bytes line header_start_of
+OpensAt text parts.Cycles line bytes = HasNoHeads text × Opens bytes line (header_start_after text.version)
+OpensAt text parts.Heads line bytes = OpensText text line bytes
+
 -- the facts known where this is the line that is begun
 abbrev pub StandsAt : {K : Type 0} → (K → Option TraceText → Type 0) → K → TextRead → Stage → (line bytes : List ℕ) → Type 0
-StandsAt stands sink text stages.Title line bytes = stands sink None × Lacks 10 line × HasNoHeads text × Opens bytes line header_start_of
-StandsAt stands sink text stages.Cycles line bytes = stands sink None × Lacks 10 line × HasNoHeads text × Opens bytes line (header_start_after text.version)
-StandsAt stands sink text stages.Heads line bytes = stands sink None × Lacks 10 line × OpensText text line bytes
+StandsAt stands sink text (stages.Header part) line bytes = stands sink None × Lacks 10 line × OpensAt text part line bytes
 StandsAt stands sink text stages.Rows line bytes = (t : TraceText) × (stands sink (Some t) × Lacks 10 line × ReadsRows text.rows t × GoesOn bytes line t)
 StandsAt stands sink text (stages.Failed fault) line bytes = Fails bytes fault
 
 abbrev pub Stands : {K : Type 0} → (K → Option TraceText → Type 0) → K → TextRead → (line bytes : List ℕ) → Type 0
 Stands stands sink text line bytes = StandsAt stands sink text text.stage line bytes
 
--- the header is being read
-abbrev pub IsInHeader : Stage → Type 0
-IsInHeader stages.Title = Unit {0}
-IsInHeader stages.Cycles = Unit {0}
-IsInHeader stages.Heads = Unit {0}
-IsInHeader stages.Rows = ⊥
-IsInHeader (stages.Failed fault) = ⊥
-
 -- the line that is begun is this, where it is looked at
 abbrev pub HoldsLine : Stage → (room : ℕ) → LineBegun → List ℕ → Type 0
+HoldsLine (stages.Header part) room begun line = Begins begun line × (begun.long ≡ None)
 HoldsLine stages.Rows room begun line = Begins begun line × (begun.room ≡ room)
 HoldsLine (stages.Failed fault) room begun line = Unit {0}
-HoldsLine stage room begun line = Begins begun line × (begun.long ≡ None)
 
 -- the same, of a text that is read so far
 abbrev pub Holds : TextRead → LineBegun → List ℕ → Type 0
@@ -99,9 +97,9 @@ StaysFailed old new = (fault : TraceFault) → old ≡ stages.Failed fault → n
 
 -- the header is read, and memory did not run out
 abbrev pub is_past_header : Stage → Bool
+is_past_header (stages.Header part) = false
 is_past_header stages.Rows = true
 is_past_header (stages.Failed fault) = is_some (fault_in fault)
-is_past_header stage = false
 
 -- a stage after the header, without want of memory, stays one, where the sink is fixed
 abbrev pub StaysCalm : Bool → (old new : Stage) → Type 0

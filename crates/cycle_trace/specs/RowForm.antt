@@ -7,10 +7,10 @@ use Rattle.tydi_base.specs.Decimal.{is_decimal}
 use Rattle.tydi_base.specs.Hex.{digit_of}
 use Rattle.tydi_base.specs.Pieces.{words_of}
 use Rattle.cycle_trace.specs.RowText.{are_signals, has_form, is_bit, is_hex, is_payload}
-use Rattle.cycle_trace.specs.declared.row_form.RowForm.{RowForm}
-use Rattle.cycle_trace.specs.declared.row_form.RowForm.TheVariants as forms
-use Rattle.cycle_trace.specs.declared.row_form.ValueKind.{ValueKind}
-use Rattle.cycle_trace.specs.declared.row_form.ValueKind.TheVariants as kinds
+use Rattle.cycle_trace.specs.declared.row.form.RowForm.{RowForm}
+use Rattle.cycle_trace.specs.declared.row.form.RowForm.TheVariants as forms
+use Rattle.cycle_trace.specs.declared.row.form.ValueKind.{ValueKind}
+use Rattle.cycle_trace.specs.declared.row.form.ValueKind.TheVariants as kinds
 
 -- the keys of the signals, in their order
 abbrev pub row_keys : List ℕ

@@ -2,7 +2,7 @@
 use Rattle.std.specs.Prelude.{Bool, if◌then◌else◌, Option, Some, None}
 use Rattle.physical_stream.specs.Cycles.{Cycle}
 use Rattle.physical_stream.specs.declared.transfer.Transfer.{Transfer}
-use Rattle.cycle_trace.specs.declared.row_fields.RowBits.{RowBits}
+use Rattle.cycle_trace.specs.declared.row.fields.RowBits.{RowBits}
 
 -- the transfer, where valid is 1
 abbrev pub shown_in : Transfer → Bool → Option Transfer

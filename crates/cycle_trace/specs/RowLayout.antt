@@ -6,7 +6,7 @@ use Rattle.physical_stream.specs.Signals.{has_content, has_last, has_stai, has_e
 use Rattle.physical_stream.specs.declared.head.Head.{Head}
 use Rattle.signal_layout.specs.declared.layout.Signals.{Signals}
 use Rattle.cycle_trace.specs.RowText.{has_payload}
-use Rattle.cycle_trace.specs.declared.row_layout.WordSignal.{WordSignal}
+use Rattle.cycle_trace.specs.declared.row.layout.WordSignal.{WordSignal}
 
 -- some signal besides valid and ready has a width
 abbrev pub has_payload_in : Signals → Bool

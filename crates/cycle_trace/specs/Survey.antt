@@ -7,9 +7,9 @@ use Rattle.physical_stream.specs.Ending.{ending_of}
 use Rattle.physical_stream.specs.Counts.{transfers_of, packets_of}
 use Rattle.physical_stream.specs.declared.end.End.{End}
 use Rattle.physical_stream.specs.declared.end.End.TheVariants as ends
-use Rattle.cycle_trace.specs.declared.counts.Counts.{Counts}
-use Rattle.cycle_trace.specs.declared.counts.SurveyFault.{SurveyFault}
-use Rattle.cycle_trace.specs.declared.counts.SurveyFault.TheVariants as faults
+use Rattle.cycle_trace.specs.declared.surveying.counts.Counts.{Counts}
+use Rattle.cycle_trace.specs.declared.surveying.counts.SurveyFault.{SurveyFault}
+use Rattle.cycle_trace.specs.declared.surveying.counts.SurveyFault.TheVariants as faults
 
 -- the transfers and the packets that each stream has done
 abbrev pub counts_of : List StreamTrace → Counts

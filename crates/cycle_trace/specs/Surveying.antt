@@ -8,8 +8,8 @@ use Rattle.complexity_rules.specs.Checking.{StandsFor, params_in}
 use Rattle.complexity_rules.specs.declared.checker.Checker.{Checker}
 use Rattle.cycle_trace.specs.Trace.{TraceText, most_cycles, streams_of}
 use Rattle.cycle_trace.specs.Survey.{UnfinishedStream}
-use Rattle.cycle_trace.specs.declared.survey_outcome.FoundOffence.{FoundOffence}
-use Rattle.cycle_trace.specs.declared.survey_outcome.FoundUnfinished.{FoundUnfinished}
+use Rattle.cycle_trace.specs.declared.surveying.outcome.FoundOffence.{FoundOffence}
+use Rattle.cycle_trace.specs.declared.surveying.outcome.FoundUnfinished.{FoundUnfinished}
 
 abbrev pub offence_of : FoundOffence → Offence
 offence_of found = record { cycle = found.cycle; stream = found.stream; rule = found.rule }

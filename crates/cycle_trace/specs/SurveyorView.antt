@@ -3,9 +3,9 @@ use Rattle.std.specs.Prelude.{◌≡◌, Option, Some, None}
 use Rattle.cycle_trace.specs.Survey.{Answers}
 use Rattle.cycle_trace.specs.Surveying.{RowsSay, SurveysRows, offends_in}
 use Rattle.cycle_trace.specs.Trace.{TraceText, streams_of}
-use Rattle.cycle_trace.specs.declared.survey_run.SurveyRun.{SurveyRun}
-use Rattle.cycle_trace.specs.declared.surveyor.Surveyor.{Surveyor}
-use Rattle.cycle_trace.specs.declared.surveyed.Surveyed.{Surveyed}
+use Rattle.cycle_trace.specs.declared.surveying.run.SurveyRun.{SurveyRun}
+use Rattle.cycle_trace.specs.declared.surveying.surveyor.Surveyor.{Surveyor}
+use Rattle.cycle_trace.specs.declared.surveying.surveyed.Surveyed.{Surveyed}
 
 -- a survey that has begun stands for this header and the rows so far
 abbrev pub RunStands : SurveyRun → TraceText → Type 0

@@ -11,7 +11,7 @@ use Rattle.physical_stream.specs.Cycles.{Cycle, StreamTrace}
 use Rattle.physical_stream.specs.declared.transfer.Transfer.{Transfer}
 use Rattle.physical_stream.specs.declared.head.Head.{Head}
 use Rattle.physical_stream.specs.declared.head.Header.{Header}
-use Rattle.cycle_trace.specs.declared.own_row.OwnRow.{OwnRow}
+use Rattle.cycle_trace.specs.declared.trace.OwnRow.{OwnRow}
 
 -- a trace as plain data: its header, and its rows, by cycle and in each cycle by stream
 pub record TraceText : Type 0 where

@@ -13,12 +13,14 @@ ghost use Rattle.cycle_trace.specs.Trace.{are_heads, most_cycles};
 ghost use Rattle.cycle_trace.specs.Version.{version_of};
 ghost use Rattle.cycle_trace.specs.Writing.{spaced};
 
-use crate::row_bytes::{DATA_KEY, ENDI_KEY, LAST_KEY, STAI_KEY, STRB_KEY, USER_KEY};
+use crate::row::bytes::{DATA_KEY, ENDI_KEY, LAST_KEY, STAI_KEY, STRB_KEY, USER_KEY};
 use crate::version::Version;
 use physical_stream::{Head, Header, Params, Row, StreamLine, Transfer};
 use signal_layout::Signals;
 use std::alloc::Global;
 use tydi_base::{Bits, EQUALS, Hex, List, Memory, SPACE, Written, emit};
+
+pub(crate) mod lengths;
 
 /// Adds the text of a header at the end: version 1 where each of its levels has one number, else version 2. After `Memory` the
 /// list is as before.

@@ -1,7 +1,7 @@
 -- The text of a type, stream after stream.
-use Rattle.std.proofs.Common.{◌≡◌, ℕ, ◌+◌, ◌<◌, inr, true, false, nat_lt, List, [], ◌∷◌, ◌++◌, length, map, get_or, take, drop, slice_get, Option, Some, option_map, All, refl, sym, ap, ◌∙◌, subst, append_assoc, arith}
+use Rattle.std.proofs.Common.{◌≡◌, ℕ, ◌+◌, ◌-◌, ◌<◌, inr, Bool, true, false, leb, nat_lt, if◌then◌else◌, option_and_then, None, Result, Ok, Err, IfOk, List, [], ◌∷◌, ◌++◌, length, map, get_or, take, drop, slice_get, Option, Some, option_map, All, refl, sym, ap, ◌∙◌, subst, append_assoc, length-append, arith}
 use Rattle.std.specs.List.{flat_map}
-use Rattle.std.proofs.lemmas.Bool.{ltb-true, ltb-false}
+use Rattle.std.proofs.lemmas.Bool.{leb-false, leb-true, ltb-true, ltb-false}
 use Rattle.std.proofs.lemmas.Grind.{flat_map-append}
 use Rattle.std.proofs.lemmas.List.{get_or-map, length-map, take_more, take-append-drop}
 use Rattle.std.proofs.lemmas.Option.{slice_get-get_or, slice_get-map, slice_get_past}
@@ -11,7 +11,8 @@ use Rattle.signal_layout.specs.declared.signal.Signal.TheVariants as signals
 use Rattle.type_split.specs.declared.split.Node.{Node}
 use Rattle.type_split.specs.Nodes.{StreamNode}
 use Rattle.type_split.specs.Streams.{node_view}
-use Rattle.split_text.specs.Text.{IsUpTo, field_lines, signal_lines}
+use Rattle.split_text.specs.declared.fields.Field.{Field}
+use Rattle.split_text.specs.Text.{IsUpTo, field_line, field_lines, room_behind, signal_lines}
 
 pub append_nil : (l : List ℕ) → l ++ [] ≡ l
 append_nil [] = refl
@@ -35,10 +36,10 @@ plain-node d nodes number node each within is =
     let inside = ltb-true number (length nodes) (sym within) in
     subst HasPlain (get_or-map node_view nodes number d (node_view d) inside ∙ ap node_view (sym is)) (each number (node_view d) (omega (arith, inside, length-map nodes node_view)))
 
-pub no-node : (nodes : List Node) (number : ℕ) (text : List ℕ) → false ≡ nat_lt number (length nodes) → text ≡ text ++ field_lines (slice_get (map node_view nodes) number)
-no-node nodes number text past =
+pub no-node : (nodes : List Node) (number : ℕ) → false ≡ nat_lt number (length nodes) → [] ≡ field_lines (slice_get (map node_view nodes) number)
+no-node nodes number past =
     let out = ltb-false number (length nodes) (sym past) in
-    sym (append_nil text) ∙ ap (λ (o : Option StreamNode). text ++ field_lines o) (sym (slice_get-map node_view nodes number ∙ ap (option_map node_view) (slice_get_past nodes number out)))
+    ap (λ (o : Option StreamNode). field_lines o) (sym (slice_get-map node_view nodes number ∙ ap (option_map node_view) (slice_get_past nodes number out)))
 
 -- ---- the lines of a stream
 
@@ -47,10 +48,10 @@ signals-same w v same =
     let a = same signals.Valid in let b = same signals.Ready in let c = same signals.Content in let d = same signals.Last in
     let e = same signals.Stai in let f = same signals.Endi in let g = same signals.Strb in let h = same signals.User in cc
 
-pub joined : (text head root lines fields a b c : List ℕ) → a ≡ text ++ head → b ≡ a ++ root → c ≡ b ++ lines → c ++ fields ≡ text ++ (head ++ root ++ lines ++ fields)
-joined text head root lines fields a b c is_a is_b is_c =
-    ap (λ (l : List ℕ). l ++ fields) (is_c ∙ ap (λ (l : List ℕ). l ++ lines) (is_b ∙ ap (λ (l : List ℕ). l ++ root) is_a ∙ append_assoc text head root)
-    ∙ append_assoc text (head ++ root) lines) ∙ append_assoc text (head ++ root ++ lines) fields
+pub joined : (text head root lines a b c : List ℕ) → a ≡ text ++ head → b ≡ a ++ root → c ≡ b ++ lines → c ≡ text ++ (head ++ root ++ lines)
+joined text head root lines a b c is_a is_b is_c =
+    is_c ∙ ap (λ (l : List ℕ). l ++ lines) (is_b ∙ ap (λ (l : List ℕ). l ++ root) is_a ∙ append_assoc text head root)
+    ∙ append_assoc text (head ++ root) lines
 
 -- ---- a front
 
@@ -66,3 +67,51 @@ front-is {A} of xs i limit x text new within is so grown long = record {
     more : flat_map of (take (i + 1) xs) ≡ flat_map of (take i xs) ++ of x
     more = ap (flat_map of) (take_more xs i x within ∙ ap (λ (y : A). take i xs ++ y ∷ []) (sym is)) ∙ flat_map-append of (take i xs) (x ∷ [])
         ∙ ap (λ (l : List ℕ). flat_map of (take i xs) ++ l) (append_nil (of x))
+
+-- ---- room
+
+room_by : (room : ℕ) (one other both : List ℕ) (fits : Bool) → leb (length one) room ≡ fits → length both ≡ length one + length other
+    → room_behind room both ≡ option_and_then (λ left. room_behind left other) (if fits then Some (room - length one) else None)
+room_by room one other both true fits long =
+    let enough = leb-true (length one) room fits
+    in by (leb (length both) room) (leb (length other) (room - length one)) refl refl
+  where
+    by : (all rest : Bool) → leb (length both) room ≡ all → leb (length other) (room - length one) ≡ rest
+        → (if all then Some (room - length both) else None) ≡ (if rest then Some (room - length one - length other) else None)
+    by true true is_all is_rest = ap (λ (n : ℕ). Some n) (omega (arith, long))
+    by false false is_all is_rest = refl
+    by true false is_all is_rest = absurd (omega (arith, long, leb-true (length both) room is_all, leb-false (length other) (room - length one) is_rest))
+    by false true is_all is_rest = absurd (omega (arith, long, leb-false (length both) room is_all, leb-true (length other) (room - length one) is_rest, leb-true (length one) room fits))
+room_by room one other both false fits long = by (leb (length both) room) refl
+  where
+    by : (all : Bool) → leb (length both) room ≡ all → (if all then Some (room - length both) else None) ≡ None
+    by true is_all = absurd (omega (arith, long, leb-true (length both) room is_all, leb-false (length one) room fits))
+    by false is_all = refl
+
+-- the room behind two texts
+room_behind-append : (room : ℕ) (one other : List ℕ) → room_behind room (one ++ other) ≡ option_and_then (λ left. room_behind left other) (room_behind room one)
+room_behind-append room one other = room_by room one other (one ++ other) (leb (length one) room) refl (length-append one other)
+
+-- fields that are found, as lines
+pub fields-of-node : {E : Type 0} (result : Result (List Field) E) (fields : List Field) (lines : List ℕ)
+    → IfOk result (λ found. found ≡ fields) → flat_map field_line fields ≡ lines
+    → IfOk result (λ found. flat_map field_line found ≡ lines)
+fields-of-node (Ok found) fields lines is are = ap (flat_map field_line) is ∙ are
+fields-of-node (Err error) fields lines is are = _
+
+-- the room behind the heading of a stream, and behind its fields
+pub room-behind-stream : (room left : ℕ) (heading fields line : List ℕ) (all : List ℕ) {E : Type 0} (result : Result (Option ℕ) E)
+    → line ≡ heading → Some left ≡ room_behind room line → fields ≡ all
+    → IfOk result (λ rest. rest ≡ room_behind left fields)
+    → IfOk result (λ rest. rest ≡ room_behind room (heading ++ all))
+room-behind-stream room left heading fields line all (Ok rest) is here are told =
+    told
+    ∙ ap (room_behind left) are
+    ∙ ap (λ left. option_and_then (λ left. room_behind left all) left) (here ∙ ap (room_behind room) is)
+    ∙ sym (room_behind-append room heading all)
+room-behind-stream room left heading fields line all (Err error) is here are told = _
+
+pub no-room-behind-stream : (room : ℕ) (heading line all : List ℕ) → line ≡ heading → None ≡ room_behind room line → None ≡ room_behind room (heading ++ all)
+no-room-behind-stream room heading line all is here =
+    ap (λ left. option_and_then (λ left. room_behind left all) left) (here ∙ ap (room_behind room) is)
+    ∙ sym (room_behind-append room heading all)

@@ -1,12 +1,12 @@
 -- The text that a port's type compiles to (this project's own): for each physical stream its head line, its root, the signals that
 -- it has with their widths, and the fields of its elements.
-use Rattle.std.specs.Prelude.{◌≡◌, ℕ, ◌<◌, ◌⊎◌, List, [], ◌++◌, length, slice_get, Option, Some, None, codes, decimal}
+use Rattle.std.specs.Prelude.{◌≡◌, ℕ, ◌<◌, ◌-◌, ◌⊎◌, leb, if◌then◌else◌, List, [], ◌++◌, length, slice_get, Option, Some, None, codes, decimal}
 use Rattle.std.specs.List.{flat_map}
 use Rattle.tydi_base.specs.Path.{path_text}
 use Rattle.physical_stream.specs.declared.head.Head.{Head}
-use Rattle.signal_layout.specs.Fields.{fields_of}
+use Rattle.split_text.specs.Fields.{fields_of}
 use Rattle.signal_layout.specs.Layout.{width_of}
-use Rattle.signal_layout.specs.declared.fields.Field.{Field}
+use Rattle.split_text.specs.declared.fields.Field.{Field}
 use Rattle.signal_layout.specs.declared.signal.Signal.{Signal}
 use Rattle.signal_layout.specs.declared.signal.Signal.TheVariants as signals
 use Rattle.physical_stream.specs.StreamLine.{head_text}
@@ -44,9 +44,13 @@ field_lines (Some node) = flat_map field_line (fields_of node.element)
 abbrev pub head_of : Phys → Head
 head_of one = record { path = one.path; params = one.params; reversed = one.reversed }
 
+-- a physical stream of a type that has these nodes, as far as its fields
+abbrev pub heading_text : List StreamNode → Phys → List ℕ
+heading_text nodes one = head_text (head_of one) ++ root_line (slice_get nodes one.root) ++ signal_lines (width_of one.params)
+
 -- a physical stream of a type that has these nodes
 abbrev pub stream_text : List StreamNode → Phys → List ℕ
-stream_text nodes one = head_text (head_of one) ++ root_line (slice_get nodes one.root) ++ signal_lines (width_of one.params) ++ field_lines (slice_get nodes one.node)
+stream_text nodes one = heading_text nodes one ++ field_lines (slice_get nodes one.node)
 
 -- the physical streams of a split
 abbrev pub split_text : PlainSplit → List ℕ
@@ -57,3 +61,7 @@ pub record IsUpTo (limit : ℕ) (text front : List ℕ) : Type 0 where
   pub rest : List ℕ
   pub whole : text ≡ front ++ rest
   pub ends : (rest ≡ []) ⊎ (limit < length front)
+
+-- the room that a text leaves: None where it has more bytes than there is room for
+abbrev pub room_behind : ℕ → List ℕ → Option ℕ
+room_behind room text = if leb (length text) room then Some (room - length text) else None

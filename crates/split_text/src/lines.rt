@@ -1,10 +1,12 @@
 //! The lines below the head line of a stream.
 
+ghost use Rattle.std.specs.Prelude.{◌≡◌, IfOk};
 ghost use Rattle.std.specs.List.{flat_map};
 ghost use Rattle.signal_layout.specs.Layout.{width_in};
-ghost use Rattle.split_text.specs.Text.{field_line, signal_line, signal_lines};
+ghost use Rattle.split_text.specs.Text.{field_line, room_behind, signal_line, signal_lines};
 
-use signal_layout::{Field, Signal, Signals};
+use crate::fields::Field;
+use signal_layout::{Signal, Signals};
 use tydi_base::{List, Memory, Written, emit};
 
 /// The signals that a stream has, a line each.
@@ -75,4 +77,31 @@ impl Written for FieldLine<'_> {
         } = self.0;
         emit!(out; "  field ", path, " ", *offset, " ", *width, "\n")
     }
+}
+
+/// What so much room leaves behind the lines of fields. Each line is made in the room of the last.
+pub(crate) fn room_behind_fields(
+    fields: &[Field],
+    room: u64,
+    line: &mut List<u8>,
+) -> Result<Option<u64>, Memory>
+    ensures { IfOk result (λ left. left ≡ room_behind room (flat_map field_line fields.now)) }
+{
+    let mut left = room;
+    'fields: for field in fields {
+        line.truncate(0);
+        line.emit(&FieldLine(field))?;
+        match room_behind(left, line) {
+            Some(less) => left = less,
+            None => return Ok(None),
+        }
+    }
+    Ok(Some(left))
+}
+
+/// What so much room leaves behind a text. None where the text has more bytes.
+pub(crate) fn room_behind(room: u64, text: &List<u8>) -> Option<u64>
+    ensures { result ≡ room_behind room text.now }
+{
+    room.checked_sub(text.len() as u64)
 }

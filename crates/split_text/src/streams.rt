@@ -5,11 +5,12 @@ ghost use Rattle.std.specs.List.{flat_map};
 ghost use Rattle.logical_types.specs.Faults.{IsPlain};
 ghost use Rattle.type_split.specs.Streams.{IsPortSplit, node_view, plain_split};
 ghost use Rattle.split_text.specs.Text as spec;
-ghost use Rattle.split_text.specs.Text.{IsUpTo, field_lines, root_line, stream_text};
+ghost use Rattle.split_text.specs.Text.{IsUpTo, field_line, field_lines, heading_text, root_line, stream_text};
 
+use crate::fields::{Field, fields_of};
 use crate::lines::{FieldLines, SignalLines};
 use physical_stream::StreamLine;
-use signal_layout::{Signals, fields_of};
+use signal_layout::Signals;
 use std::alloc::Global;
 use tydi_base::{List, Memory, emit};
 use type_split::{Node, Phys, Split};
@@ -58,6 +59,18 @@ fn write_stream(
     requires { All (λ node. IsPlain node.element) (map node_view nodes.now) }
     ensures { OnOk result (text.new ≡ text.old ++ stream_text (map node_view nodes.now) one.now) }
 {
+    write_heading(nodes, one, text)?;
+    write_fields(alloc, nodes, one.node, text)
+}
+
+/// Adds the text of a physical stream at the end, as far as its fields.
+pub(crate) fn write_heading(
+    nodes: &[Node<'_>],
+    one: &Phys,
+    text: &mut List<u8>,
+) -> Result<(), Memory>
+    ensures { OnOk result (text.new ≡ text.old ++ heading_text (map node_view nodes.now) one.now) }
+{
     let line = StreamLine {
         path: &one.path,
         params: &one.params,
@@ -65,8 +78,7 @@ fn write_stream(
     };
     text.emit(&line)?;
     write_root(nodes, one.root, text)?;
-    text.emit(&SignalLines(&Signals::of(&one.params)))?;
-    write_fields(alloc, nodes, one.node, text)
+    text.emit(&SignalLines(&Signals::of(&one.params)))
 }
 
 /// Adds the line of a root at the end.
@@ -89,11 +101,21 @@ fn write_fields(
     requires { All (λ node. IsPlain node.element) (map node_view nodes.now) }
     ensures { OnOk result (text.new ≡ text.old ++ field_lines (slice_get (map node_view nodes.now) number)) }
 {
+    let fields = fields_of_node(alloc, nodes, number)?;
+    text.emit(&FieldLines(fields.as_slice()))
+}
+
+/// The fields of a node's elements; none where there is no such node.
+pub(crate) fn fields_of_node(
+    alloc: Global,
+    nodes: &[Node<'_>],
+    number: u32,
+) -> Result<List<Field>, Memory>
+    requires { All (λ node. IsPlain node.element) (map node_view nodes.now) }
+    ensures { IfOk result (λ fields. flat_map field_line fields ≡ field_lines (slice_get (map node_view nodes.now) number)) }
+{
     match nodes.get(number as usize) {
-        Some(node) => {
-            let fields = fields_of(alloc, node.element)?;
-            text.emit(&FieldLines(fields.as_slice()))
-        }
-        None => Ok(()),
+        Some(node) => fields_of(alloc, node.element),
+        None => Ok(List::new(alloc)),
     }
 }

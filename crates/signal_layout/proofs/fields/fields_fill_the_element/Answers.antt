@@ -1,5 +1,0 @@
-use Rattle.signal_layout.proofs.FieldLemmas.{all_fields-side_by_side}
-use Rattle.signal_layout.proofs.fields.fields_fill_the_element.Goals as goal
-
-pub returns : goal.returns
-returns c = all_fields-side_by_side
