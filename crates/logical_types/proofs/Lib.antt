@@ -2,7 +2,7 @@ pub mod PlainLemmas
 mod WidthLemmas
 pub mod SizeLemmas
 mod NameLemmas
-mod SeenLemmas
+mod OrderLemmas
 pub mod ThroughputLemmas
 mod RateLemmas
 mod SummaryLemmas

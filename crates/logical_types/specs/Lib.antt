@@ -5,7 +5,7 @@ pub mod Synchronicity
 pub mod Names
 pub mod Throughput
 pub mod Faults
-pub mod Seen
+pub mod NameOrder
 pub mod Fold
 pub mod Summary
 pub mod formers

@@ -1,11 +1,14 @@
 //! Names that stand twice in a Group or a Union.
 
-ghost use Rattle.std.specs.Prelude.{◌≡◌, ◌/◌, ◌%◌, ◌^◌, ◌<◌, ◌≤◌, ◌↔◌, ℕ, List, [], length, slice_index_or, take, IsTrue};
+ghost use Rattle.std.specs.Prelude.{◌≡◌, ◌^◌, ◌<◌, ◌≤◌, ℕ, List, [], length, slice_index, slice_index_or, take, MatchBool};
 ghost use Rattle.std.specs.List.{list_any};
+ghost use Rattle.std.specs.List.Sorted.{IsSortedBy};
+ghost use Rattle.std.specs.Ordering.{is_lt};
 ghost use Rattle.logical_types.specs.Names as spec;
-ghost use Rattle.logical_types.specs.Seen.{IsMarked, IsSeen, hash_of};
+ghost use Rattle.logical_types.specs.NameOrder.{AreNeighboursApart, HasSameNeighbours, name_cmp, number_cmp};
 
 use crate::ltype::Part;
+use std::cmp::Ordering;
 
 /// Parts with names.
 pub trait Named {
@@ -38,45 +41,123 @@ impl Named for PartNames<'_> {
     }
 }
 
-// With this many parts or fewer, a table that is cleared at once serves.
+// With this many parts or fewer, a small array of numbers serves.
 const FEW: usize = 64;
 
-const FEW_WORDS: usize = 16;
+// As many as a type has at most.
+const MANY: usize = 65_536;
 
-const MANY_WORDS: usize = 32_768;
-
-/// Whether two of these parts have names that are equal when case is ignored. The time is that of the names' bytes: a name is
-/// compared with those before it only where both bits of its hash are set in a table, which the names before it set.
+/// Whether two of these parts have names that are equal when case is ignored. The names are sorted by their numbers, so that the time
+/// is that of n * log n comparisons, whatever the names are. More than 65,536 are compared each with each.
 pub fn has_name_twice<N: Named>(parts: &N) -> bool
     ensures { result ≡ spec.has_name_twice (N.names parts.now) }
 {
-    if parts.len() <= FEW {
-        return is_name_seen_again(parts, &mut [0; FEW_WORDS]);
+    let count = parts.len();
+    if count <= FEW {
+        return is_name_twice(parts, &mut [0; FEW][..count]);
     }
-    has_name_twice_among_many(parts)
+    if count <= MANY {
+        return has_name_twice_among_many(parts);
+    }
+    is_name_repeated(parts)
 }
 
-// The same with a great table. It is kept apart: put into a function that calls itself, the table would take 256 KiB of the stack for
+// The same with a great array. It is kept apart: put into a function that calls itself, the array would take 256 KiB of the stack for
 // each type that stands in another.
 #[inline(never)]
 fn has_name_twice_among_many<N: Named>(parts: &N) -> bool
+    requires { length (N.names parts.now) ≤ MANY }
     ensures { result ≡ spec.has_name_twice (N.names parts.now) }
 {
-    is_name_seen_again(parts, &mut [0; MANY_WORDS])
+    let count = parts.len();
+    is_name_twice(parts, &mut [0; MANY][..count])
 }
 
-// Whether two of these parts have equal names. Whatever the table holds, it may only make names be compared in vain.
-fn is_name_seen_again<N: Named>(parts: &N, words: &mut [u64]) -> bool
-    requires { 0 < length words.old }
+// The same by sorting the numbers of the parts, for which there is room.
+fn is_name_twice<N: Named>(parts: &N, numbers: &mut [u32]) -> bool
+    requires room { length numbers.old ≡ length (N.names parts.now) }
+    requires fits { length numbers.old ≤ 2 ^ 32 }
+    ensures { result ≡ spec.has_name_twice (N.names parts.now) }
+{
+    fill_numbers(numbers);
+    numbers.sort_unstable_by(|one, other| compare_numbers(parts, *one, *other));
+    has_same_neighbours(parts, numbers)
+}
+
+// Becomes the numbers from 0 on.
+fn fill_numbers(numbers: &mut [u32])
+    requires { length numbers.old ≤ 2 ^ 32 }
+    ensures long { length numbers.new ≡ length numbers.old }
+    ensures numbers { (k : ℕ) → k < length numbers.new → slice_index numbers.new k ≡ k }
+{
+    'places: for place in 0..numbers.len() {
+        numbers[place] = place as u32;
+    }
+}
+
+// Whether two of these numbers that stand together have names that are equal when case is ignored.
+fn has_same_neighbours<N: Named>(parts: &N, numbers: &[u32]) -> bool
+    ensures { MatchBool result (HasSameNeighbours (N.names parts.now) numbers.now) (AreNeighboursApart (N.names parts.now) numbers.now) }
+{
+    'places: for place in 1..numbers.len() {
+        if compare_numbers(parts, numbers[place - 1], numbers[place]).is_eq() {
+            return true;
+        }
+    }
+    false
+}
+
+// The order of the names of two numbers, when case is ignored.
+fn compare_numbers<N: Named>(parts: &N, one: u32, other: u32) -> Ordering
+    ensures { result ≡ number_cmp (N.names parts.now) one other }
+{
+    compare_names(name_of(parts, one), name_of(parts, other))
+}
+
+// The name of a number; the empty text where it has none.
+fn name_of<N: Named>(parts: &N, number: u32) -> &[u8]
+    ensures { result.now ≡ slice_index_or (N.names parts.now) number [] }
+{
+    let index = number as usize;
+    if index < parts.len() {
+        parts.name(index)
+    } else {
+        &[]
+    }
+}
+
+// The order of two names when case is ignored.
+fn compare_names(one: &[u8], other: &[u8]) -> Ordering
+    ensures { result ≡ name_cmp one.now other.now }
+{
+    let mut left = one;
+    let mut right = other;
+    'bytes: while let Some((first, rest)) = left.split_first() {
+        let Some((second, more)) = right.split_first() else {
+            return Ordering::Greater;
+        };
+        let order = first.to_ascii_lowercase().cmp(&second.to_ascii_lowercase());
+        if order.is_ne() {
+            return order;
+        }
+        left = rest;
+        right = more;
+    }
+    if right.is_empty() {
+        Ordering::Equal
+    } else {
+        Ordering::Less
+    }
+}
+
+// Whether two of these parts have equal names, where each is compared with those before it.
+fn is_name_repeated<N: Named>(parts: &N) -> bool
     ensures { result ≡ spec.has_name_twice (N.names parts.now) }
 {
     'parts: for index in 0..parts.len() {
-        let name = parts.name(index);
-        let hash = hash_of(name);
-        if is_seen(words, hash) && has_name(parts, index, name) {
+        if has_name(parts, index, parts.name(index)) {
             return true;
         }
-        see(words, hash);
     }
     false
 }
@@ -92,50 +173,4 @@ fn has_name<N: Named>(parts: &N, end: usize, name: &[u8]) -> bool
         }
     }
     false
-}
-
-// The hash of a name, whatever its case.
-fn hash_of(name: &[u8]) -> u64
-    ensures { result ≡ hash_of name.now }
-{
-    let mut hash: u64 = 0;
-    'bytes: for byte in name {
-        hash = hash
-            .wrapping_add(u64::from(byte.to_ascii_lowercase()))
-            .wrapping_mul(11_400_714_819_323_198_485);
-    }
-    hash
-}
-
-fn is_seen(words: &[u64], hash: u64) -> bool
-    requires { 0 < length words.now }
-    ensures { IsTrue result ↔ IsSeen words.now hash }
-{
-    is_marked(words, hash) && is_marked(words, hash >> 32)
-}
-
-fn see(words: &mut [u64], hash: u64)
-    requires { 0 < length words.old }
-    ensures seen { IsSeen words.new hash }
-    ensures kept { (other : ℕ) → IsSeen words.old other → IsSeen words.new other }
-{
-    mark(words, hash);
-    mark(words, hash >> 32);
-}
-
-fn is_marked(words: &[u64], hash: u64) -> bool
-    requires { 0 < length words.now }
-    ensures { IsTrue result ↔ IsMarked words.now hash }
-{
-    let word = (hash / 64 % words.len() as u64) as usize;
-    words[word] >> (hash % 64) & 1 == 1
-}
-
-fn mark(words: &mut [u64], hash: u64)
-    requires { 0 < length words.old }
-    ensures marked { IsMarked words.new hash }
-    ensures kept { (other : ℕ) → IsMarked words.old other → IsMarked words.new other }
-{
-    let word = (hash / 64 % words.len() as u64) as usize;
-    words[word] |= 1 << (hash % 64);
 }
