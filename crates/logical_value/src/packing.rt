@@ -1,6 +1,6 @@
 //! The word of a value.
 
-ghost use Rattle.std.specs.Prelude.{◌≡◌, ◌<◌, ◌^◌, ℕ, IfOk, OnOk};
+ghost use Rattle.std.specs.Prelude.{◌≡◌, ◌<◌, ◌^◌, ℕ, IfOk, IfSome, OnOk};
 ghost use Rattle.tydi_base.specs.Bits.{bits_of, zero_bits};
 ghost use Rattle.logical_types.specs.Faults.{IsPlain};
 ghost use Rattle.logical_types.specs.Tree.{bits, group, plain, plain_parts, union};
@@ -13,12 +13,37 @@ use crate::place::end_of;
 use crate::value::Value;
 use logical_types::{LType, Part, saturated_width, union_width, width};
 use std::alloc::Global;
-use tydi_base::{Bits, Memory, index_width};
+use tydi_base::{Bits, Memory, TryClone, index_width};
 
 /// The word of a value of an element of this type, as wide as the element. The parts for its Streams take no bits, and ignored bits
 /// are zero. `Memory` comes where there is none for the word. The layout is the Tydi specification's (logical types); that of a
 /// Union is this project's own.
 pub fn pack(alloc: Global, ltype: &LType, value: &Value) -> Result<Bits, Memory>
+    requires plain { IsPlain (plain ltype.now) }
+    requires element { element.IsElement (plain ltype.now) (values.plain value.now) }
+    ensures { IfOk result (λ bits. bits ≡ spec.pack_of (plain ltype.now) (values.plain value.now)) }
+{
+    match whole_word(ltype, value) {
+        Some(word) => word.try_clone(alloc),
+        None => packed(alloc, ltype, value),
+    }
+}
+
+/// The word of a value of a Bits, which is the whole element. None where the element is no Bits.
+fn whole_word<'a>(ltype: &LType, value: &'a Value) -> Option<&'a Bits>
+    ensures { IfSome result (λ word. word.now ≡ spec.pack_of (plain ltype.now) (values.plain value.now)) }
+{
+    match ltype {
+        LType::Null => None,
+        LType::Bits(_) => value.word(),
+        LType::Group(_) => None,
+        LType::Union(_) => None,
+        LType::Stream(_) => None,
+    }
+}
+
+/// The word of a value of an element of this type, written part after part.
+fn packed(alloc: Global, ltype: &LType, value: &Value) -> Result<Bits, Memory>
     requires plain { IsPlain (plain ltype.now) }
     requires element { element.IsElement (plain ltype.now) (values.plain value.now) }
     ensures { IfOk result (λ bits. bits ≡ spec.pack_of (plain ltype.now) (values.plain value.now)) }

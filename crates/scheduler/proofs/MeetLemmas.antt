@@ -4,6 +4,7 @@ use Rattle.std.specs.Int.{bit_at}
 use Rattle.std.proofs.lemmas.Bool.{cases_lt}
 use Rattle.std.proofs.lemmas.Bool.Decides.{nat_tests}
 use Rattle.std.proofs.lemmas.List.{length-drop, drop-drop}
+use Rattle.std.proofs.Math.Pow.{pow_pos}
 use Rattle.std.proofs.lemmas.Nat.Bits.{bit_at-zero, bit_at-lt, bit_at-pow_same, bit_at-pow_other}
 use Rattle.tydi_base.specs.Level.{number_of}
 use Rattle.physical_stream.specs.Params.{Parameters}
@@ -13,7 +14,7 @@ use Rattle.scheduler.specs.declared.way.Way.{Way}
 use Rattle.scheduler.specs.Lanes.{Lane, no_lane}
 use Rattle.scheduler.specs.Planned.{Load, run_from, run_of, behind_run, elements_of, first_word, is_allowed, ones_below, place_in, lane_of, behind_lane, behind_lanes, packed_load, count_of, leaves, filled_load, is_empty_wish, mask_of}
 use Rattle.scheduler.specs.Filling.{behind_word, behind_taken, taken_word, is_set, lane_with, rest_with, takes_at, left_after, lane_after, lanes_on, left_on}
-use Rattle.scheduler.specs.Meeting.{Allows, AreCounted, IsCounted, IsPackedWay, Meets}
+use Rattle.scheduler.specs.Meeting.{Allows, AreCounted, IsCounted, IsPackedWay, Meets, left_by}
 use Rattle.plan_text.specs.declared.plan.Wish.{Wish}
 use Rattle.scheduler.proofs.PartLemmas.{lt-true, lt-false, eq-true, eq-false}
 use Rattle.scheduler.proofs.LoadLemmas.{count-fits, lane-last}
@@ -238,16 +239,18 @@ module _ (p : Parameters) (some : 1 ≤ p.lanes) (wish : Wish) (items : List Ite
     stop = omega (arith, stop, within);
     lanes = λ lane less. rw (is, allowed, ends) (empty-lane (length items - way.stop) (drop place items) lane);
     rest = rw (is, allowed, ends) (empty-left (length items - way.stop) (drop place items) p.lanes);
+    packed = λ packed. rw (is, ends, stop) refl;
   }
 
   module _ (full : is_empty_wish p wish ≡ false) (allows : Allows p (mask_of p wish) way.allowed) where
-    pub meets-laned : (wish.laned && (number_of p.level == 8)) ≡ true → way.ends ≡ way.allowed → way.stop ≡ length items → Meets p wish items place way
-    meets-laned is ends stop =
+    pub meets-laned : (wish.laned && (number_of p.level == 8)) ≡ true → way.ends ≡ way.allowed → way.stop ≡ length items → way.is_packed ≡ false → Meets p wish items place way
+    meets-laned is ends stop loose =
         let none : length items - way.stop ≡ 0 = omega (arith, stop) in
         record {
           stop = omega (arith, stop);
           lanes = λ lane less. rw (full, is, ends, none) (laned-lane-is way.allowed (is_allowed p (mask_of p wish)) p.lanes allows.each (drop place items) lane less);
           rest = rw (full, is, ends, none) (laned-left way.allowed (is_allowed p (mask_of p wish)) p.lanes allows.each (drop place items) p.lanes (omega arith));
+          packed = λ packed. absurd (let no : true ≡ false = sym packed ∙ loose in cc);
         }
 
     abbrev test : ℕ → Bool
@@ -333,9 +336,27 @@ module _ (p : Parameters) (some : 1 ≤ p.lanes) (wish : Wish) (items : List Ite
           by_test true = refl
           by_test false = ap (λ (b : Bool). if b then behind_run 0 (drop (count_of p test left) left) else drop (count_of p test left) left) last
 
+      passed-are : left_on way items place p.lanes ≡ left_by way items
+      passed-are =
+          rest-is way.allowed test p.lanes allows.each left (count_of p test left) few (length items - way.stop) least-is (is_set way.ends) low some fits ∙ by_test stays refl
+        where
+          behind-is : drop (count_of p test left) left ≡ drop way.stop items
+          behind-is = drop-drop (count_of p test left) place items ∙ ap (λ (n : ℕ). drop n items) (ap (λ (c : ℕ). place + c) (sym count-is) ∙ sym packed.stop)
+
+          ends-is : (one : Bool) → stays ≡ one → way.ends ≡ (if one then 0 else 2 ^ (p.lanes - 1))
+          ends-is one is = packed.ends ∙ ap (λ (c : ℕ). if leaves p wish c then 0 else 2 ^ (p.lanes - 1)) count-is ∙ ap (λ (b : Bool). if b then 0 else 2 ^ (p.lanes - 1)) is
+
+          by_test : (one : Bool) → stays ≡ one → (if is_set way.ends (p.lanes - 1) then behind_run 0 (drop (count_of p test left) left) else drop (count_of p test left) left) ≡ left_by way items
+          by_test true is = rw (ends-is true is, none-set (p.lanes - 1)) behind-is
+          by_test false is =
+              let set : is_set (2 ^ (p.lanes - 1)) (p.lanes - 1) ≡ true = last-set p.lanes (p.lanes - 1) some (omega (arith, some)) ∙ eq-true (p.lanes - 1 + 1) p.lanes (omega (arith, some)) in
+              let other : (2 ^ (p.lanes - 1) == 0) ≡ false = eq-false (2 ^ (p.lanes - 1)) 0 (λ e. omega (arith, e, pow_pos (p.lanes - 1))) in
+              rw (ends-is false is, set, other) (ap (behind_run 0) behind-is)
+
       pub meets-packed : Meets p wish items place way
       meets-packed = record {
         stop = let c = packed.counted.within in omega (arith, packed.stop, c);
         lanes = λ lane less. rw (full, is) (lanes-are lane less);
         rest = rw (full, is) rest-are;
+        packed = λ packed. sym passed-are ∙ rw (full, is) rest-are;
       }

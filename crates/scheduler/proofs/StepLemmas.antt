@@ -17,7 +17,7 @@ use Rattle.scheduler.specs.Laws.{AreItems, UsersFit}
 use Rattle.scheduler.specs.Filling.{IsFilledSoFar, lanes_on}
 use Rattle.scheduler.specs.Meeting.{Meets}
 use Rattle.scheduler.specs.Planned.{MasksFit, behind, first_user, first_wish, load_of, plan_of}
-use Rattle.scheduler.specs.Stepping.{CanGoOn, IsNext, IsStrobed}
+use Rattle.scheduler.specs.Stepping.{CanGoOn, IsNext, IsPassed, IsStrobed}
 use Rattle.plan_text.specs.declared.plan.Wish.{Wish}
 use Rattle.scheduler.proofs.CarryLemmas.{acts}
 use Rattle.scheduler.proofs.LaneLemmas.{active-none, active-some}
@@ -193,6 +193,16 @@ module _ (p : Parameters) (items : List Item) (wishes : List Wish) (users : List
         ∙ ap (λ (ws : List Wish). t ∷ plan_of p ws (behind (drop number users)) (drop next items)) (behind-drop number wishes)
         ∙ ap (λ (us : List (List Bool)). t ∷ plan_of p (drop (number + 1) wishes) us (drop next items)) (behind-drop number users);
   }
+
+  pub is-passed : (next : ℕ) (t : Transfer) → next ≤ length items → Fits p t → drop next items ≡ (load_of p wish left).rest → IsPassed p items wishes users place number t next
+  is-passed next t within fits rest = record {
+    within = within;
+    fits = fits;
+    fewer = ap length (is-next next (transfer_of p (load_of p wish left).lanes user) within refl rest).first ∙ omega arith;
+  }
+
+  pub passed-by : (next : ℕ) (t : Transfer) → IsNext p items wishes users place number t next → IsPassed p items wishes users place number t next
+  passed-by next t is = record { within = is.within; fits = is.fits; fewer = ap length is.first ∙ omega arith }
 
 abbrev pub whole-wish : ℕ → Wish
 whole-wish mask = record { mask = mask; late = false; laned = false }

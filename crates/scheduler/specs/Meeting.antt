@@ -1,9 +1,9 @@
 -- How a wish is met: which lanes may take elements, up to which item, and where ends of sequences go (this project's own).
-use Rattle.std.specs.Prelude.{◌≡◌, ℕ, ◌+◌, ◌-◌, ◌^◌, ◌<◌, ◌≤◌, nat_le, if◌then◌else◌, List, length, drop}
+use Rattle.std.specs.Prelude.{◌≡◌, ℕ, ◌+◌, ◌-◌, ◌^◌, ◌<◌, ◌≤◌, ◌==◌, true, nat_le, if◌then◌else◌, List, length, drop}
 use Rattle.physical_stream.specs.Params.{Parameters}
 use Rattle.physical_stream.specs.declared.item.Item.{Item}
 use Rattle.scheduler.specs.declared.way.Way.{Way}
-use Rattle.scheduler.specs.Planned.{elements_of, is_allowed, leaves, load_of, ones_below}
+use Rattle.scheduler.specs.Planned.{behind_run, elements_of, is_allowed, leaves, load_of, ones_below}
 use Rattle.scheduler.specs.Filling.{is_set, lanes_on, left_on}
 use Rattle.plan_text.specs.declared.plan.Wish.{Wish}
 
@@ -29,8 +29,13 @@ pub record IsPackedWay (p : Parameters) (wish : Wish) (lanes : ℕ) (items : Lis
   pub stop : way.stop ≡ place + count
   pub ends : way.ends ≡ (if leaves p wish count then 0 else 2 ^ (p.lanes - 1))
 
+-- the items that a packed way leaves: those from its stop on, behind the ends there where a lane takes ends
+abbrev pub left_by : Way → List Item → List Item
+left_by way items = if way.ends == 0 then drop way.stop items else behind_run 0 (drop way.stop items)
+
 -- the way takes of the items from a place on what the wish takes
 pub record Meets (p : Parameters) (wish : Wish) (items : List Item) (place : ℕ) (way : Way) : Type 0 where
   pub stop : way.stop ≤ length items
   pub lanes : (lane : ℕ) → lane < p.lanes → lanes_on way items place lane ≡ (load_of p wish (drop place items)).lanes lane
   pub rest : left_on way items place p.lanes ≡ (load_of p wish (drop place items)).rest
+  pub packed : way.is_packed ≡ true → left_by way items ≡ (load_of p wish (drop place items)).rest

@@ -27,6 +27,12 @@ pub record IsNext (p : Parameters) (items : List Item) (wishes : List Wish) (use
   pub fits : Fits p t
   pub first : plan_from p items wishes users place number ≡ t ∷ plan_from p items wishes users next (number + 1)
 
+-- the first of them is passed, over a transfer that fits: one fewer are left from the next place on
+pub record IsPassed (p : Parameters) (items : List Item) (wishes : List Wish) (users : List (List Bool)) (place number : ℕ) (t : Transfer) (next : ℕ) : Type 0 where
+  pub within : next ≤ length items
+  pub fits : Fits p t
+  pub fewer : length (plan_from p items wishes users place number) ≡ 1 + length (plan_from p items wishes users next (number + 1))
+
 -- up to level 6 the strobe is all ones where it is not zero
 pub record IsStrobed (p : Parameters) (old new : Transfer) : Type 0 where
   pub content : new.content ≡ old.content

@@ -12,6 +12,7 @@ mod filling;
 mod laws;
 mod meeting;
 mod multiple;
+mod passing;
 mod planner;
 mod planning;
 mod scheduling;

@@ -57,6 +57,7 @@ fn packed_way(p: &Params, wish: Wish, allowed: u128, items: &[Item], place: usiz
         allowed,
         stop: place + usize::from(count),
         ends,
+        is_packed: true,
     }
 }
 
@@ -78,6 +79,7 @@ pub(crate) fn way_of(p: &Params, wish: Wish, items: &[Item], place: usize) -> Wa
             allowed: 0,
             stop: place,
             ends: 0,
+            is_packed: true,
         };
     }
     let allowed = allowed_lanes(p, mask_of(p, wish));
@@ -86,6 +88,7 @@ pub(crate) fn way_of(p: &Params, wish: Wish, items: &[Item], place: usize) -> Wa
             allowed,
             stop: items.len(),
             ends: allowed,
+            is_packed: false,
         };
     }
     packed_way(p, wish, allowed, items, place)

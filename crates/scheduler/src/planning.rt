@@ -8,6 +8,7 @@ ghost use Rattle.scheduler.specs.Stepping.{CanGoOn};
 
 use crate::fault::ScheduleFault;
 use crate::multiple::is_multiple;
+use crate::passing::pass_transfer;
 use crate::planner::Planner;
 use crate::stepping::next_transfer;
 use handshake::{Rewind, TransferFeed};
@@ -32,7 +33,7 @@ fn count_transfers(
     let mut count: usize = 0;
     let mut place = 0;
     'transfers: while place < items.len() {
-        place = next_transfer(p, items, plan, blank, place, count, into);
+        place = pass_transfer(p, items, plan, blank, place, count, into);
         match count.checked_add(1) {
             Some(next) => count = next,
             None => return Err(Memory),

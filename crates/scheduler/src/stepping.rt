@@ -42,7 +42,7 @@ fn fill_transfer(p: &Params, wish: Wish, items: &[Item], place: usize, into: &mu
 }
 
 // The wish for the transfer of this number: all lanes past the end of the plan.
-fn wish_at(p: &Params, plan: &StreamPlan, number: usize) -> Wish
+pub(crate) fn wish_at(p: &Params, plan: &StreamPlan, number: usize) -> Wish
     ensures { result ≡ first_wish p.now (drop number plan.now.wishes) }
 {
     match plan.wishes.get(number) {

@@ -7,4 +7,6 @@ pub(crate) struct Way {
     pub stop: usize,
     // The lanes that take the ascending run of ends that comes next, lane 0 lowest.
     pub ends: u128,
+    // Whether what is left begins at `stop`, behind the ends there where some lane takes ends.
+    pub is_packed: bool,
 }

@@ -1,7 +1,9 @@
+mod WordLemmas
 mod WrittenLemmas
 mod TokenLemmas
 mod SyntaxRules
 mod LeafLemmas
+mod StartLemmas
 mod TypedLemmas
 mod YieldLemmas
 pub mod FitLemmas

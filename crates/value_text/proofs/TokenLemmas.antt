@@ -100,7 +100,7 @@ pub at-byte : (kind : TokenKind) (spaced : Bool) (byte : ℕ) (rest : List ℕ) 
 at-byte kind spaced byte rest no_word is = rw (no_run byte rest no_word, is) refl
 
 -- a byte that is a token by itself, as the code has it
-pub sign-at : (spaced : Bool) (text : List ℕ) → 0 < length text → is_sign (get_or text 0 0) ≡ true
+sign-at : (spaced : Bool) (text : List ℕ) → 0 < length text → is_sign (get_or text 0 0) ≡ true
     → record { token = record { kind = kinds.Sign; text = take 1 text; spaced = spaced; left = length text }; after = take (length text - 1) (drop 1 text) } ≡ token_at spaced text
 sign-at spaced [] some is = absurd (omega (arith, some))
 sign-at spaced (byte ∷ rest) some is =
@@ -125,6 +125,11 @@ sign-at spaced (byte ∷ rest) some is =
     three true true false all = absurd cc
     three true false c all = absurd cc
     three false b c all = absurd cc
+
+-- the same, with the kind that a number stands for
+pub sign-coded : (kind : TokenKind) (spaced : Bool) (text : List ℕ) → kind ≡ kinds.Sign → 0 < length text → is_sign (get_or text 0 0) ≡ true
+    → record { token = record { kind = kind; text = take 1 text; spaced = spaced; left = length text }; after = take (length text - 1) (drop 1 text) } ≡ token_at spaced text
+sign-coded kind spaced text is some sign = rw is (sign-at spaced text some sign)
 
 -- ---- the next token, as the code finds it
 

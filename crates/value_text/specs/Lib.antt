@@ -1,6 +1,7 @@
 pub mod Canonical
 pub mod Tokens
 pub mod Source
+pub mod Starts
 pub mod Words
 pub mod Leaves
 pub mod Grammar

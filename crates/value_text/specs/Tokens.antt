@@ -7,6 +7,16 @@ use Rattle.value_text.specs.declared.token.Token.{Token}
 use Rattle.value_text.specs.declared.token.TokenKind.{TokenKind}
 use Rattle.value_text.specs.declared.token.TokenKind.TheVariants as kinds
 
+-- the kind of this number
+unfoldable pub kind_coded : ℕ → TokenKind
+kind_coded code =
+    if code == 0 then kinds.Word
+    else (if code == 1 then kinds.Key
+    else (if code == 2 then kinds.Call
+    else (if code == 3 then kinds.Path
+    else (if code == 4 then kinds.Empty
+    else kinds.Sign))))
+
 -- a token: its kind, its own text, whether white space or a comment stands before it, and how many bytes there are from its first byte on
 pub record PlainToken : Type 0 where
   pub kind : TokenKind
@@ -20,7 +30,7 @@ pub record PlainFound : Type 0 where
   pub after : List ℕ
 
 abbrev pub token_view : Token → PlainToken
-token_view token = record { kind = token.kind; text = token.text.now; spaced = nat_lt 0 token.gap; left = token.left }
+token_view token = record { kind = kind_coded token.code; text = token.text.now; spaced = nat_lt 0 token.gap; left = token.left }
 
 abbrev pub found_view : Found → PlainFound
 found_view found = record { token = token_view found.token; after = found.after.now }

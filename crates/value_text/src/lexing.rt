@@ -41,7 +41,7 @@ fn token_at(rest: &[u8], gap: usize) -> Found<'_>
     let beyond = after_gap(tail);
     let kind = kind_of(run > 0, byte_at(rest), byte_at(beyond));
     let token = Token {
-        kind,
+        code: kind.code(),
         text: &rest[..len],
         gap,
         left: rest.len(),
@@ -69,7 +69,7 @@ fn sign_at(rest: &[u8], gap: usize) -> Found<'_>
     ensures { found_view result ≡ spec.token_at (nat_lt 0 gap) rest.now }
 {
     let token = Token {
-        kind: TokenKind::Sign,
+        code: TokenKind::Sign.code(),
         text: &rest[..1],
         gap,
         left: rest.len(),
@@ -131,7 +131,40 @@ fn but_first(bytes: &[u8]) -> &[u8]
 }
 
 /// The text behind the white space and the comments at its front.
+#[inline(always)]
 pub(crate) fn after_gap(bytes: &[u8]) -> &[u8]
+    ensures { result.now ≡ spec.after_gap bytes.now }
+{
+    let rest = after_space(bytes);
+    if begins_plain(rest) {
+        return rest;
+    }
+    after_long_gap(rest)
+}
+
+/// The text behind one space, where it begins with one.
+fn after_space(bytes: &[u8]) -> &[u8]
+    ensures { spec.after_gap result.now ≡ spec.after_gap bytes.now }
+{
+    match bytes {
+        [first, rest @ ..] => { if *first == b' ' { rest } else { bytes } }
+        [] => bytes,
+    }
+}
+
+/// Whether its first byte shows that neither white space nor a comment begins a text.
+fn begins_plain(bytes: &[u8]) -> bool
+    ensures { result ≡ true → bytes.now ≡ spec.after_gap bytes.now }
+{
+    match bytes {
+        [first, ..] => *first > b' ' && *first != b'/',
+        [] => true,
+    }
+}
+
+/// The text behind white space and comments of any length at its front.
+#[inline(never)]
+fn after_long_gap(bytes: &[u8]) -> &[u8]
     ensures { result.now ≡ spec.after_gap bytes.now }
 {
     let mut rest = bytes;
@@ -167,7 +200,7 @@ fn is_space(byte: u8) -> bool
 }
 
 /// A letter, a digit, `_` or `.`.
-fn is_word_byte(byte: u8) -> bool
+pub(crate) fn is_word_byte(byte: u8) -> bool
     ensures { result ≡ spec.is_word_byte byte }
 {
     byte.is_ascii_alphanumeric() || byte == b'_' || byte == b'.'

@@ -10,6 +10,7 @@ mod form;
 mod laws;
 mod leaves;
 mod lexing;
+mod listed_words;
 mod opening;
 mod port;
 mod printing;

@@ -115,7 +115,7 @@ impl<'a> Tokens<'a> {
         ensures { result ≡ tells spec.null_word false self.now }
     {
         match self.first() {
-            Some(token) => token.kind.is_word() && is_null(token.text),
+            Some(token) => token.kind().is_word() && is_null(token.text),
             None => false,
         }
     }
@@ -124,7 +124,7 @@ impl<'a> Tokens<'a> {
         ensures { result ≡ tells spec.apart_word false self.now }
     {
         match self.first() {
-            Some(token) => token.kind.is_word() && is_apart(token.text),
+            Some(token) => token.kind().is_word() && is_apart(token.text),
             None => false,
         }
     }
@@ -205,7 +205,7 @@ fn has_name(parts: &[Part], name: &[u8]) -> bool
 fn token_word(alloc: Global, width: u64, token: &Token<'_>) -> Result<Bits, Fault<Why>>
     ensures { Judges (spec.token_word width (token_view token.now)) result }
 {
-    if !token.kind.is_word() {
+    if !token.kind().is_word() {
         return Err(Fault::Unfit(Why::WrongShape));
     }
     match number_of(token.text) {

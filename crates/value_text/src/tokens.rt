@@ -162,7 +162,7 @@ impl<'a> Tokens<'a> {
         ensures { result ≡ tells (words.is_path_text_of text.now) false self.now }
     {
         match self.first() {
-            Some(token) => token.kind.is_path() && token.text == text,
+            Some(token) => token.kind().is_path() && token.text == text,
             None => false,
         }
     }

@@ -1,7 +1,7 @@
 //! Values of a type, token after token.
 
-ghost use Rattle.std.specs.Prelude.{◌≡◌, []};
-ghost use Rattle.logical_types.specs.Tree.{group, plain, plain_of_stream, plain_parts, union};
+ghost use Rattle.std.specs.Prelude.{◌≡◌, [], IfSome};
+ghost use Rattle.logical_types.specs.Tree.{bits, group, plain, plain_of_stream, plain_parts, union};
 ghost use Rattle.tydi_reading.specs.Reading.{Reads};
 ghost use Rattle.value_text.specs.Typed as spec;
 
@@ -150,7 +150,10 @@ impl<'a> Tokens<'a> {
         if depth == 0 {
             return self.take_element(alloc, element);
         }
-        self.take_list(alloc, element, depth - 1)
+        match words_width(element, depth) {
+            Some(width) => self.take_words(alloc, width),
+            None => self.take_list(alloc, element, depth - 1),
+        }
     }
 
     /// A list of nests of this depth.
@@ -198,10 +201,23 @@ impl<'a> Tokens<'a> {
     }
 }
 
+/// The width of the words where nests of this depth are lists of words. None where they are not.
+fn words_width(element: &LType, depth: u64) -> Option<u64>
+    ensures { IfSome result (λ width. (plain element.now ≡ bits width) × (depth ≡ 1)) }
+{
+    match element {
+        LType::Null => None,
+        LType::Bits(width) => { if depth == 1 { Some(*width) } else { None } }
+        LType::Group(_) => None,
+        LType::Union(_) => None,
+        LType::Stream(_) => None,
+    }
+}
+
 /// The empty list, with room for one member where there is memory: a list of one then takes memory once.
 // It gives no `Result`, which would take room on the stack in each level of a nest.
 #[inline(never)]
-fn room_for_one(alloc: Global) -> List<Value>
+pub(crate) fn room_for_one(alloc: Global) -> List<Value>
     ensures { result ≡ [] }
 {
     match List::with_capacity(alloc, 1) {
@@ -212,7 +228,7 @@ fn room_for_one(alloc: Global) -> List<Value>
 
 /// The same list, without the room that it does not need.
 #[inline(never)]
-fn fitted(list: List<Value>) -> List<Value>
+pub(crate) fn fitted(list: List<Value>) -> List<Value>
     ensures { result ≡ list }
 {
     let mut elements = list.into_vec();

@@ -1,7 +1,9 @@
 //! The words of a value's text.
 
-ghost use Rattle.std.specs.Prelude.{◌≡◌, Some, None, option_map};
+ghost use Rattle.std.specs.Prelude.{◌≡◌, ◌<◌, ◌≤◌, Some, None, length, option_map, true};
+ghost use Rattle.std.specs.Char.{is_ascii_digit};
 ghost use Rattle.std.specs.List.{list_all};
+ghost use Rattle.std.specs.Option.{is_some};
 ghost use Rattle.value_text.specs.Words as spec;
 
 use tydi_base::{digit_value, first_piece, is_name, read_padded_decimal};
@@ -9,8 +11,42 @@ use tydi_base::{digit_value, first_piece, is_name, read_padded_decimal};
 /// The most digits of a number in decimal.
 const MOST_DIGITS: usize = 39;
 
+/// The most digits of a number that is below 2 ^ 128 whatever they are.
+const FEW_DIGITS: usize = 38;
+
 /// Whether a word is a member by itself: `null`, `apart`, or a number.
 pub(crate) fn is_leaf(text: &[u8]) -> bool
+    ensures { result ≡ spec.is_leaf text.now }
+{
+    is_short_number(text) || is_any_leaf(text)
+}
+
+/// Whether a word is a number of few digits in decimal, as most members are.
+fn is_short_number(text: &[u8]) -> bool
+    ensures { result ≡ true → is_some (spec.number_of text.now) ≡ true }
+{
+    has_few_bytes(text) && are_digits(text)
+}
+
+/// Whether a word is not empty, and has no more bytes than a number of few digits.
+fn has_few_bytes(text: &[u8]) -> bool
+    ensures some { result ≡ true → 0 < length text.now }
+    ensures few { result ≡ true → length text.now ≤ 38 }
+{
+    let len = text.len();
+    0 < len && len <= FEW_DIGITS
+}
+
+/// Whether each byte is a digit in decimal.
+fn are_digits(text: &[u8]) -> bool
+    ensures { result ≡ list_all is_ascii_digit text.now }
+{
+    text.iter().all(|byte| byte.is_ascii_digit())
+}
+
+/// The same as `is_leaf`, by each form after another.
+#[inline(never)]
+fn is_any_leaf(text: &[u8]) -> bool
     ensures { result ≡ spec.is_leaf text.now }
 {
     is_null(text) || is_apart(text) || number_of(text).is_some() || hex_digits_of(text).is_some()

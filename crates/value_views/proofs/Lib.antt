@@ -5,6 +5,7 @@ pub mod NodeLemmas
 pub mod ViewLemmas
 pub mod FitsLemmas
 pub mod LawLemmas
+pub mod SpellLemmas
 pub mod NestLemmas
 pub mod PartLemmas
 pub mod ValueLemmas

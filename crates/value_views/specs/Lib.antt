@@ -1,5 +1,6 @@
 pub mod Series
 pub mod Views
+pub mod Spelled
 pub mod Words
 pub mod Comparing
 pub mod Joining

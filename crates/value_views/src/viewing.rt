@@ -39,7 +39,7 @@ pub fn view(
 }
 
 /// Finds the way from a root to the node of this number.
-fn find_node(alloc: Global, split: &Split<'_>, number: u32) -> Result<Finding, Memory>
+pub(crate) fn find_node(alloc: Global, split: &Split<'_>, number: u32) -> Result<Finding, Memory>
     requires split { IsPortSplit (plain_split split.now) }
     requires number { number < length split.now.nodes }
     ensures { IfOk result (λ found. LeadsToNode (plain_split split.now) number (root_of found.root) found.way.items) }

@@ -11,7 +11,7 @@ pub returns-then-is_laned : goal.returns-then-is_laned
 returns-then-is_laned c =
     meets-laned c.args.p.now c.requires.some c.args.wish c.args.items.now c.args.place c.requires.place _
     (sym c.is_empty_wish.ensures ∙ c.if-is_empty_wish.false) (subst (λ (m : ℕ). Allows c.args.p.now m c.allowed_lanes-allowed.result) c.mask_of.ensures c.allowed_lanes-allowed.ensures)
-    (sym c.is_laned.ensures ∙ c.if-is_laned.true) refl refl
+    (sym c.is_laned.ensures ∙ c.if-is_laned.true) refl refl refl
 
 pub returns : goal.returns
 returns c =

@@ -1,7 +1,7 @@
-use Rattle.std.proofs.Common.{◌∙◌}
-use Rattle.value_text.proofs.LeafLemmas.{surplus-step}
+use Rattle.std.proofs.Common.{◌≤◌, sym, arith}
+use Rattle.std.proofs.lemmas.Bool.Decides.{nat_tests}
+use Rattle.value_text.proofs.StartLemmas.{no_surplus}
 use Rattle.value_text.proofs.leaves.surplus_leaf.Goals as goal
 
-pub tokens-preserved : goal.tokens-preserved
-tokens-preserved c = surplus-step c.tokens.room c.room_after-room.result c.tokens.tokens c.skip.new.self c.in-Some.token c.begins_leaf-counts.result c.in-Some.ensures c.skip.ensures
-    c.begins_leaf-counts.ensures c.room_after-room.ensures c.else-counts.either ∙ c.tokens.invariant
+pub returns-then-count_starts-most : goal.returns-then-count_starts-most
+returns-then-count_starts-most c = let is = c.count_starts.ensures in let few = c.if-count_starts-most.true in sym (no_surplus c.args.most c.args.text.now (grind (arith, nat_tests)))

@@ -71,8 +71,11 @@ Tokens::take_members-returns t c =
     (less-next _ (less-nest _ c.args.depth (less-element (plain c.args.element.now))))) in
     first_of (search rules, grind (arith, common_steps))
 
-pub Tokens::take_nest-returns : goal.Tokens::take_nest-returns
-Tokens::take_nest-returns t c = let deeper : c.args.depth ≡ suc (c.args.depth - 1) = omega arith in rw deeper c.take_list.ensures
+pub Tokens::take_nest-returns-in-Some : goal.Tokens::take_nest-returns-in-Some
+Tokens::take_nest-returns-in-Some t c = rw (c.in-Some.ensures.0, c.in-Some.ensures.1) c.take_words.ensures
+
+pub Tokens::take_nest-returns-in-None : goal.Tokens::take_nest-returns-in-None
+Tokens::take_nest-returns-in-None t c = let deeper : c.args.depth ≡ suc (c.args.depth - 1) = omega arith in rw deeper c.take_list.ensures
 
 pub Tokens::take_variant-take_selected-requires : goal.Tokens::take_variant-take_selected-requires
 Tokens::take_variant-take_selected-requires t c =

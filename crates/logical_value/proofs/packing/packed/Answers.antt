@@ -2,7 +2,7 @@ use Rattle.std.proofs.Common.{refl}
 use Rattle.logical_types.specs.Tree.{plain}
 use Rattle.logical_value.specs.Tree.{plain as plain_value}
 use Rattle.logical_value.proofs.PackingLemmas.{packed-whole}
-use Rattle.logical_value.proofs.packing.pack.Goals as goal
+use Rattle.logical_value.proofs.packing.packed.Goals as goal
 
 pub returns : goal.returns
 returns c =

@@ -1,6 +1,6 @@
 use Rattle.std.proofs.Common.{◌≡◌, length}
 use Rattle.value_text.specs.Tokens.{after_gap, gap_from}
-use Rattle.value_text.proofs.lexing.after_gap.Given as goal
+use Rattle.value_text.proofs.lexing.after_long_gap.Given as goal
 
 -- the text behind the rest of the gap is that behind all of it
 abbrev pub invariant-bytes : goal.invariant-bytes
