@@ -4,4 +4,5 @@ pub mod OneRunLemmas
 pub mod FinishLemmas
 pub mod BoundLemmas
 pub mod PortLemmas
+pub mod OfferLemmas
 pub mod RewindLemmas

@@ -6,6 +6,7 @@ use Rattle.std.proofs.lemmas.List.{length-set}
 use Rattle.std.proofs.lemmas.Option.{slice_get_within}
 use Rattle.tydi_base.proofs.PlaceLemmas.{same_or_other, slice_get-set_other, slice_get-set_same}
 use Rattle.physical_stream.specs.declared.transfer.Transfer.{Transfer}
+use Rattle.handshake.specs.Offers.{AreFirst, StandsFirst}
 use Rattle.handshake.specs.Standing.{StandsFor}
 use Rattle.handshake.specs.Turns.{AreRewound, KeepRun, KeepRuns}
 use Rattle.handshake.specs.declared.cursor.Cursor.{Cursor}
@@ -18,19 +19,23 @@ same_some is = cc
 pub record RewindsOn {F : Type 0} {T : Ghosts F} (rest whole : F → List Transfer) (old new : List (Cursor F T)) (done : ℕ) : Type 0 where
   pub kept : KeepRuns whole old new
   pub each : (i : ℕ) (c : Cursor F T) → i < done → slice_get new i ≡ Some c → StandsFor rest c (whole c.feed) []
+  pub first : (i : ℕ) (c : Cursor F T) → i < done → slice_get new i ≡ Some c → StandsFirst rest whole c
 
 module _ {F : Type 0} {T : Ghosts F} (rest whole : F → List Transfer) (old : List (Cursor F T)) where
   pub rewinds-none : RewindsOn rest whole old old 0
   rewinds-none = record {
     kept = record { many = refl; each = λ i before after is here. let same : before ≡ after = same_some (sym is ∙ here) in subst (KeepRun whole before) same (record { params = refl; gaps = refl; all = refl }) };
     each = λ i c less there. absurd (omega (arith, less));
+    first = λ i c less there. absurd (omega (arith, less));
   }
 
-  module _ (mid : List (Cursor F T)) (done : ℕ) (c new : Cursor F T) (r : RewindsOn rest whole old mid done) (there : slice_get mid done ≡ Some c) (k : KeepRun whole c new) (stands : StandsFor rest new (whole c.feed) []) where
+  module _ (mid : List (Cursor F T)) (done : ℕ) (c new : Cursor F T) (r : RewindsOn rest whole old mid done) (there : slice_get mid done ≡ Some c) (k : KeepRun whole c new) (stands : StandsFor rest new (whole c.feed) [])
+      (fresh : StandsFirst rest whole new) where
     pub rewinds-more : RewindsOn rest whole old (set mid done new) (done + 1)
     rewinds-more = record {
       kept = record { many = length-set mid done new ∙ r.kept.many; each = λ i before after is here. keep_at i before after is here (same_or_other done i) };
       each = λ i d less here. stand_at i d less here (same_or_other done i);
+      first = λ i d less here. first_at i d less here (same_or_other done i);
     }
       where
         within : done < length mid
@@ -49,6 +54,13 @@ module _ {F : Type 0} {T : Ghosts F} (rest whole : F → List Transfer) (old : L
         stand_at i d less here (inl same) =
             subst (λ (x : Cursor F T). StandsFor rest x (whole x.feed) []) (is_new i d here same) (subst (λ (ts : List Transfer). StandsFor rest new ts []) (sym k.all) stands)
         stand_at i d less here (inr other) = r.each i d (omega (arith, less, other)) (sym (slice_get-set_other mid done i new other) ∙ here)
+
+        first_at : (i : ℕ) (d : Cursor F T) → i < done + 1 → slice_get (set mid done new) i ≡ Some d → (done ≡ i) ⊎ (done ≡ i → ⊥) → StandsFirst rest whole d
+        first_at i d less here (inl same) = subst (StandsFirst rest whole) (is_new i d here same) fresh
+        first_at i d less here (inr other) = r.first i d (omega (arith, less, other)) (sym (slice_get-set_other mid done i new other) ∙ here)
+
+  pub firsts-all : (new : List (Cursor F T)) (done : ℕ) → RewindsOn rest whole old new done → length old ≤ done → AreFirst rest whole new
+  firsts-all new done r past = λ i c there. r.first i c (omega (arith, past, r.kept.many, slice_get_within new i c there)) there
 
   pub rewinds-all : (new : List (Cursor F T)) (done : ℕ) → RewindsOn rest whole old new done → length old ≤ done → AreRewound whole rest new
   rewinds-all new done r past = record { each = λ i c there. r.each i c (omega (arith, past, r.kept.many, slice_get_within new i c there)) there }

@@ -6,3 +6,4 @@ pub mod Standing
 pub mod Kept
 pub mod Ports
 pub mod Turns
+pub mod Offers

@@ -70,6 +70,8 @@ impl<F: TransferFeed> Cursor<F> {
         ensures params { self.new.params ≡ self.old.params }
         ensures gaps { self.new.gaps ≡ self.old.gaps }
         ensures held { self.new.held ≡ self.old.held }
+        ensures free { self.new.holds ≡ false }
+        ensures rest { F.rest self.new.feed ≡ F.rest self.old.feed }
         ensures whole { F.whole self.new.feed ≡ F.whole self.old.feed }
     {
         self.tail = tail_after(&self.params, self.tail, &self.held);

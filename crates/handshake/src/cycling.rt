@@ -3,6 +3,7 @@ ghost use Rattle.std.specs.Borrow.{sem};
 ghost use Rattle.physical_stream.specs.Cycles.{Cycle, cycle_in};
 ghost use Rattle.physical_stream.specs.declared.transfer.Transfer.{Transfer};
 ghost use Rattle.handshake.specs.Run.{next_cycle, run_of, undone};
+ghost use Rattle.handshake.specs.Offers.{StandsBefore};
 ghost use Rattle.handshake.specs.Standing.{StandsFor};
 
 use crate::cursor::Cursor;
@@ -71,6 +72,8 @@ impl<F: Rewind> Cursor<F> {
     /// Goes back to before the first cycle of the run of all transfers of the feed.
     pub fn rewind(&mut self)
         ensures stands { StandsFor F.rest self.new (F.whole self.old.feed) [] }
+        ensures before { StandsBefore F.rest self.new (F.whole self.old.feed) }
+        ensures rest { F.rest self.new.feed ≡ F.whole self.old.feed }
         ensures params { self.new.params ≡ self.old.params }
         ensures gaps { self.new.gaps ≡ self.old.gaps }
         ensures whole { F.whole self.new.feed ≡ F.whole self.old.feed }

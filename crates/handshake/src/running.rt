@@ -1,5 +1,6 @@
 ghost use Rattle.std.specs.Prelude.{◌≡◌, ◌<◌, ◌+◌, [], ℕ, Bool, List, length, slice_get, Some, get_or, false};
 ghost use Rattle.physical_stream.specs.declared.transfer.Transfer.{Transfer};
+ghost use Rattle.handshake.specs.Offers.{AreFirst};
 ghost use Rattle.handshake.specs.Ports.{runs_in};
 ghost use Rattle.handshake.specs.Rows.{rows_after, rows_behind, rows_from};
 ghost use Rattle.handshake.specs.Standing.{StandsFor};
@@ -31,6 +32,18 @@ impl<F: TransferFeed> PortRun<F> {
             many: cycles as usize,
             stream: 0,
         }
+    }
+
+    /// The cursors of the streams, wherever they stand, and their ready bits: one for each of all cycles, those that are made and those
+    /// that are left.
+    pub fn into_parts(self) -> (List<Cursor<F>>, List<List<bool>>)
+        ensures cursors { result.0 ≡ self.cursors.items }
+        ensures ready { result.1 ≡ self.ready }
+        ensures same { length result.0 ≡ length result.1 }
+        ensures long { (i : ℕ) (bits : List Bool) → slice_get result.1 i ≡ Some bits → length bits ≡ self.number + self.many }
+    {
+        let PortRun { cursors, ready, .. } = self;
+        (List::from_vec(cursors), ready)
     }
 
     /// Makes the next row: its stream, its ready bit, and whether it shows the held transfer. None exactly where no row is left.
@@ -80,8 +93,9 @@ fn bit_of(ready: &[List<bool>], stream: usize, number: usize) -> bool
 }
 
 /// Each cursor goes back to before the first cycle of the run of all its transfers.
-pub(crate) fn rewind_all<F: Rewind>(cursors: &mut [Cursor<F>])
+pub fn rewind_all<F: Rewind>(cursors: &mut [Cursor<F>])
     ensures rewound { AreRewound F.whole F.rest cursors.new }
+    ensures first { AreFirst F.rest F.whole cursors.new }
     ensures kept { KeepRuns F.whole cursors.old cursors.new }
 {
     'cursors: for place in 0..cursors.len() {

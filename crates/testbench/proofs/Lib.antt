@@ -2,6 +2,7 @@ mod OwnLemmas
 mod WordLemmas
 mod NumberWordLemmas
 mod MakingLemmas
+mod PieceLemmas
 mod FollowLemmas
 pub mod DrivingLemmas
 pub mod WellLemmas

@@ -4,11 +4,18 @@
 //! `plan_text`, whose splits and plans it takes, on `vhdl_meaning`, which has the meaning of a bench, and on `handshake`, which has the run.
 #![tactic(auto)]
 
+mod bench_pieces;
+mod filling;
 mod laws;
 mod making;
+mod pieces;
 mod process;
+mod spot;
 mod statements;
 mod words;
+mod writing;
 
+pub use bench_pieces::{BenchPieces, BenchText};
 pub use laws::{driving_is_well_formed, driving_runs, port_benches_keep_their_laws};
 pub use making::bench;
+pub use pieces::bench_text;

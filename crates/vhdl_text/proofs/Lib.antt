@@ -15,3 +15,4 @@ mod StatementLemmas
 mod TakingLemmas
 mod WholeLemmas
 pub mod BenchFaults
+pub mod PartLemmas

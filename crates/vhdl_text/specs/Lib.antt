@@ -6,3 +6,4 @@ pub mod Streams
 pub mod Drivers
 pub mod Processes
 pub mod ArchText
+pub mod Parts

@@ -16,6 +16,7 @@ mod fault;
 mod frame;
 mod laws;
 mod lines;
+mod parts;
 mod place;
 mod printing;
 mod processes;
@@ -33,6 +34,9 @@ pub use arch_printing::{arch_length, print_arch};
 pub use bench::{Bench, Stmt};
 pub use fault::VhdlFault;
 pub use laws::benches_are_read_as_printed;
+pub use parts::{
+    begin_process, benches_have_parts, end_process, write_back, write_front, write_stmts,
+};
 pub use printing::print_bench;
 pub use reading::read_bench;
 pub use signal_name::signal_word;

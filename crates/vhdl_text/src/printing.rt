@@ -28,7 +28,7 @@ pub fn print_bench(alloc: Global, bench: &Bench) -> Result<List<u8>, Memory>
 
 /// The lines of streams, as comments.
 #[derive(Clone, Copy)]
-struct StreamComments<'a>(&'a [Head]);
+pub(crate) struct StreamComments<'a>(pub(crate) &'a [Head]);
 
 impl Written for StreamComments<'_> {
     ghost text = { λ comments. flat_map stream_comment comments.0.now };
@@ -76,7 +76,7 @@ impl Written for Process<'_> {
 
 /// Statements beside these streams.
 #[derive(Clone, Copy)]
-struct Statements<'a>(&'a [Head], &'a [Stmt]);
+pub(crate) struct Statements<'a>(pub(crate) &'a [Head], pub(crate) &'a [Stmt]);
 
 impl Written for Statements<'_> {
     ghost text = { λ statements. flat_map (stmt_text statements.0.now) statements.1.now };
