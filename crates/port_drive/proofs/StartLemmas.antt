@@ -69,25 +69,13 @@ starts-items {T} p items plan gaps planner c some masks is params gaps_are whole
 
 -- ---- the items of a stream
 
-plain-nests : (series : List Nest) → nests.trees_of (map nests.plain series) ≡ nests.plain_nests series
-plain-nests [] = refl
-plain-nests (nest ∷ more) = ap (nests.tree (nests.plain nest)) (plain-nests more)
-
-pub is-series : (split : PlainSplit) (value : List (List Tree)) (number : ℕ) (stream : Phys) (series : List Nest) → IsPortSplit split → fits_split split value ≡ true → slice_get split.streams number ≡ Some stream
-    → view_of_stream split value number ≡ Some (map nests.plain series) → IsSeries stream.params.dims series
-is-series split value number stream series port fits there is =
+-- the items of its view in its dimensions are those of the value on it
+pub items-seen : (split : PlainSplit) (value : List (List Tree)) (number : ℕ) (stream : Phys) (all : List Item) → IsPortSplit split → fits_split split value ≡ true → slice_get split.streams number ≡ Some stream
+    → ((phys : Phys) (view : List nests.Tree) → slice_get split.streams number ≡ Some phys → view_of_stream split value number ≡ Some view → all ≡ flat_all phys.params.dims (nests.trees_of view))
+    → all ≡ items_on split value number stream
+items-seen split value number stream all port fits there are =
     let has = streams-have-views split port value fits number stream there in
-    let same : has.view ≡ map nests.plain series = same-view (view_of_stream split value number) has.view (map nests.plain series) has.is is in
-    subst (HaveDepth stream.params.dims) (ap nests.trees_of same ∙ plain-nests series) has.depth
-  where
-    same-view : (o : Option (List nests.Tree)) (one other : List nests.Tree) → o ≡ Some one → o ≡ Some other → one ≡ other
-    same-view o one other is_one is_other = cc
-
-pub items-are : (split : PlainSplit) (value : List (List Tree)) (number : ℕ) (stream other : Phys) (series : List Nest) (some : List Item) → slice_get split.streams number ≡ Some stream → slice_get split.streams number ≡ Some other
-    → view_of_stream split value number ≡ Some (map nests.plain series) → some ≡ flat_form stream.params.dims series → some ≡ items_on split value number other
-items-are split value number stream other series some there also is flat =
-    flat ∙ ap (flat_all stream.params.dims) (sym (plain-nests series)) ∙ sym (ap (items_in stream.params.dims) is)
-    ∙ ap (λ (s : Phys). items_on split value number s) (same-found (slice_get split.streams number) stream other there also)
+    are stream has.view there has.is ∙ sym (ap (items_in stream.params.dims) has.is)
 
 -- ---- why there is no run
 
@@ -108,9 +96,3 @@ no-run-for number p items schedules.Memory found some fault is =
 pub stream-there : (streams slice : List Phys) (number : ℕ) (stream : Phys) → number < length streams → slice ≡ streams → stream ≡ get_or slice number stream → slice_get streams number ≡ Some stream
 stream-there streams slice number stream within same is =
     slice_get-get_or streams number stream within ∙ ap Some (ap (λ (l : List Phys). get_or l number stream) (sym same) ∙ sym is)
-
-pub series-so : (dims other : ℕ) (slice series : List Nest) → dims ≡ other → slice ≡ series → IsSeries other series → IsSeries dims slice
-series-so dims other slice series same is fits = subst (λ (l : List Nest). IsSeries dims l) (sym is) (subst (λ (d : ℕ). IsSeries d series) (sym same) fits)
-
-pub flat-so : (dims other : ℕ) (slice series : List Nest) (some : List Item) → dims ≡ other → slice ≡ series → some ≡ flat_form dims slice → some ≡ flat_form other series
-flat-so dims other slice series some same is flat = flat ∙ ap (flat_form dims) is ∙ ap (λ (d : ℕ). flat_form d series) same

@@ -72,8 +72,8 @@ fn head_of(alloc: Global, stream: &Phys) -> Result<Head, Memory>
     })
 }
 
-/// The heads of these streams.
-fn heads_of(alloc: Global, streams: &[Phys]) -> Result<List<Head>, Memory>
+/// The heads of these streams, as a trace and a bench have them. Want of memory is the one error.
+pub fn heads_of(alloc: Global, streams: &[Phys]) -> Result<List<Head>, Memory>
     ensures { IfOk result (λ heads. heads ≡ map head_of_stream streams.now) }
 {
     let mut heads = List::with_capacity(alloc, streams.len())?;

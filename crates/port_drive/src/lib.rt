@@ -17,7 +17,7 @@ mod trace;
 
 pub use driving::port_trace;
 pub use fault::DriveFault;
-pub use heads::heads_stand_together;
+pub use heads::{heads_of, heads_stand_together};
 pub use laws::{driven_ports_are_legal, driven_texts_are_traces, finished_runs_drive};
 pub use measuring::measured;
 pub use running::port_run;

@@ -14,14 +14,13 @@ ghost use Rattle.port_drive.specs.Starting.{Starts};
 use crate::fault::DriveFault;
 use handshake::Cursor;
 use logical_value::PortValue;
-use nest_shape::flatten;
 use physical_stream::{Item, Params};
 use plan_text::{StreamPlan, Wish};
 use scheduler::{Planner, ScheduleFault};
 use std::alloc::Global;
 use tydi_base::{Bits, List, Memory};
 use type_split::Split;
-use value_views::view;
+use value_views::view_items;
 
 /// The items of a value on the stream of this number.
 pub(crate) fn items_on(
@@ -36,10 +35,7 @@ pub(crate) fn items_on(
     ensures { IfOk result (λ items. (stream : Phys) → slice_get split.now.streams number ≡ Some stream
         → items ≡ spec.items_on (plain_split split.now) (plain_port value.now) number stream) }
 {
-    let series = view(alloc, split, value, number)?;
-    let stream = &split.streams.as_slice()[number];
-    let items = flatten(alloc, stream.params.dims, series.as_slice())?;
-    Ok(items)
+    view_items(alloc, split, value, number)
 }
 
 /// The run of these items in a stream of this number, by wishes, user words and gaps.
