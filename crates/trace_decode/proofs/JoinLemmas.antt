@@ -152,6 +152,44 @@ some_built split done kept finished i one found =
 
 -- ---- joining
 
+module _ (split : PlainSplit) (port : IsPortSplit split) (done : List (List Item)) (views : List (List nests.Tree)) (spelled : AreViewsOf split views done) where
+  -- views whose words stand for values
+  pub views_with_words : ((i : ℕ) (phys : Phys) (some : List Item) → slice_get split.streams i ≡ Some phys → slice_get done i ≡ Some some → All (IsWord (element_at split i)) some) → AreViews split views
+  views_with_words words = each_pair (IsView split.nodes) split.streams views spelled.many is_view
+    where
+      is_view : (i : ℕ) (phys : Phys) (view : List nests.Tree) → slice_get split.streams i ≡ Some phys → slice_get views i ≡ Some view → IsView split.nodes phys view
+      is_view i phys view there found =
+          let some = slice_get-there done i (omega (arith, slice_get_within split.streams i phys there, spelled.lists)) in
+          let of = spelled.each i phys view some.0 there found some.1 in
+          let has = has-node split port i phys there in
+          let element : element_at split i ≡ has.node.element = ap (element_of_stream split.nodes) there ∙ ap element_of_node has.found in
+          record {
+            node = has.node;
+            found = has.found;
+            depth = of.depth;
+            words = words_of_all has.node.element phys.params.dims (trees_of view)
+                (subst (λ (e : Ltype). All (IsWord e) (flat_all phys.params.dims (trees_of view))) element (subst (All (IsWord (element_at split i))) (sym of.flat_is) (words i phys some.0 there some.1)));
+          }
+
+  -- the items of views carry each value that has these views
+  pub carried : (roots : List (List Tree)) → HasViews split roots views → Carries split roots done
+  carried roots has = record { fits = has.fits; spelled = each_pair (SpellsNode (series_of_nodes split.nodes roots)) split.streams done spelled.lists spells }
+    where
+      spells : (i : ℕ) (phys : Phys) (some : List Item) → slice_get split.streams i ≡ Some phys → slice_get done i ≡ Some some → SpellsNode (series_of_nodes split.nodes roots) phys some
+      spells i phys some there here =
+          let view = slice_get-there views i (omega (arith, slice_get_within split.streams i phys there, spelled.many)) in
+          let shows = pair_at (ShowsView (series_of_nodes split.nodes roots)) split.streams views has.shown i phys view.0 there view.1 in
+          let of = spelled.each i phys view.0 some there view.1 here in
+          let node = has-node split port i phys there in
+          let series = nodes-have-series split port roots has.fits phys.node node.node node.found in
+          let same : series.at ≡ shows.node = same_some (sym series.found ∙ shows.found) in
+          let dims : phys.params.dims ≡ shows.node.dims = ap (λ p. p.dims) node.params ∙ sym series.dims ∙ ap (λ (n : NodeSeries). n.dims) same in
+          record {
+            node = shows.node;
+            found = shows.found;
+            spelled = record { words = view.0; agree = shows.agree; flat_is = sym of.flat_is ∙ ap (λ (d : ℕ). flat_all d (trees_of view.0)) dims };
+          }
+
 module _ (split : PlainSplit) (port : IsPortSplit split) (done : List (List Item)) (kept : List StreamKept) (finished : AreFinished split done kept) (views : List (List Nest)) (users : List (List (List Bool)))
     (made : AreMade split done kept (length kept) views users) where
   long : length (plain_views views) ≡ length split.streams
@@ -162,10 +200,6 @@ module _ (split : PlainSplit) (port : IsPortSplit split) (done : List (List Item
   view_at i view found =
       let here = slice_get-there views i (omega (arith, slice_get_within (plain_views views) i view found, length-map views (λ (v : List Nest). map plain v))) in
       (here.0, here.1, same_some (sym found ∙ slice_get-map (λ (v : List Nest). map plain v) views i ∙ ap (option_map (λ (v : List Nest). map plain v)) here.1))
-
-  -- the items at a place
-  done_at : (i : ℕ) (phys : Phys) → slice_get split.streams i ≡ Some phys → (some : List Item) × (slice_get done i ≡ Some some)
-  done_at i phys there = slice_get-there done i (omega (arith, slice_get_within split.streams i phys there, finished.lists))
 
   kept_at : (i : ℕ) (phys : Phys) → slice_get split.streams i ≡ Some phys → (one : StreamKept) × (slice_get kept i ≡ Some one)
   kept_at i phys there = slice_get-there kept i (omega (arith, slice_get_within split.streams i phys there, finished.many))
@@ -182,47 +216,16 @@ module _ (split : PlainSplit) (port : IsPortSplit split) (done : List (List Item
   views_of_items = record { many = long; lists = finished.lists; each = view_of_items }
 
   pub are_views : AreViews split (plain_views views)
-  are_views = each_pair (IsView split.nodes) split.streams (plain_views views) long is_view
+  are_views = views_with_words split port done (plain_views views) views_of_items words
     where
-      is_view : (i : ℕ) (phys : Phys) (view : List nests.Tree) → slice_get split.streams i ≡ Some phys → slice_get (plain_views views) i ≡ Some view → IsView split.nodes phys view
-      is_view i phys view there found =
-          let some = done_at i phys there in
-          let one = kept_at i phys there in
-          let of = view_of_items i phys view some.0 there found some.1 in
-          let has = has-node split port i phys there in
-          let element : element_at split i ≡ has.node.element = ap (element_of_stream split.nodes) there ∙ ap element_of_node has.found in
-          let words = (finished.each i phys some.0 one.0 there some.1 one.1).words in
-          record {
-            node = has.node;
-            found = has.found;
-            depth = of.depth;
-            words = words_of_all has.node.element phys.params.dims (trees_of view)
-                (subst (λ (e : Ltype). All (IsWord e) (flat_all phys.params.dims (trees_of view))) element (subst (All (IsWord (element_at split i))) (sym of.flat_is) words));
-          }
-
-  carried : (roots : List (List Tree)) → HasViews split roots (plain_views views) → Carries split roots done
-  carried roots has = record { fits = has.fits; spelled = each_pair (SpellsNode (series_of_nodes split.nodes roots)) split.streams done finished.lists spells }
-    where
-      spells : (i : ℕ) (phys : Phys) (some : List Item) → slice_get split.streams i ≡ Some phys → slice_get done i ≡ Some some → SpellsNode (series_of_nodes split.nodes roots) phys some
-      spells i phys some there here =
-          let view = slice_get-there (plain_views views) i (omega (arith, slice_get_within split.streams i phys there, long)) in
-          let shows = pair_at (ShowsView (series_of_nodes split.nodes roots)) split.streams (plain_views views) has.shown i phys view.0 there view.1 in
-          let of = view_of_items i phys view.0 some there view.1 here in
-          let node = has-node split port i phys there in
-          let series = nodes-have-series split port roots has.fits phys.node node.node node.found in
-          let same : series.at ≡ shows.node = same_some (sym series.found ∙ shows.found) in
-          let dims : phys.params.dims ≡ shows.node.dims = ap (λ p. p.dims) node.params ∙ sym series.dims ∙ ap (λ (n : NodeSeries). n.dims) same in
-          record {
-            node = shows.node;
-            found = shows.found;
-            spelled = record { words = view.0; agree = shows.agree; flat_is = sym of.flat_is ∙ ap (λ (d : ℕ). flat_all d (trees_of view.0)) dims };
-          }
+      words : (i : ℕ) (phys : Phys) (some : List Item) → slice_get split.streams i ≡ Some phys → slice_get done i ≡ Some some → All (IsWord (element_at split i)) some
+      words i phys some there here = let one = kept_at i phys there in (finished.each i phys some one.0 there here one.1).words
 
   all_users : users ≡ map (λ (one : StreamKept). one.users) kept
   all_users = made.users_are ∙ ap (map (λ (one : StreamKept). one.users)) (take_all (length kept) kept (omega arith))
 
   pub joined-ok : (value : PortValue) → HasViews split (plain_port value) (plain_views views) → IsJoined split done kept (Ok (record { value = value; users = users }))
-  joined-ok value has = (carried (plain_port value) has, all_users)
+  joined-ok value has = (carried split port done (plain_views views) views_of_items (plain_port value) has, all_users)
 
   pub joined-err : (fault : JoinFault) (result : DecodeFault) → IsDisagreement split (plain_views views) fault → result ≡ fault_of_join fault → IsJoined split done kept (Err result)
   joined-err (joins.Disagree path packet) result disagrees is =

@@ -1,11 +1,14 @@
 pub mod KeepLemmas
 pub mod RowLemmas
 pub mod TagLemmas
+pub mod UntaggedLemmas
 pub mod RunLemmas
 pub mod HeadLemmas
 pub mod JoinLemmas
 pub mod CycleLemmas
 pub mod OutcomeLemmas
-pub mod FeedLemmas
+pub mod TextLemmas
 pub mod LawLemmas
+pub mod SeriesLemmas
+pub mod SomeLemmas
 pub mod DrivenLemmas

@@ -10,6 +10,7 @@ use Rattle.std.proofs.lemmas.List.Elements.{All-cons, All-contains, All-head, Al
 use Rattle.std.proofs.lemmas.Nat.{mul-add-lt}
 use Rattle.std.proofs.lemmas.Option.{slice_get-map, slice_get_within}
 use Rattle.tydi_base.proofs.PlaceLemmas.{slice_get-there}
+use Rattle.tydi_base.specs.Level.{IsLevel}
 use Rattle.physical_stream.specs.Params.{Parameters}
 use Rattle.physical_stream.specs.Cycles.{Cycle, StreamTrace, done_in, done_of, items_done, waiting_of}
 use Rattle.physical_stream.specs.Items.{items_of, items_of_all}
@@ -17,7 +18,7 @@ use Rattle.physical_stream.specs.Breaks.{BreaksAfter, OnShown}
 use Rattle.physical_stream.specs.First.{IsFirst, IsNotAfter, Offence}
 use Rattle.physical_stream.specs.Ending.{ending_after, ending_of, unclosed}
 use Rattle.physical_stream.specs.Rules.{number_of_rule}
-use Rattle.physical_stream.specs.Shape.{is_whole, tail_of}
+use Rattle.physical_stream.specs.Shape.{IsNested, is_whole, tail_of}
 use Rattle.physical_stream.specs.declared.end.End.{End}
 use Rattle.physical_stream.specs.declared.end.End.TheVariants as ends
 use Rattle.physical_stream.specs.declared.head.Head.{Head}
@@ -42,10 +43,10 @@ use Rattle.value_views.proofs.NodeLemmas.{has-node, node-width}
 use Rattle.cycle_trace.specs.Survey.{Answers, OffendsByEither, UnfinishedStream, counts_of, first_unfinished, or_unfinished, survey_of}
 use Rattle.cycle_trace.specs.Surveying.{offence_of, offends_in}
 use Rattle.cycle_trace.specs.Trace.{TraceText, cycles_of_stream, streams_of}
-use Rattle.cycle_trace.specs.declared.counts.Counts.{Counts}
-use Rattle.cycle_trace.specs.declared.counts.SurveyFault.{SurveyFault}
-use Rattle.cycle_trace.specs.declared.counts.SurveyFault.TheVariants as surveys
-use Rattle.cycle_trace.specs.declared.survey_outcome.FoundOffence.{FoundOffence}
+use Rattle.cycle_trace.specs.declared.surveying.counts.Counts.{Counts}
+use Rattle.cycle_trace.specs.declared.surveying.counts.SurveyFault.{SurveyFault}
+use Rattle.cycle_trace.specs.declared.surveying.counts.SurveyFault.TheVariants as surveys
+use Rattle.cycle_trace.specs.declared.surveying.outcome.FoundOffence.{FoundOffence}
 use Rattle.cycle_trace.proofs.RowsLemmas.{turn_below}
 use Rattle.cycle_trace.proofs.StreamLemmas.{head_at, length-streams, stream_of_head, stream_with}
 use Rattle.port_drive.specs.Drives.{head_of_stream, heads_of}
@@ -139,18 +140,17 @@ of_tag InnerPause element p before now broken = absurd broken
 of_tag OuterPause element p before now broken = absurd broken
 of_tag Nest element p before now broken = absurd broken
 
-module _ (split : PlainSplit) (t : TraceText) (run : DecodeRun) (runs : RunsOver split t run) where
-  kept_here : (s : ℕ) (head : Head) → slice_get t.heads s ≡ Some head → (one : StreamKept) × KeepsStream (stream_with t s head) one
-  kept_here s head there =
-      let stream = stream_of_head t s ∙ ap (option_map (stream_with t s)) there in
-      let one = slice_get-there run.kept.items s (omega (arith, runs.kept.many, slice_get_within (streams_of t) s (stream_with t s head) stream)) in
-      (one.0, runs.kept.each s (stream_with t s head) one.0 stream one.1)
+-- there are no more rows than the header asks for, and the level of each stream is in form
+pub record HasForm (t : TraceText) : Type 0 where
+  pub most : length t.rows ≤ t.cycles * length t.heads
+  pub level : (s : ℕ) (head : Head) → slice_get t.heads s ≡ Some head → IsLevel head.params.level
 
-  bad_offends : (c s : ℕ) → HasBadTag split t c s → OffendsByTag split t (record { cycle = c; stream = s; rule = Tag })
-  bad_offends c s bad =
+module _ (split : PlainSplit) (t : TraceText) where
+  pub bad_offends : HasForm t → (c s : ℕ) → HasBadTag split t c s → OffendsByTag split t (record { cycle = c; stream = s; rule = Tag })
+  bad_offends form c s bad =
       let inside = slice_get_within t.rows (c * length t.heads + s) bad.row bad.stands in
-      let in_cycles : c < t.cycles = turn_below t.cycles (length t.heads) c s (c * length t.heads + s) refl (let most = runs.most in omega arith) in
-      let level = (kept_here s bad.head bad.there).1.level in
+      let in_cycles : c < t.cycles = turn_below t.cycles (length t.heads) c s (c * length t.heads + s) refl (let most = form.most in omega arith) in
+      let level = form.level s bad.head bad.there in
       record {
         trace = stream_with t s bad.head;
         stands = stream_of_head t s ∙ ap (option_map (stream_with t s)) bad.there;
@@ -178,6 +178,16 @@ module _ (split : PlainSplit) (t : TraceText) (run : DecodeRun) (runs : RunsOver
         },
       )
 
+module _ (split : PlainSplit) (t : TraceText) (run : DecodeRun) (runs : RunsOver split t run) where
+  kept_here : (s : ℕ) (head : Head) → slice_get t.heads s ≡ Some head → (one : StreamKept) × KeepsStream (stream_with t s head) one
+  kept_here s head there =
+      let stream = stream_of_head t s ∙ ap (option_map (stream_with t s)) there in
+      let one = slice_get-there run.kept.items s (omega (arith, runs.kept.many, slice_get_within (streams_of t) s (stream_with t s head) stream)) in
+      (one.0, runs.kept.each s (stream_with t s head) one.0 stream one.1)
+
+  form : HasForm t
+  form = record { most = runs.most; level = λ s head there. (kept_here s head there).1.level }
+
   -- the row that stands first has the first offence
   not_after : (n c s d u : ℕ) → s < n → u < n → c * n + s ≤ d * n + u → (c < d) ⊎ ((c ≡ d) × ((s < u) ⊎ (s ≡ u)))
   not_after n c s d u inside within less = by_cases (cases_lt c d) (cases_lt d c)
@@ -198,10 +208,10 @@ module _ (split : PlainSplit) (t : TraceText) (run : DecodeRun) (runs : RunsOver
   tags_first = by_tag run.tag runs.tag
     where
       by_tag : (tag : Option FoundOffence) → TagsSay split t tag → IsFirst (OffendsByTag split t) (option_map offence_of tag)
-      by_tag None none = λ o offends. none o.cycle o.stream (offends_bad o offends).1
+      by_tag None none = λ o offends. none o.cycle o.stream (offends_bad split t o offends).1
       by_tag (Some found) is = (
-        subst (λ (r : Rule). OffendsByTag split t (record { cycle = found.cycle; stream = found.stream; rule = r })) (sym is.rule) (bad_offends found.cycle found.stream is.bad),
-        λ o offends. by_place o (offends_bad o offends),
+        subst (λ (r : Rule). OffendsByTag split t (record { cycle = found.cycle; stream = found.stream; rule = r })) (sym is.rule) (bad_offends split t form found.cycle found.stream is.bad),
+        λ o offends. by_place o (offends_bad split t o offends),
       )
         where
           by_order : (o : Offence) → o.rule ≡ Tag → (found.cycle < o.cycle) ⊎ ((found.cycle ≡ o.cycle) × ((found.stream < o.stream) ⊎ (found.stream ≡ o.stream))) → IsNotAfter (offence_of found) o
@@ -328,13 +338,19 @@ words_so element p (items.Close dim ∷ more) width fit named =
     All-cons (IsWord element) (items.Close dim) more tt
     (words_so element p more width (All-tail (FitsStream p) (items.Close dim) more fit) (All-tail (λ item. is_named element item ≡ true) (items.Close dim) more named))
 
-module _ (split : PlainSplit) (port : IsPortSplit split) (t : TraceText) (run : DecodeRun) (runs : RunsOver split t run) (is_whole_so : IsWhole split t) where
-  unnamed_offends : (c s : ℕ) → HasBadTag split t c s → ⊥
-  unnamed_offends c s bad = is_whole_so.legal.first (record { cycle = c; stream = s; rule = Tag }) (to_all split t (record { cycle = c; stream = s; rule = Tag }) (inr (bad_offends split t run runs c s bad)))
+-- the items done on a stream are nested and whole, and each element is a word that stands for some value
+pub record AreItems (dims : ℕ) (element : Ltype) (done : List Item) : Type 0 where
+  pub nested : IsNested done
+  pub whole : is_whole dims (tail_of done) ≡ true
+  pub words : All (IsWord element) done
 
-  finished_at : (i : ℕ) (phys : Phys) (head : Head) (one : StreamKept) → slice_get split.streams i ≡ Some phys → slice_get t.heads i ≡ Some head → head ≡ head_of_stream phys → KeepsStream (stream_with t i head) one
-      → IsFinished phys (element_at split i) (items_done head.params (cycles_of_stream t i)) one
-  finished_at i phys head one there here same keeps =
+module _ (split : PlainSplit) (port : IsPortSplit split) (t : TraceText) (form : HasForm t) (is_whole_so : IsWhole split t) where
+  unnamed_offends : (c s : ℕ) → HasBadTag split t c s → ⊥
+  unnamed_offends c s bad = is_whole_so.legal.first (record { cycle = c; stream = s; rule = Tag }) (to_all split t (record { cycle = c; stream = s; rule = Tag }) (inr (bad_offends split t form c s bad)))
+
+  pub items_at : (i : ℕ) (phys : Phys) (head : Head) → slice_get split.streams i ≡ Some phys → slice_get t.heads i ≡ Some head → head ≡ head_of_stream phys
+      → All (FitsStream head.params) (items_done head.params (cycles_of_stream t i)) → AreItems phys.params.dims (element_at split i) (items_done head.params (cycles_of_stream t i))
+  items_at i phys head there here same fit =
       let params : head.params ≡ phys.params = ap (λ (h : Head). h.params) same in
       let stream = stream_of_head t i ∙ ap (option_map (stream_with t i)) here in
       let has = has-node split port i phys there in
@@ -344,23 +360,30 @@ module _ (split : PlainSplit) (port : IsPortSplit split) (t : TraceText) (run : 
       let named : are_named (element_at split i) (items_done head.params (cycles_of_stream t i)) ≡ true =
       all_done_named (element_at split i) head.params (cycles_of_stream t i) (λ c now at. by_test c now at (are_named_in (element_at split i) head.params now) refl) in
       record {
-        built = record {
-          builds = keeps.builds;
-          dims_are = subst (λ (p : Parameters). HasDims p.dims one.builder) params keeps.dims;
-          nested =
-              items_nested head.params (cycles_of_stream t i) keeps.level
-              (λ number broken. is_whole_so.legal.first (record { cycle = number; stream = i; rule = Nest })
-              (record { trace = stream_with t i head; stands = stream; breaks = record { now = broken.now; stands = broken.stands; broken = inl broken.broken } }));
-          whole =
-              subst (λ (p : Parameters). is_whole p.dims (tail_of (items_done head.params (cycles_of_stream t i))) ≡ true) params
-              (tail_whole head.params (cycles_of_stream t i) (ends_whole 0 (streams_of t) is_whole_so.ends i (stream_with t i head) stream));
-        };
-        words = words_so (element_at split i) head.params (items_done head.params (cycles_of_stream t i)) width keeps.fit (all_named (element_at split i) (items_done head.params (cycles_of_stream t i)) named);
+        nested =
+            items_nested head.params (cycles_of_stream t i) (form.level i head here)
+            (λ number broken. is_whole_so.legal.first (record { cycle = number; stream = i; rule = Nest })
+            (record { trace = stream_with t i head; stands = stream; breaks = record { now = broken.now; stands = broken.stands; broken = inl broken.broken } }));
+        whole =
+            subst (λ (p : Parameters). is_whole p.dims (tail_of (items_done head.params (cycles_of_stream t i))) ≡ true) params
+            (tail_whole head.params (cycles_of_stream t i) (ends_whole 0 (streams_of t) is_whole_so.ends i (stream_with t i head) stream));
+        words = words_so (element_at split i) head.params (items_done head.params (cycles_of_stream t i)) width fit (all_named (element_at split i) (items_done head.params (cycles_of_stream t i)) named);
       }
     where
       by_test : (c : ℕ) (now : Cycle) → slice_get (cycles_of_stream t i) c ≡ Some now → (test : Bool) → are_named_in (element_at split i) head.params now ≡ test → are_named_in (element_at split i) head.params now ≡ true
       by_test c now at true is = is
       by_test c now at false is = absurd (unnamed_offends c i (record { head = head; there = here; row = now; stands = row_there t i c now t.cycles at; unnamed = is }))
+
+module _ (split : PlainSplit) (port : IsPortSplit split) (t : TraceText) (run : DecodeRun) (runs : RunsOver split t run) (is_whole_so : IsWhole split t) where
+  finished_at : (i : ℕ) (phys : Phys) (head : Head) (one : StreamKept) → slice_get split.streams i ≡ Some phys → slice_get t.heads i ≡ Some head → head ≡ head_of_stream phys → KeepsStream (stream_with t i head) one
+      → IsFinished phys (element_at split i) (items_done head.params (cycles_of_stream t i)) one
+  finished_at i phys head one there here same keeps =
+      let params : head.params ≡ phys.params = ap (λ (h : Head). h.params) same in
+      let items = items_at split port t (form split t run runs) is_whole_so i phys head there here same keeps.fit in
+      record {
+        built = record { builds = keeps.builds; dims_are = subst (λ (p : Parameters). HasDims p.dims one.builder) params keeps.dims; nested = items.nested; whole = items.whole };
+        words = items.words;
+      }
 
   pub are_finished : AreFinished split (done_on (streams_of t)) run.kept.items
   are_finished = record {

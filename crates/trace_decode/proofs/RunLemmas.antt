@@ -23,8 +23,8 @@ use Rattle.type_split.specs.declared.split.Phys.{Phys}
 use Rattle.cycle_trace.specs.RowSink.{CanTake, IsHeader, begun_by, with_row}
 use Rattle.cycle_trace.specs.Surveying.{IsNextRow}
 use Rattle.cycle_trace.specs.Trace.{TraceText, are_heads, cycles_of_stream, most_cycles, owed, params_of_heads, row_in, streams_of}
-use Rattle.cycle_trace.specs.declared.surveyor.Surveyor.{Surveyor}
-use Rattle.cycle_trace.specs.declared.survey_outcome.FoundOffence.{FoundOffence}
+use Rattle.cycle_trace.specs.declared.surveying.surveyor.Surveyor.{Surveyor}
+use Rattle.cycle_trace.specs.declared.surveying.outcome.FoundOffence.{FoundOffence}
 use Rattle.cycle_trace.proofs.RowAdded.{has_more}
 use Rattle.cycle_trace.proofs.RowsLemmas.{length-owed_heads, some_stream}
 use Rattle.cycle_trace.proofs.StreamLemmas.{head_at, length-streams, stream_of_head, stream_with}

@@ -10,7 +10,7 @@ use Rattle.physical_stream.specs.declared.rule.Rule.TheVariants.{Tag}
 use Rattle.type_split.specs.Streams.{PlainSplit}
 use Rattle.cycle_trace.specs.RowSink.{with_row}
 use Rattle.cycle_trace.specs.Trace.{TraceText}
-use Rattle.cycle_trace.specs.declared.survey_outcome.FoundOffence.{FoundOffence}
+use Rattle.cycle_trace.specs.declared.surveying.outcome.FoundOffence.{FoundOffence}
 use Rattle.trace_decode.specs.Keeping.{are_named_in}
 use Rattle.trace_decode.specs.Running.{IsTagWith}
 use Rattle.trace_decode.specs.Standing.{HasBadTag, IsFirstTag, TagsSay}

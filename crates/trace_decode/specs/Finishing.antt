@@ -14,8 +14,8 @@ use Rattle.logical_value.specs.Tree.{plain_port}
 use Rattle.value_views.specs.Views.{Carries}
 use Rattle.value_views.specs.declared.fault.JoinFault.{JoinFault}
 use Rattle.value_views.specs.declared.fault.JoinFault.TheVariants as joins
-use Rattle.cycle_trace.specs.declared.counts.SurveyFault.{SurveyFault}
-use Rattle.cycle_trace.specs.declared.counts.SurveyFault.TheVariants as surveys
+use Rattle.cycle_trace.specs.declared.surveying.counts.SurveyFault.{SurveyFault}
+use Rattle.cycle_trace.specs.declared.surveying.counts.SurveyFault.TheVariants as surveys
 use Rattle.trace_decode.specs.Keeping.{Builds, HasDims}
 use Rattle.trace_decode.specs.Outcome.{DisagreeAt}
 use Rattle.trace_decode.specs.Tags.{element_at}

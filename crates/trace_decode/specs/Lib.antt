@@ -1,8 +1,9 @@
 pub mod Tags
+pub mod Tagged
 pub mod Outcome
 pub mod Keeping
 pub mod Running
 pub mod Standing
 pub mod Finishing
-pub mod Decoding
+pub mod Texts
 pub mod Laws

@@ -4,7 +4,7 @@ use Rattle.physical_stream.specs.Cycles.{Cycle}
 use Rattle.physical_stream.specs.declared.rule.Rule.TheVariants.{Tag}
 use Rattle.type_split.specs.Streams.{PlainSplit}
 use Rattle.type_split.specs.declared.split.Phys.{Phys}
-use Rattle.cycle_trace.specs.declared.survey_outcome.FoundOffence.{FoundOffence}
+use Rattle.cycle_trace.specs.declared.surveying.outcome.FoundOffence.{FoundOffence}
 use Rattle.trace_decode.specs.Keeping.{CanShow, HasDims, KeepsStream, are_named_in}
 use Rattle.trace_decode.specs.Tags.{element_at}
 use Rattle.trace_decode.specs.declared.stream_kept.StreamKept.{StreamKept}

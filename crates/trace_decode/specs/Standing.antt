@@ -7,10 +7,11 @@ use Rattle.type_split.specs.Carried.{uncarried_of}
 use Rattle.type_split.specs.Streams.{IsPortSplit, PlainSplit, plain_split}
 use Rattle.cycle_trace.specs.SurveyorView.{SurveyorStands}
 use Rattle.cycle_trace.specs.Trace.{TraceText, most_cycles, streams_of}
-use Rattle.cycle_trace.specs.declared.survey_outcome.FoundOffence.{FoundOffence}
+use Rattle.cycle_trace.specs.declared.surveying.outcome.FoundOffence.{FoundOffence}
 use Rattle.port_drive.specs.Drives.{heads_of}
 use Rattle.trace_decode.specs.Keeping.{KeepsStream, are_named_in}
 use Rattle.trace_decode.specs.Outcome.{DifferFirst}
+use Rattle.trace_decode.specs.Tagged.{AreTagged}
 use Rattle.trace_decode.specs.Tags.{element_at}
 use Rattle.trace_decode.specs.declared.decode_run.DecodeRun.{DecodeRun}
 use Rattle.trace_decode.specs.declared.decoder.Decoder.{Decoder}
@@ -52,6 +53,7 @@ pub record RunsOver (split : PlainSplit) (t : TraceText) (run : DecodeRun) : Typ
   pub most : length t.rows ≤ t.cycles * length t.heads
   pub kept : AreKept (streams_of t) run.kept.items
   pub tag : TagsSay split t run.tag
+  pub tagged : AreTagged split run.tagged.items
 
 abbrev pub StageStands : PlainSplit → Stage → Option TraceText → Type 0
 StageStands split stages.Fresh None = Unit {0}

@@ -8,8 +8,11 @@ ghost use Rattle.cycle_trace.specs.Trace.{TraceText, most_cycles};
 ghost use Rattle.port_drive.specs.Drives.{heads_of};
 ghost use Rattle.trace_decode.specs.Running.{AreFresh, CanTakeRow, IsTagWith, TakesRow};
 ghost use Rattle.trace_decode.specs.Standing.{RunsOver};
+ghost use Rattle.trace_decode.specs.Tagged.{AreTagged, has_tags};
+ghost use Rattle.trace_decode.specs.Tags.{element_at};
 
 use crate::stream_kept::StreamKept;
+use crate::tags::has_tags;
 use cycle_trace::{FoundOffence, RowSink, Surveyor};
 use physical_stream::{Header, Row, Rule};
 use std::alloc::Global;
@@ -27,11 +30,14 @@ pub(crate) struct DecodeRun {
     pub(crate) rows: usize,
     /// The first violation of the rule on tags.
     pub(crate) tag: Option<FoundOffence>,
+    /// For each stream, whether its elements have tags.
+    pub(crate) tagged: Vec<bool>,
 }
 
 impl DecodeRun {
     /// The state before the first row of a trace with this header, which is that of the port.
     pub(crate) fn of(alloc: Global, split: &Split<'_>, header: &Header) -> Result<DecodeRun, Memory>
+        requires split { IsPortSplit (plain_split split.now) }
         requires header { IsHeader header.now }
         requires same { header.now.heads ≡ heads_of (plain_split split.now) }
         ensures { IfOk result (RunsOver (plain_split split.now) (begun_by header.now)) }
@@ -39,11 +45,13 @@ impl DecodeRun {
         let mut surveyor = Surveyor::new();
         surveyor.start(alloc, header)?;
         let kept = fresh_streams(alloc, split.streams.as_slice())?;
+        let tagged = tagged_streams(alloc, split)?;
         Ok(DecodeRun {
             surveyor,
             kept,
             rows: 0,
             tag: None,
+            tagged,
         })
     }
 
@@ -62,7 +70,9 @@ impl DecodeRun {
     {
         self.surveyor.row(alloc, row)?;
         let streams = self.kept.len();
-        let named = take_row(alloc, &mut self.kept, split, self.rows % streams, row)?;
+        let stream = self.rows % streams;
+        let tagged = self.tagged[stream];
+        let named = take_row(alloc, &mut self.kept, split, stream, tagged, row)?;
         self.tag = first_tag(self.tag, named, self.rows, streams);
         self.rows += 1;
         Ok(())
@@ -80,6 +90,20 @@ fn fresh_streams(alloc: Global, streams: &[Phys]) -> Result<Vec<StreamKept>, Mem
     Ok(kept)
 }
 
+/// For each stream of a split, whether its elements have tags.
+fn tagged_streams(alloc: Global, split: &Split<'_>) -> Result<Vec<bool>, Memory>
+    requires { IsPortSplit (plain_split split.now) }
+    ensures { IfOk result (λ tagged. AreTagged (plain_split split.now) tagged.items) }
+{
+    let streams = split.streams.as_slice();
+    let mut tagged = Vec::with_capacity(alloc, streams.len())?;
+    'streams: for stream in streams {
+        let node = &split.nodes.as_slice()[stream.node as usize];
+        tagged.push(has_tags(node.element))?;
+    }
+    Ok(tagged)
+}
+
 /// Takes the next row of the stream of this number. False exactly where a tag that is read in it names no variant.
 #[inline(always)]
 fn take_row(
@@ -87,15 +111,17 @@ fn take_row(
     kept: &mut Vec<StreamKept>,
     split: &Split<'_>,
     stream: usize,
+    tagged: bool,
     row: Row<'_>,
 ) -> Result<bool, Memory>
     requires split { IsPortSplit (plain_split split.now) }
+    requires tagged { tagged ≡ has_tags (element_at (plain_split split.now) stream) }
     requires can { CanTakeRow (plain_split split.now) stream kept.old.items (cycle_in row) }
     ensures { TakesRow (plain_split split.now) stream (cycle_in row.entry) kept.old.items kept.new.items result }
 {
     let phys = &split.streams.as_slice()[stream];
     let node = &split.nodes.as_slice()[phys.node as usize];
-    kept[stream].see(alloc, node.element, &phys.params, row)
+    kept[stream].see(alloc, node.element, &phys.params, tagged, row)
 }
 
 /// The first violation of the rule on tags, with the row of this number. The rows are those of so many streams.

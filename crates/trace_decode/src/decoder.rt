@@ -2,7 +2,7 @@
 
 ghost use Rattle.std.specs.Prelude.{◌≡◌, false, None, Some, OnOk};
 ghost use Rattle.physical_stream.specs.Cycles.{cycle_in};
-ghost use Rattle.type_split.specs.Streams.{plain_split};
+ghost use Rattle.type_split.specs.Streams.{PlainSplit, plain_split};
 ghost use Rattle.cycle_trace.specs.RowSink.{CanTake, IsHeader, begun_by, with_row};
 ghost use Rattle.cycle_trace.specs.Trace.{TraceText};
 ghost use Rattle.trace_decode.specs.Outcome.{IsDecoded};
@@ -95,6 +95,10 @@ impl RowSink for Decoder<'_, '_> {
     ghost stands_for = { DecoderStands };
 
     ghost fixed = { λ _. false };
+
+    ghost Setting = { PlainSplit };
+
+    ghost setting = { split_in };
 
     fn start(&mut self, alloc: Global, header: &Header) -> Result<(), Memory> {
         self.begin(alloc, header)

@@ -32,6 +32,7 @@ impl DecodeRun {
             kept,
             rows: _,
             tag,
+            tagged: _,
         } = self;
         match with_offence(surveyor.finish(alloc), tag) {
             Ok(_) => joined(alloc, split, kept),

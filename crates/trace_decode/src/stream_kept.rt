@@ -12,7 +12,9 @@ ghost use Rattle.physical_stream.specs.Shape.{IsNested};
 ghost use Rattle.physical_stream.specs.declared.item.Item.{Item};
 ghost use Rattle.physical_stream.specs.declared.item.Item.TheVariants.{Close, Elem};
 ghost use Rattle.trace_decode.specs.Keeping.{Builds, CanShow, HasDims, IsElementOf, KeepsStream, Takes, are_named, are_named_in, lane_element};
+ghost use Rattle.trace_decode.specs.Tagged.{has_tags};
 
+use crate::tags::word_has_names;
 use logical_types::LType;
 use logical_value::names_variants;
 use nest_shape::{Builder, Nest};
@@ -48,9 +50,11 @@ impl StreamKept {
         alloc: Global,
         element: &LType,
         p: &Params,
+        tagged: bool,
         row: Row<'_>,
     ) -> Result<bool, Memory>
         requires of { IsElementOf (plain element.now) p.now }
+        requires tagged { tagged ≡ has_tags (plain element.now) }
         requires shown { CanShow p.now (cycle_in row) }
         requires dims { HasDims p.now.dims self.old.builder }
         ensures kept { (cycles : List Cycle) → KeepsStream (record { params = p.now; cycles = cycles }) self.old
@@ -58,7 +62,7 @@ impl StreamKept {
         ensures named { IfOk result (λ named. named ≡ are_named_in (plain element.now) p.now (cycle_in row.entry)) }
     {
         match row.shown {
-            Some(transfer) => self.see_shown(alloc, element, p, transfer, row.ready),
+            Some(transfer) => self.see_shown(alloc, element, p, tagged, transfer, row.ready),
             None => Ok(true),
         }
     }
@@ -69,10 +73,12 @@ impl StreamKept {
         alloc: Global,
         element: &LType,
         p: &Params,
+        tagged: bool,
         transfer: &Transfer,
         ready: bool,
     ) -> Result<bool, Memory>
         requires of { IsElementOf (plain element.now) p.now }
+        requires tagged { tagged ≡ has_tags (plain element.now) }
         requires fits { Fits p.now transfer.now }
         requires dims { HasDims p.now.dims self.old.builder }
         ensures kept { (cycles : List Cycle) → KeepsStream (record { params = p.now; cycles = cycles }) self.old
@@ -80,11 +86,11 @@ impl StreamKept {
         ensures named { IfOk result (λ named. named ≡ are_named (plain element.now) (items_of p.now transfer.now)) }
     {
         if !ready {
-            return has_names(alloc, element, p, transfer);
+            return has_names(alloc, element, p, tagged, transfer);
         }
         let user = transfer.user.try_clone(alloc)?;
         self.users.push(user)?;
-        self.take(alloc, element, p, transfer)
+        self.take(alloc, element, p, tagged, transfer)
     }
 
     /// Takes the items of a transfer that is done. False exactly where a tag that is read in them names no variant.
@@ -93,9 +99,11 @@ impl StreamKept {
         alloc: Global,
         element: &LType,
         p: &Params,
+        tagged: bool,
         transfer: &Transfer,
     ) -> Result<bool, Memory>
         requires of { IsElementOf (plain element.now) p.now }
+        requires tagged { tagged ≡ has_tags (plain element.now) }
         requires fits { Fits p.now transfer.now }
         requires dims { HasDims p.now.dims self.old.builder }
         ensures taken { OnOk result (Takes (items_of p.now transfer.now) self.old self.new) }
@@ -103,7 +111,7 @@ impl StreamKept {
     {
         let mut named = true;
         'lanes: for lane in 0..p.lanes {
-            named &= self.take_lane(alloc, element, p, transfer, lane)?;
+            named &= self.take_lane(alloc, element, p, tagged, transfer, lane)?;
         }
         Ok(named)
     }
@@ -114,10 +122,12 @@ impl StreamKept {
         alloc: Global,
         element: &LType,
         p: &Params,
+        tagged: bool,
         transfer: &Transfer,
         lane: u16,
     ) -> Result<bool, Memory>
         requires of { IsElementOf (plain element.now) p.now }
+        requires tagged { tagged ≡ has_tags (plain element.now) }
         requires fits { Fits p.now transfer.now }
         requires within { lane < p.now.lanes }
         requires numbered { lane < 128 }
@@ -125,7 +135,7 @@ impl StreamKept {
         ensures taken { OnOk result (Takes (lane_items p.now transfer.now lane) self.old self.new) }
         ensures named { IfOk result (λ named. named ≡ are_named (plain element.now) (lane_items p.now transfer.now lane)) }
     {
-        let named = self.take_element(alloc, element, p, transfer, lane)?;
+        let named = self.take_element(alloc, element, p, tagged, transfer, lane)?;
         self.take_closes(p, transfer, lane)?;
         Ok(named)
     }
@@ -136,10 +146,12 @@ impl StreamKept {
         alloc: Global,
         element: &LType,
         p: &Params,
+        tagged: bool,
         transfer: &Transfer,
         lane: u16,
     ) -> Result<bool, Memory>
         requires of { IsElementOf (plain element.now) p.now }
+        requires tagged { tagged ≡ has_tags (plain element.now) }
         requires fits { Fits p.now transfer.now }
         requires within { lane < p.now.lanes }
         requires numbered { lane < 128 }
@@ -148,7 +160,7 @@ impl StreamKept {
     {
         if is_active(transfer, lane) {
             let word = lane_word(alloc, p, transfer, lane)?;
-            let named = names_variants(element, &word);
+            let named = word_has_names(element, tagged, &word);
             self.element(word)?;
             Ok(named)
         } else {
@@ -238,17 +250,22 @@ impl StreamKept {
     }
 }
 
-/// Whether each tag that is read in a transfer names a variant.
+/// Whether each tag that is read in a transfer names a variant. Where the elements have no tags, no word is looked at.
 fn has_names(
     alloc: Global,
     element: &LType,
     p: &Params,
+    tagged: bool,
     transfer: &Transfer,
 ) -> Result<bool, Memory>
     requires of { IsElementOf (plain element.now) p.now }
+    requires tagged { tagged ≡ has_tags (plain element.now) }
     requires fits { Fits p.now transfer.now }
     ensures { IfOk result (λ named. named ≡ are_named (plain element.now) (items_of p.now transfer.now)) }
 {
+    if !tagged {
+        return Ok(true);
+    }
     let mut named = true;
     'lanes: for lane in 0..p.lanes {
         named &= lane_has_names(alloc, element, p, transfer, lane)?;

@@ -6,6 +6,7 @@ use Rattle.type_split.specs.Streams.{plain_split}
 use Rattle.type_split.specs.declared.split.Node.{Node}
 use Rattle.type_split.specs.declared.split.Phys.{Phys}
 use Rattle.trace_decode.specs.Keeping.{CanShow, HasDims, IsElementOf}
+use Rattle.trace_decode.specs.Tagged.{has_tags}
 use Rattle.trace_decode.specs.declared.stream_kept.StreamKept.{StreamKept}
 use Rattle.trace_decode.proofs.RowLemmas.{element_node, is_read, same_some, takes_row}
 use Rattle.trace_decode.proofs.decode_run.take_row.Goals as goal
@@ -48,3 +49,10 @@ returns c =
     let found = slice_get-get_or c.args.kept.now.items c.args.stream c.index_mut.result.now (slice_get_within c.args.kept.now.items c.args.stream c.requires.can.one c.requires.can.found) ∙ ap (λ (k : StreamKept). Some k) (sym c.index_mut.ensures.value) in
     takes_row (plain_split c.args.split.now) c.args.stream (cycle_in c.args.row) c.args.kept.now.items c.index-as_slice-stream.result c.index_mut.result.now c.see.new.self
     (plain c.index-as_slice-phys.result.element.now) c.see.result there found (has.at ∙ ap (λ (n : Node). plain n.element.now) (sym is_node)) c.see.ensures.kept c.see.ensures.named
+
+pub see-requires-clause-tagged : goal.see-requires-clause-tagged
+see-requires-clause-tagged c =
+    let same = is_read c.args.split.now.streams c.as_slice.result.now c.args.stream c.requires.can.phys c.index-as_slice-stream.result c.requires.can.there c.as_slice.ensures c.index-as_slice-stream.is in
+    let has = element_node c.args.split.now c.requires.split c.args.stream c.index-as_slice-stream.result (subst (λ (p : Phys). slice_get c.args.split.now.streams c.args.stream ≡ Some p) (sym same) c.requires.can.there) in
+    let is = is_read c.args.split.now.nodes c.as_slice-2.result.now c.index-as_slice-stream.result.node has.node c.index-as_slice-phys.result has.found c.as_slice-2.ensures c.index-as_slice-phys.is in
+    c.requires.tagged ∙ ap has_tags (has.at ∙ ap (λ (n : Node). plain n.element.now) (sym is))

@@ -29,8 +29,8 @@ returns-in-Ok c t runs =
     let whole = whole_from split t runs.heads c.in-Ok.field-0 answers in
     decoded_from split c.requires.can.port t c.args.self runs whole c.joined.result (c.joined.ensures (done_on (streams_of t)) (are_finished split c.requires.can.port t c.args.self runs whole))
 
-pub returns-in-Err : goal.returns-in-Err
-returns-in-Err c t runs =
+pub returns : goal.returns
+returns c t runs =
     let split = plain_split c.args.split.now in
     let said = answers-with (offends_in t) (OffendsByTag split t) (streams_of t) c.finish.result (option_map offence_of c.args.self.tag) (c.finish.ensures t runs.surveyed) (tags_first split t c.args.self runs) in
     let answers = subst (Answers (OffendsByEither (offends_in t) (OffendsByTag split t)) (streams_of t)) (sym c.with_offence.ensures ∙ c.in-Err.is) said in

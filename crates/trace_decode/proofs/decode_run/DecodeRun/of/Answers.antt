@@ -16,5 +16,6 @@ returns c = record {
   kept =
       runs-begun (plain_split c.args.split.now) c.args.header.now c.start.new.self c.in_ok-kept.kept.items c.requires.header c.requires.same
       (subst (λ (l : List Phys). AreFresh l c.in_ok-kept.kept.items) c.as_slice.ensures c.in_ok-kept.ensures);
+  tagged = c.in_ok-tagged.ensures;
   tag = λ cycle stream bad. let none = bad.stands in cc;
 }
