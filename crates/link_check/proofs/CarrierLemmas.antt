@@ -1,5 +1,6 @@
 -- Carriers: what they hand on.
-use Rattle.std.proofs.Common.{◌≡◌, ℕ, ◌≤◌, List, length, Option, Some, None, IfSome, Result, OnOk, sym, subst}
+use Rattle.std.proofs.Common.{◌≡◌, ℕ, ◌≤◌, List, length, Option, Some, None, IfSome, Result, OnOk, sym, ap, subst}
+use Rattle.std.specs.List.{slice_get}
 use Rattle.tydi_base.proofs.TestLemmas.{on_ok}
 use Rattle.tydi_base.specs.declared.memory.Memory.{Memory}
 use Rattle.physical_stream.specs.Cycles.{Cycle}
@@ -11,7 +12,7 @@ use Rattle.physical_stream.specs.declared.transfer.Transfer.{Transfer}
 use Rattle.cycle_trace.specs.RowSink.{CanTake, IsHeader, with_row}
 use Rattle.cycle_trace.specs.Trace.{TraceText, owed, params_of_heads}
 use Rattle.link_check.specs.Carriers.{CanRise, HandsOn}
-use Rattle.link_check.specs.Carry.{carried}
+use Rattle.link_check.specs.Carry.{FirstOther, carried}
 use Rattle.link_check.proofs.CarryLemmas.{AllRise-owed, Rises, above-at, heads-rise, same-heads, shows-above}
 
 -- a row that can come next can come next where it arrives
@@ -48,3 +49,7 @@ module _ {K : Type 0} (stands : K → Option TraceText → Type 0) (from to : Li
 
 pub some_inside : {A : Type 0} {x y : A} → Some x ≡ Some y → x ≡ y
 some_inside is = cc
+
+-- one list of heads has no first head that is another
+pub not-other : (heads others : List Head) (stream : ℕ) → heads ≡ others → FirstOther heads others stream → ⊥
+not-other heads others stream same first = first.here (ap (λ (l : List Head). slice_get l stream) same)

@@ -21,7 +21,7 @@ use Rattle.cycle_trace.specs.Trace.{TraceText, all_distinct, are_heads, cycles_o
 use Rattle.cycle_trace.proofs.RowsLemmas.{length-owed_heads}
 use Rattle.cycle_trace.proofs.StreamLemmas.{head_at, length-streams, stream_with}
 use Rattle.link_check.specs.Carry.{AreAlike, LevelsRise, carried}
-use Rattle.link_check.specs.CarryLaws.{CanCarry, CarriedEndingsStay, CarriedStreamsStay, CarriedTracesStand, CarriedTracesStayLegal}
+use Rattle.link_check.specs.CarryLaws.{CarriedEndingsStay, CarriedStreamsRise, CarriedStreamsStay, CarriedTracesStand, CarriedTracesStayLegal}
 
 -- ---- heads and parameters
 
@@ -110,8 +110,8 @@ traces_stand t heads can = record {
 same-cycles : (t : TraceText) (heads : List Head) (stream : ℕ) → length heads ≡ length t.heads → cycles_of_stream (carried heads t) stream ≡ cycles_of_stream t stream
 same-cycles t heads stream many = ap (λ n. parts_below (λ cycle. option_to_list (slice_get t.rows (cycle * n + stream))) t.cycles) many
 
-pub streams-rise : (t : TraceText) (heads : List Head) → CanCarry t heads → levels.AreRaised (streams_of t) (streams_of (carried heads t))
-streams-rise t heads can = record {
+pub streams_rise : CarriedStreamsRise
+streams_rise t heads can = record {
   many = length-streams (carried heads t) 0 heads ∙ can.alike.many ∙ sym (length-streams t 0 t.heads);
   each = λ stream low high here there.
       let one = head_at t stream low here in
@@ -124,7 +124,7 @@ streams-rise t heads can = record {
 
 pub streams_stay : CarriedStreamsStay
 streams_stay t heads can stream one other here there =
-    let raised = (streams-rise t heads can).each stream one other here there in
+    let raised = (streams_rise t heads can).each stream one other here there in
     record {
       cycles = raised.cycles;
       items = λ now. ap (λ (p : Parameters). items_of_all p (done_in now)) raised.params;
@@ -132,7 +132,7 @@ streams_stay t heads can stream one other here there =
     }
 
 pub traces_stay_legal : CarriedTracesStayLegal
-traces_stay_legal t heads can legal = λ o offends. legal o (offences_fall (streams_of t) (streams_of (carried heads t)) o (streams-rise t heads can) offends)
+traces_stay_legal t heads can legal = λ o offends. legal o (offences_fall (streams_of t) (streams_of (carried heads t)) o (streams_rise t heads can) offends)
 
 unfinished-stay : (from to : List StreamTrace) (stream : ℕ) → levels.AreRaised from to → first_unfinished stream to ≡ first_unfinished stream from
 unfinished-stay [] [] stream raised = refl
@@ -143,4 +143,4 @@ unfinished-stay (low ∷ from) (high ∷ to) stream raised =
     ∙ ap (or_unfinished stream (ending_of low.params low.cycles)) (unfinished-stay from to (suc stream) (record { many = omega (arith, raised.many); each = λ i l h here there. raised.each (suc i) l h here there }))
 
 pub endings_stay : CarriedEndingsStay
-endings_stay t heads can = unfinished-stay (streams_of t) (streams_of (carried heads t)) 0 (streams-rise t heads can)
+endings_stay t heads can = unfinished-stay (streams_of t) (streams_of (carried heads t)) 0 (streams_rise t heads can)

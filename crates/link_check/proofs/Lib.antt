@@ -10,9 +10,9 @@ mod CountLemmas
 mod OrderLemmas
 mod TextOrderLemmas
 mod SizeLemmas
-mod CheckedLemmas
+pub mod CheckedLemmas
 mod TextLemmas
-mod NetLemmas
+pub mod NetLemmas
 mod ChainLemmas
 mod FoundLemmas
 mod WayLemmas

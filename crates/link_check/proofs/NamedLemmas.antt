@@ -1,5 +1,6 @@
 -- Things by their names: the first of a list that grows, and the plain data of a port that was found.
-use Rattle.std.proofs.Common.{◌≡◌, ℕ, zero, suc, add-one, arith, ◌+◌, ◌<◌, Bool, true, false, cond, ◌&&◌, nat_eq, List, [], ◌∷◌, ◌++◌, map, length, get_or, take, Option, Some, None, option_copied, option_map, refl, sym, ap, ◌∙◌}
+use Rattle.std.proofs.Common.{◌≡◌, ℕ, zero, suc, add-one, arith, ◌+◌, ◌<◌, Bool, true, false, cond, ◌&&◌, nat_eq, List, [], ◌∷◌, ◌++◌, map, length, get_or}
+use Rattle.std.proofs.Common.{take, Option, Some, None, option_and_then, option_copied, option_map, refl, sym, ap, ◌∙◌}
 use Rattle.std.specs.Borrow.{Bor}
 use Rattle.std.specs.List.{find, slice_get}
 use Rattle.std.specs.Option.{option_or}
@@ -13,7 +14,10 @@ use Rattle.til_resolve.specs.declared.project.Port.{Port}
 use Rattle.til_resolve.specs.declared.project.Streamlet.{Streamlet}
 use Rattle.link_check.proofs.TestLemmas.{clash}
 use Rattle.link_check.specs.Ends.{ports_found, ports_at, port_named}
+use Rattle.link_check.specs.CarryLaws.{port_at}
+use Rattle.link_check.specs.Chains.{streamlet_under}
 use Rattle.link_check.specs.Steps.{inward_at}
+use Rattle.link_check.specs.declared.leaf.LeafPort.{LeafPort}
 use Rattle.link_check.specs.Tables.{Home, lent_port, port_in, ports_there, port_at_home}
 
 -- ---- the first of a list that grows
@@ -84,6 +88,21 @@ inward-found streamlets number name ports found those is =
     twice : (o : Option (Bor Port)) → option_map (λ (port : Bor Port). port.now.inward) o ≡ option_map (λ (port : PlainPort). port.inward) (option_map (λ (port : Bor Port). plain_port port.now) o)
     twice None = refl
     twice (Some port) = refl
+
+-- the port at a leaf port, by the number of its streamlet and its name
+pub port-at-found : (streamlets lent : List Streamlet) (leaf : LeafPort) (names : List (List ℕ)) (under : Option ℕ) (number : ℕ) (ports : List Port)
+    (found : Option (Bor Port)) → lent ≡ streamlets
+    → names ≡ leaf.instances → under ≡ streamlet_under (map plain_streamlet lent) leaf.top names → under ≡ Some number
+    → ports ≡ ports_there (slice_get lent number) → option_copied found ≡ port_in ports leaf.port
+    → option_map plain_port (option_copied found) ≡ port_at (map plain_streamlet streamlets) leaf
+port-at-found streamlets lent leaf names under number ports found all inner is some those named =
+    ap (option_map plain_port) (named ∙ ap (λ (l : List Port). port_in l leaf.port) (those ∙ ap (λ (l : List Streamlet). ports_there (slice_get l number)) all))
+    ∙ sym (port_named-plain streamlets number leaf.port)
+    ∙ sym (ap (option_and_then (λ n. port_named (ports_at (map plain_streamlet streamlets) n) leaf.port)) at)
+  where
+    at : streamlet_under (map plain_streamlet streamlets) leaf.top leaf.instances ≡ Some number
+    at = ap (λ (l : List (List ℕ)). streamlet_under (map plain_streamlet streamlets) leaf.top l) (sym inner)
+        ∙ ap (λ (l : List Streamlet). streamlet_under (map plain_streamlet l) leaf.top names) (sym all) ∙ sym is ∙ some
 
 -- ---- ports in tables
 

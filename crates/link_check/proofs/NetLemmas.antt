@@ -128,6 +128,11 @@ same-itself end = by end.instance (bytes_eq end.port end.port) ((bytes_eq-Decide
     by None rest e = e
     by (Some name) rest e = and (bytes_eq name name) rest ((bytes_eq-Decides name name).1 refl) e
 
+-- no two nets are one
+abbrev pub AreOnce : List Net → Type 0
+AreOnce [] = Unit {0}
+AreOnce (net ∷ more) = ((other : Net) → Contains more other → net ≡ other → ⊥) × AreOnce more
+
 -- ---- the sides of a net's ends
 
 -- an end is a source end or a sink end, where it is an end
@@ -282,6 +287,17 @@ module _ (streamlets : List PlainStreamlet) (inside : Inside) where
         by (inr later) (inl it) rest = absurd (first-meets one later (ap pick it ∙ sym same))
         by (inr later) (inr also) rest = rest parts.1 later also same
 
+    -- no two links have one end
+    pub nets-once : (earlier links : List Link) → fault_of_links streamlets inside earlier links ≡ None → AreOnce (map (net_of streamlets inside) links)
+    nets-once earlier [] none = tt
+    nets-once earlier (link ∷ more) none =
+        let parts = neither (fault_of_link streamlets inside earlier link) (fault_of_links streamlets inside (earlier ++ link ∷ []) more) none in
+        (first-once parts.1, nets-once (earlier ++ link ∷ []) more parts.1)
+      where
+        first-once : fault_of_links streamlets inside (earlier ++ link ∷ []) more ≡ None → (net : Net) → Contains (map (net_of streamlets inside) more) net → net_of streamlets inside link ≡ net → ⊥
+        first-once clean net later same = let found = Contains-mapped (net_of streamlets inside) more net later in
+            meets earlier link found.0 (later-apart (earlier ++ link ∷ []) more found.0 clean found.1) (ap pick (same ∙ sym found.2))
+
   source-among : (first second : LinkEnd) (one : Option Side) → ((net_of_side one first second).source ≡ first) ⊎ ((net_of_side one first second).source ≡ second)
   source-among first second None = inr refl
   source-among first second (Some one) = by one.is_source
@@ -297,6 +313,10 @@ module _ (streamlets : List PlainStreamlet) (inside : Inside) where
       by : (is : Bool) → ((net_between is first second).sink ≡ first) ⊎ ((net_between is first second).sink ≡ second)
       by true = inr refl
       by false = inl refl
+
+  -- no two nets of links without a fault are one
+  pub all-once : (links : List Link) → fault_of_links streamlets inside [] links ≡ None → AreOnce (map (net_of streamlets inside) links)
+  all-once links = nets-once (λ (net : Net). net.source) (λ (link : Link). source-among link.first link.second (side_of streamlets inside link.first)) [] links
 
   pub alone-by_source : (links : List Link) (one other : Net) → fault_of_links streamlets inside [] links ≡ None
       → Contains (map (net_of streamlets inside) links) one → Contains (map (net_of streamlets inside) links) other → one.source ≡ other.source → one ≡ other

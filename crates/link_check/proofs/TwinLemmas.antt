@@ -214,10 +214,13 @@ all-rise (source ∷ sources) (sink ∷ sinks) linked = let rest = all-rise sour
         subst (λ (h : Head). Rises h other) same (subst (λ (h : Head). Rises (head_from source sink) h) also (one-rises source sink linked.0))
     at rest (suc i) one other here there = rest i one other here there
 
+-- the heads of the streams of compatible ports
+pub ports-linked : (source sink : Ltype) → Compatible false source sink → AreLinked (heads_of_port source) (heads_of_port sink)
+ports-linked source sink compatible = heads-linked 0 (nodes_of source) (nodes_of sink) ((twins false source sink compatible).nodes [] outermost_place 0 0 refl)
+
 pub compatible_ports_rise : CompatiblePortsRise
 compatible_ports_rise source sink compatible =
-    let twin = (twins false source sink compatible).nodes [] outermost_place 0 0 refl in
-    let all = all-rise (heads_of_port source) (heads_of_port sink) (heads-linked 0 (nodes_of source) (nodes_of sink) twin) in
+    let all = all-rise (heads_of_port source) (heads_of_port sink) (ports-linked source sink compatible) in
     record {
       alike = record { many = all.0; each = λ stream one other here there. (all.1 stream one other here there).alike };
       rise = λ stream one other here there. (all.1 stream one other here there).level;

@@ -7,8 +7,6 @@ use Rattle.link_check.specs.declared.carrier.Carrier.{Carrier}
 use Rattle.link_check.specs.declared.end_heads.EndHeads.{EndHeads}
 use Rattle.link_check.specs.declared.carry_fault.CarryFault.{CarryFault}
 use Rattle.link_check.specs.declared.carry_fault.CarryFault.TheVariants as faults
-use Rattle.link_check.specs.declared.carry_fault.Uncarried.{Uncarried}
-use Rattle.link_check.specs.declared.carry_fault.Uncarried.TheVariants as lacks
 
 -- the heads at both ends are alike, and no level falls
 pub record CanRise (from to : List Head) : Type 0 where
@@ -30,12 +28,10 @@ abbrev pub FallsFirst : (from to : List Head) → CarryFault → Type 0
 FallsFirst from to (faults.NotLevel stream) = FirstFalls from to stream
 FallsFirst from to faults.Memory = Unit {0}
 
--- at the end of a trace: the sink stands for the trace that arrives; or this is the first stream with another head; or the carrier was
--- made with other heads than these
-abbrev pub Arrives : {K : Type 0} → (K → Option TraceText → Type 0) → Carrier K → (from to : List Head) → TraceText → Result K Uncarried → Type 0
-Arrives stands carrier from to t (Ok sink) = (t.heads ≡ from) × stands sink (Some (carried to t))
-Arrives stands carrier from to t (Err (lacks.OtherHeader stream)) = FirstOther from t.heads stream
-Arrives stands carrier from to t (Err lacks.OtherEnds) = carrier.from ≡ from → carrier.to.heads ≡ to → ⊥
+-- at the end of a trace: the sink stands for the trace that arrives; or this is the first stream with another head
+abbrev pub Arrives : {K : Type 0} → (K → Option TraceText → Type 0) → (from to : List Head) → TraceText → Result K ℕ → Type 0
+Arrives stands from to t (Ok sink) = (t.heads ≡ from) × stands sink (Some (carried to t))
+Arrives stands from to t (Err stream) = FirstOther from t.heads stream
 
 -- these are the heads between two ports: where the streams come from, and where they arrive
 pub record AreBetween (source sink : List Head) (heads : EndHeads) : Type 0 where

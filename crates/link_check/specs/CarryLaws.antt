@@ -5,6 +5,7 @@ use Rattle.physical_stream.specs.Ending.{ending_of}
 use Rattle.physical_stream.specs.First.{IsFirst}
 use Rattle.physical_stream.specs.Items.{items_of_all}
 use Rattle.physical_stream.specs.declared.head.Head.{Head}
+use Rattle.complexity_rules.specs.Levels.{AreRaised}
 use Rattle.cycle_trace.specs.Survey.{first_unfinished}
 use Rattle.cycle_trace.specs.Surveying.{offends_in}
 use Rattle.cycle_trace.specs.Trace.{IsTrace, TraceText, streams_of}
@@ -38,6 +39,10 @@ pub record IsSameStream (one other : StreamTrace) : Type 0 where
 abbrev pub CarriedStreamsStay : Type 0
 CarriedStreamsStay = (t : TraceText) (heads : List Head) → CanCarry t heads
     → (stream : ℕ) (one other : StreamTrace) → slice_get (streams_of t) stream ≡ Some one → slice_get (streams_of (carried heads t)) stream ≡ Some other → IsSameStream one other
+
+-- and each stands at a level whose first number is not lower; nothing else of it is another
+abbrev pub CarriedStreamsRise : Type 0
+CarriedStreamsRise = (t : TraceText) (heads : List Head) → CanCarry t heads → AreRaised (streams_of t) (streams_of (carried heads t))
 
 -- a trace without an offence arrives without one
 abbrev pub CarriedTracesStayLegal : Type 0

@@ -1,14 +1,15 @@
 //! A sink that hands rows on under other heads.
 
-ghost use Rattle.std.specs.Prelude.{◌≡◌, OnOk, MatchResult, Option, Some, None};
+ghost use Rattle.std.specs.Prelude.{◌≡◌, IfOk, OnOk, MatchResult, List, Option, Some, None};
 ghost use Rattle.physical_stream.specs.Cycles.{Cycle, cycle_in};
+ghost use Rattle.physical_stream.specs.declared.head.Head.{Head};
 ghost use Rattle.cycle_trace.specs.RowSink.{CanTake, IsHeader, begun_by, with_row};
 ghost use Rattle.cycle_trace.specs.Trace.{TraceText};
 ghost use Rattle.link_check.specs.Carriers.{Arrives, CarrierStands, FallsFirst};
 ghost use Rattle.link_check.specs.Carry.{AreAlike};
 
-use crate::carry_fault::{CarryFault, Uncarried};
-use crate::heads::{first_fall, first_other, is_same_list};
+use crate::carry_fault::CarryFault;
+use crate::heads::{first_fall, first_other};
 use cycle_trace::RowSink;
 use physical_stream::{Head, Header, Row};
 use std::alloc::Global;
@@ -31,7 +32,8 @@ impl<K: RowSink> Carrier<K> {
     pub fn new(from: List<Head>, to: List<Head>, sink: K) -> Result<Carrier<K>, CarryFault>
         requires alike { AreAlike from to }
         requires fresh { K.stands_for sink None }
-        ensures { MatchResult result (λ carrier. CarrierStands K.stands_for carrier None) (FallsFirst from to) }
+        ensures stands { MatchResult result (λ carrier. CarrierStands K.stands_for carrier None) (FallsFirst from to) }
+        ensures ends { IfOk result (λ carrier. (carrier.from ≡ from) × (carrier.to.heads ≡ to)) }
     {
         match first_fall(from.as_slice(), to.as_slice()) {
             Some(stream) => Err(CarryFault::NotLevel(stream)),
@@ -47,19 +49,13 @@ impl<K: RowSink> Carrier<K> {
         }
     }
 
-    /// The sink with the trace that arrived, from streams with the one list of heads at streams with the other. It fails with `OtherEnds`
-    /// exactly where the carrier was made with other lists, and else with the first stream whose head is another one.
-    pub fn finish(self, from: &[Head], to: &[Head]) -> Result<K, Uncarried>
-        ensures { (t : TraceText) → CarrierStands K.stands_for self (Some t) → Arrives K.stands_for self from.now to.now t result }
+    /// The sink with the trace that arrived. The error is the first stream, counted from 0, whose head is not the one where the carrier's
+    /// streams come from; where one list of heads is shorter, it is the length of that list. It takes no memory.
+    pub fn finish(self) -> Result<K, usize>
+        ensures { (t : TraceText) → CarrierStands K.stands_for self (Some t) → Arrives K.stands_for self.from self.to.heads t result }
     {
-        if !is_same_list(self.from.as_slice(), from) {
-            return Err(Uncarried::OtherEnds);
-        }
-        if !is_same_list(self.to.heads.as_slice(), to) {
-            return Err(Uncarried::OtherEnds);
-        }
         match self.other {
-            Some(stream) => Err(Uncarried::OtherHeader(stream)),
+            Some(stream) => Err(stream),
             None => Ok(self.sink),
         }
     }
@@ -69,6 +65,10 @@ impl<K: RowSink> RowSink for Carrier<K> {
     ghost stands_for = { CarrierStands K.stands_for };
 
     ghost fixed = { λ carrier. K.fixed carrier.sink };
+
+    ghost Setting = { List Head × (List Head × K.Setting) };
+
+    ghost setting = { λ carrier. (carrier.from, (carrier.to.heads, K.setting carrier.sink)) };
 
     fn start(&mut self, alloc: Global, header: &Header) -> Result<(), Memory> {
         match first_other(self.from.as_slice(), header.heads.as_slice()) {

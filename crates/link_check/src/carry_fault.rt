@@ -22,13 +22,3 @@ impl From<Memory> for CarryFault {
         CarryFault::Memory
     }
 }
-
-/// The rows of a trace were not carried. Streams are counted from 0.
-#[derive(Debug, Drop)]
-pub enum Uncarried {
-    /// The first stream whose head is another one; where one list of heads is shorter, the length of that list.
-    OtherHeader(usize),
-
-    /// The heads are not those that the carrier was made with.
-    OtherEnds,
-}

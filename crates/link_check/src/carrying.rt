@@ -24,11 +24,11 @@ pub fn carry(alloc: Global, from: &Header, to: &Header, trace: &Trace) -> Result
     let others = to.heads.try_clone(alloc)?;
     let mut carrier = Carrier::new(heads, others, Keep::new())?;
     trace.replay(alloc, &mut carrier)?;
-    let Ok(keep) = carrier.finish(from.heads.as_slice(), to.heads.as_slice()) else {
-        return Err(CarryFault::Memory);
+    let Ok(keep) = carrier.finish() else {
+        unreachable!()
     };
     match keep.trace() {
-        Some(trace) => Ok(trace),
+        Some(arrived) => Ok(arrived),
         None => Err(CarryFault::Memory),
     }
 }

@@ -1,9 +1,10 @@
 //! Chains of nets: where the nets of a design lead from a leaf source.
 
-ghost use Rattle.std.specs.Prelude.{◌≡◌, IfOk, Decides, map, nat_eq, find, slice_get};
+ghost use Rattle.std.specs.Prelude.{◌≡◌, IfOk, Decides, map, nat_eq, find, option_map, slice_get};
 ghost use Rattle.std.specs.Option.{option_copied};
-ghost use Rattle.til_resolve.specs.PlainProject.{plain_project, plain_streamlet};
+ghost use Rattle.til_resolve.specs.PlainProject.{plain_port, plain_project, plain_streamlet};
 ghost use Rattle.link_check.specs.Chains as spec;
+ghost use Rattle.link_check.specs.CarryLaws.{port_at};
 ghost use Rattle.link_check.specs.Chains.{IsLeafSource, IsSinkOf, LeadsToSink};
 ghost use Rattle.link_check.specs.Checked.{AreNets};
 ghost use Rattle.link_check.specs.Ends.{instance_named, is_same_end};
@@ -153,6 +154,26 @@ impl Nets {
         ensures { option_copied result ≡ find (λ one. nat_eq one.streamlet number) self.now.impls }
     {
         self.impls.iter().find(|one| one.streamlet == number)
+    }
+}
+
+impl LeafPort {
+    /// Whether it is a leaf source of a project.
+    pub fn is_source(&self, project: &Project) -> bool
+        ensures { Decides result (IsLeafSource (plain_project project.now).streamlets self.now) }
+    {
+        is_leaf_source(project.streamlets.as_slice(), self)
+    }
+
+    /// The port of a project that stands there. None exactly where none does.
+    pub fn find_port<'p>(&self, project: &'p Project) -> Option<&'p Port>
+        ensures { option_map plain_port (option_copied result) ≡ port_at (plain_project project.now).streamlets self.now }
+    {
+        let streamlets = project.streamlets.as_slice();
+        match streamlet_under(streamlets, self.top, self.instances.as_slice()) {
+            None => None,
+            Some(number) => named_port(ports_in(streamlets, number), &self.port),
+        }
     }
 }
 

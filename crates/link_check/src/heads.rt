@@ -23,13 +23,6 @@ pub(crate) fn first_other(heads: &[Head], others: &[Head]) -> Option<usize>
     }
 }
 
-/// Two lists of heads are one.
-pub(crate) fn is_same_list(heads: &[Head], others: &[Head]) -> bool
-    ensures { IsTrue result ↔ (heads.now ≡ others.now) }
-{
-    first_other(heads, others).is_none()
-}
-
 /// Two heads are one.
 fn is_same_head(one: &Head, other: &Head) -> bool
     ensures { IsTrue result ↔ (one.now ≡ other.now) }

@@ -72,6 +72,10 @@ impl RowSink for KeptText {
 
     ghost fixed = { λ _. false };
 
+    ghost Setting = { Unit {0} };
+
+    ghost setting = { λ _. tt };
+
     fn start(&mut self, alloc: Global, header: &Header) -> Result<(), Memory> {
         self.heads = header.heads.try_clone(alloc)?;
         self.text = List::new(alloc);

@@ -2,6 +2,7 @@
 
 ghost use Rattle.link_check.specs.CarryLaws.{
   CarriedEndingsStay,
+  CarriedStreamsRise,
   CarriedStreamsStay,
   CarriedTracesStand,
   CarriedTracesStayLegal,
@@ -43,6 +44,7 @@ pub fn chains_end_in_one_sink()
 pub fn carried_traces_keep_their_laws()
     ensures stand { CarriedTracesStand }
     ensures streams { CarriedStreamsStay }
+    ensures rise { CarriedStreamsRise }
     ensures legal { CarriedTracesStayLegal }
     ensures endings { CarriedEndingsStay }
 {}

@@ -34,7 +34,7 @@ mod text;
 mod wiring;
 
 pub use carrier::Carrier;
-pub use carry_fault::{CarryFault, Uncarried};
+pub use carry_fault::CarryFault;
 pub use carrying::carry;
 pub use checking::check;
 pub use difference::{Difference, Why};

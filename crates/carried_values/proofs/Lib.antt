@@ -1,0 +1,7 @@
+mod TypeLemmas
+mod WordLemmas
+mod NestLemmas
+mod SeriesLemmas
+mod CompatibleLemmas
+mod HeadLemmas
+mod LawLemmas

@@ -1,0 +1,2 @@
+pub mod WithoutLevels
+pub mod Laws
