@@ -5,3 +5,13 @@ mod SplitLemmas
 mod ArchLemmas
 mod CarriedLemmas
 mod ClashLemmas
+mod ApartLemmas
+mod PathLemmas
+mod TargetLemmas
+mod EndLemmas
+mod NetLemmas
+mod ChannelLemmas
+mod SetLemmas
+mod CarryingLemmas
+mod LengthLemmas
+mod PieceLemmas

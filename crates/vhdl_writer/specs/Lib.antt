@@ -7,3 +7,6 @@ pub mod Finding
 pub mod EndStreams
 pub mod Laws
 pub mod PortClashes
+pub mod Designs
+pub mod WiringLaws
+pub mod Least

@@ -1,11 +1,13 @@
 //! The entities and architectures of a project.
 
-ghost use Rattle.std.specs.Prelude.{◌≡◌, IfOk, map};
+ghost use Rattle.std.specs.Prelude.{◌≡◌, ◌<◌, IfOk, map};
+ghost use Rattle.tydi_base.specs.Lengths.{most_bytes};
 ghost use Rattle.til_resolve.specs.PlainProject.{HasPortTypes, plain_project, plain_streamlet};
 ghost use Rattle.til_resolve.specs.SoundProject.{instances_inside};
 ghost use Rattle.link_check.specs.Chains.{is_structural};
 ghost use Rattle.vhdl_writer.specs.Architecture as spec;
 ghost use Rattle.vhdl_writer.specs.Clashes.{AreArchitectures};
+ghost use Rattle.vhdl_writer.specs.Designs.{AreWithin, IsDesignText};
 
 use crate::component::Component;
 use crate::design::Design;
@@ -13,6 +15,9 @@ use crate::entity::entity_ports;
 use crate::fault::ArchFault;
 use crate::inside::Inside;
 use crate::instances::{all_parts, all_wires, signals_at};
+use crate::least::is_over;
+use crate::measured::Measured;
+use crate::pieces::{DesignPieces, DesignText};
 use crate::sets::all_sets;
 use crate::splitting::components_of;
 use crate::tables::{instances_by_name, nets_by_number, ports_by_name};
@@ -20,7 +25,7 @@ use link_check::{ImplNets, Net, Nets};
 use std::alloc::Global;
 use til_resolve::{Impl, Instance, Project, Streamlet};
 use tydi_base::{List, Memory, TryClone};
-use vhdl_text::Arch;
+use vhdl_text::{Arch, arch_length};
 
 /// The entity of each streamlet in text order, with the architecture that these nets, which `link_check::check` gives, make of its
 /// instances and links. NameClash comes exactly where the type of some port has two physical streams of one path; it names the path of the
@@ -31,23 +36,60 @@ pub fn architecture(alloc: Global, project: &Project, nets: &Nets) -> Result<Lis
 {
     let streamlets = project.streamlets.as_slice();
     let components = components_of(alloc, streamlets)?;
-    let archs = all_archs(
+    let made = archs_within(
         alloc,
         streamlets,
         components.as_slice(),
         nets.impls.as_slice(),
+        u64::MAX - 1,
     )?;
-    Ok(archs)
+    match made {
+        Some(made) => Ok(made.archs),
+        None => Err(ArchFault::Memory),
+    }
 }
 
-/// The entities and architectures of streamlets that have these components and nets.
-fn all_archs(
+/// The text of the entities and architectures that `architecture` gives, in pieces that are made one after another, and how many bytes it
+/// has. None where it has more bytes than the limit: no text is made then, and no architecture whose signals and port maps alone pass it.
+/// NameClash comes exactly where `architecture` has it. Memory comes where there is none for the entities and architectures.
+pub fn design_text(
+    alloc: Global,
+    project: &Project,
+    nets: &Nets,
+    limit: u64,
+) -> Result<Option<DesignText>, ArchFault>
+    requires types { HasPortTypes (plain_project project.now) }
+    requires limit { limit < most_bytes }
+    ensures { IsDesignText (plain_project project.now).streamlets nets.now.impls limit result }
+{
+    let streamlets = project.streamlets.as_slice();
+    let components = components_of(alloc, streamlets)?;
+    let made = archs_within(
+        alloc,
+        streamlets,
+        components.as_slice(),
+        nets.impls.as_slice(),
+        limit,
+    )?;
+    match made {
+        Some(Measured { archs, length }) => Ok(Some(DesignText {
+            pieces: DesignPieces::new(archs),
+            length,
+        })),
+        None => Ok(None),
+    }
+}
+
+/// The entities and architectures of streamlets that have these components and nets, where their text has at most so many bytes.
+fn archs_within(
     alloc: Global,
     streamlets: &[Streamlet],
     components: &[Component],
     impls: &[ImplNets],
-) -> Result<List<Arch>, Memory>
-    ensures { IfOk result (λ archs. archs ≡ spec.archs_from (map plain_streamlet streamlets.now) components.now impls.now 0 (map plain_streamlet streamlets.now)) }
+    limit: u64,
+) -> Result<Option<Measured>, Memory>
+    requires { limit < most_bytes }
+    ensures { IfOk result (AreWithin limit (spec.archs_from (map plain_streamlet streamlets.now) components.now impls.now 0 (map plain_streamlet streamlets.now))) }
 {
     let design = Design {
         streamlets,
@@ -56,11 +98,20 @@ fn all_archs(
         ports_by_name: ports_by_name(alloc, components)?,
         nets_by_number: nets_by_number(alloc, impls)?,
     };
-    let mut archs = List::with_capacity(alloc, streamlets.len())?;
+    let mut archs = List::new(alloc);
+    let mut length: u64 = 0;
     'streamlets: for (number, streamlet) in streamlets.iter().enumerate() {
-        archs.push(arch_of(alloc, &design, number, streamlet)?)?;
+        if is_over(components, instances_of(streamlet), limit - length) {
+            return Ok(None);
+        }
+        let arch = arch_of(alloc, &design, number, streamlet)?;
+        length = length.saturating_add(arch_length(&arch));
+        if length > limit {
+            return Ok(None);
+        }
+        archs.push(arch)?;
     }
-    Ok(archs)
+    Ok(Some(Measured { archs, length }))
 }
 
 /// The entity of a streamlet of this number, and its architecture if it has one.

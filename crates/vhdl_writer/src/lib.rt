@@ -18,13 +18,20 @@ mod fault;
 mod inside;
 mod instances;
 mod laws;
+mod least;
+mod measured;
 mod names;
+mod pieces;
 mod sets;
 mod signals;
 mod splitting;
 mod tables;
 
-pub use archs::architecture;
+pub use archs::{architecture, design_text};
 pub use clash::{Clash, first_clash};
 pub use fault::ArchFault;
-pub use laws::{assignments_carry_cycles, first_clash_is_reported};
+pub use laws::{
+    assignments_carry_cycles, checked_nets_carry, each_signal_is_assigned_once,
+    first_clash_is_reported,
+};
+pub use pieces::{DesignPieces, DesignText};
