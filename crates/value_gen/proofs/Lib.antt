@@ -1,0 +1,4 @@
+mod Weights
+mod MadeLemmas
+pub mod FitLemmas
+mod Examples
