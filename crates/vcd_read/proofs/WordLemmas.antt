@@ -1,0 +1,110 @@
+-- The words of states.
+use Rattle.std.proofs.Common.{◌≡◌, ◌∙◌, ℕ, zero, suc, ◌+◌, ◌-◌, ◌≤◌, Bool, true, false, List, [], ◌∷◌, ◌++◌, length, map, replicate, Option, Some, None, option_map, if◌then◌else◌, append_assoc, refl, sym, ap, arith}
+use Rattle.std.specs.List.{list_all}
+use Rattle.std.proofs.lemmas.List.{append-nil, length-append, length-replicate}
+use Rattle.tydi_base.specs.Binary.{binary_bits, binary_word, is_binary_digit}
+use Rattle.tydi_base.specs.Bits.{zero_bits}
+use Rattle.vcd_read.specs.Letters.{letter_of}
+use Rattle.vcd_read.specs.Words.{bit_of, filled, filling, onto_states, states_of, under, word_of}
+use Rattle.vcd_read.specs.Wires.{IsWide}
+use Rattle.vcd_read.specs.declared.state.State.{State}
+use Rattle.vcd_read.specs.declared.state.State.TheVariants as states
+
+-- a bit more
+one_more : (all : Bool) (bits : List Bool) (rest : Option (List Bool)) (bit : Bool) → (if all then Some bits else None) ≡ rest → (if all then Some (bits ++ bit ∷ []) else None) ≡ under (Some bit) rest
+unfolding under
+one_more true bits rest bit is = ap (under (Some bit)) is
+one_more false bits rest bit is = ap (under (Some bit)) is
+
+-- the letters of states are the digits of their word
+pub binary-letters : (found : List State) → binary_word (map letter_of found) ≡ word_of found
+unfolding binary_word binary_bits under bit_of
+binary-letters [] = refl
+binary-letters (states.Low ∷ more) = one_more (list_all is_binary_digit (map letter_of more)) (binary_bits (map letter_of more)) (word_of more) false (binary-letters more)
+binary-letters (states.High ∷ more) = one_more (list_all is_binary_digit (map letter_of more)) (binary_bits (map letter_of more)) (word_of more) true (binary-letters more)
+binary-letters (states.Unknown ∷ more) = refl
+binary-letters (states.Floating ∷ more) = refl
+
+-- zeros above a word
+abbrev pub above : ℕ → Option (List Bool) → Option (List Bool)
+above count word = option_map (λ bits. bits ++ zero_bits count) word
+
+zeros-next : (count : ℕ) → zero_bits count ++ false ∷ [] ≡ zero_bits (suc count)
+zeros-next zero = refl
+zeros-next (suc count) = ap (λ (bits : List Bool). false ∷ bits) (zeros-next count)
+
+above-next : (count : ℕ) (word : Option (List Bool)) → under (Some false) (above count word) ≡ above (suc count) word
+unfolding under
+above-next count None = refl
+above-next count (Some bits) = ap (λ (b : List Bool). Some b) (append_assoc bits (zero_bits count) (false ∷ []) ∙ ap (λ (b : List Bool). bits ++ b) (zeros-next count))
+
+above-none : (word : Option (List Bool)) → word ≡ above 0 word
+above-none None = refl
+above-none (Some bits) = ap (λ (b : List Bool). Some b) (sym (append-nil bits))
+
+low-word : (count : ℕ) (found : List State) → word_of (replicate count states.Low ++ found) ≡ above count (word_of found)
+unfolding under bit_of
+low-word zero found = above-none (word_of found)
+low-word (suc count) found = ap (under (Some false)) (low-word count found) ∙ above-next count (word_of found)
+
+unknown-word : (count : ℕ) (found : List State) → word_of (replicate count states.Unknown ++ states.Unknown ∷ found) ≡ None
+unfolding under bit_of
+unknown-word zero found = refl
+unknown-word (suc count) found = refl
+
+floating-word : (count : ℕ) (found : List State) → word_of (replicate count states.Floating ++ states.Floating ∷ found) ≡ None
+unfolding under bit_of
+floating-word zero found = refl
+floating-word (suc count) found = refl
+
+-- the word of a vector that is filled
+filling-word : (count : ℕ) (found : List State) → word_of (replicate count (filling found) ++ found) ≡ above count (word_of found)
+unfolding under bit_of
+filling-word count [] = low-word count []
+filling-word count (states.Low ∷ more) = low-word count (states.Low ∷ more)
+filling-word count (states.High ∷ more) = low-word count (states.High ∷ more)
+filling-word count (states.Unknown ∷ more) = unknown-word count more
+filling-word count (states.Floating ∷ more) = floating-word count more
+
+pub length-letters : (found : List State) → length (map letter_of found) ≡ length found
+length-letters [] = refl
+length-letters (state ∷ more) = ap suc (length-letters more)
+
+pub filled-word : (width : ℕ) (letters : List ℕ) (found : List State) → letters ≡ map letter_of found → word_of (filled width found) ≡ above (width - length letters) (binary_word letters)
+filled-word width letters found is =
+    filling-word (width - length found) found ∙ ap (above (width - length found)) (sym (binary-letters found) ∙ ap binary_word (sym is))
+    ∙ ap (λ n. above (width - n) (binary_word letters)) (sym (ap length is ∙ length-letters found))
+
+-- ---- states, letter by letter
+
+-- the states after others
+abbrev pub after : List State → Option (List State) → Option (List State)
+after found None = None
+after found (Some more) = Some (found ++ more)
+
+-- the letters that are read, and those that are left, are all
+pub record AreRead (letters rest kept : List ℕ) : Type 0 where
+  pub found : List State
+  pub kept_are : kept ≡ map letter_of found
+  pub all : states_of letters ≡ after found (states_of rest)
+
+pub after-next : (found : List State) (state : State) (rest : Option (List State)) → after found (onto_states (Some state) rest) ≡ after (found ++ state ∷ []) rest
+unfolding onto_states
+after-next found state None = refl
+after-next found state (Some more) = ap (λ (l : List State). Some l) (sym (append_assoc found (state ∷ []) more))
+
+-- ---- widths
+
+under-wide : (bit : Option Bool) (word : Option (List Bool)) (width : ℕ) → IsWide width word → IsWide (suc width) (under bit word)
+unfolding under
+under-wide None word width wide = tt
+under-wide (Some bit) None width wide = tt
+under-wide (Some bit) (Some bits) width wide = length-append bits (bit ∷ []) ∙ (let same : length bits ≡ width = wide in omega arith)
+
+-- the word of states has a bit for each
+pub word-wide : (found : List State) → IsWide (length found) (word_of found)
+word-wide [] = refl
+word-wide (state ∷ more) = under-wide (bit_of state) (word_of more) (length more) (word-wide more)
+
+pub length-filled : (width : ℕ) (found : List State) → length found ≤ width → length (filled width found) ≡ width
+length-filled width found few = length-append (replicate (width - length found) (filling found)) found ∙ ap (λ n. n + length found) (length-replicate (width - length found) (filling found)) ∙ omega arith

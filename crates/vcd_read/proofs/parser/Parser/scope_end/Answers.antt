@@ -1,0 +1,21 @@
+use Rattle.std.proofs.Common.{◌∙◌, ◌∷◌, ℕ, List, refl, sym, subst}
+use Rattle.vcd_read.specs.History.{Opens}
+use Rattle.vcd_read.specs.Profile.{Beginning, next}
+use Rattle.vcd_read.specs.Words.{is_end}
+use Rattle.vcd_read.proofs.ParserLemmas.{granted, refused}
+use Rattle.vcd_read.specs.Dump as dumps
+use Rattle.vcd_read.proofs.parser.Parser.scope_end.Goals as goal
+
+pub returns-then-not-is_end-clause-takes : goal.returns-then-not-is_end-clause-takes
+unfolding next
+returns-then-not-is_end-clause-takes c scope parts is = refused (is_end c.args.word.now) c.args.offset _ (sym c.is_end.ensures ∙ c.if-not-is_end.true)
+
+pub returns-in-Ok-clause-takes : goal.returns-in-Ok-clause-takes
+unfolding next
+returns-in-Ok-clause-takes c scope parts is = (
+  record { awaited = Beginning; parts = Opens c.args.self.now.name ∷ parts },
+  (
+    granted (is_end c.args.word.now) c.args.offset _ (sym c.is_end.ensures ∙ c.if-not-is_end.false),
+    record { dump_is = subst (λ (n : List ℕ). dumps.StandsFor scope c.open_scope.new.self (Opens n ∷ parts)) c.as_slice.ensures (c.in-Ok.ensures.stands scope parts is); awaited_is = refl },
+  ),
+)

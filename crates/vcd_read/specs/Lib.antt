@@ -1,0 +1,12 @@
+pub mod Tokens
+pub mod Words
+pub mod Letters
+pub mod History
+pub mod Profile
+pub mod Numbers
+pub mod Wires
+pub mod Variables
+pub mod Dump
+pub mod Parser
+pub mod Checked
+pub mod Reader

@@ -1,0 +1,203 @@
+//! Dumps whose text comes in pieces.
+
+ghost use Rattle.std.specs.Prelude.{◌≡◌, ◌↔◌, ◌<◌, ◌≤◌, ◌+◌, ◌^◌, ◌++◌, ◌∷◌, [], ℕ, List, length, Some, None, IfOk, IsErr, IsTrue};
+ghost use Rattle.tydi_base.specs.Reading.{Gives};
+ghost use Rattle.vcd_read.specs.Checked.{checked, clock_found, fault_in, parts_found};
+ghost use Rattle.vcd_read.specs.History.{clock_in};
+ghost use Rattle.vcd_read.specs.Parser as parsers;
+ghost use Rattle.vcd_read.specs.Profile.{Reached, finished, read_on};
+ghost use Rattle.vcd_read.specs.Reader.{HasRoom, StandsFor, fault_of};
+ghost use Rattle.vcd_read.specs.Tokens.{is_blank, token_at};
+ghost use Rattle.vcd_read.specs.declared.parser.Stop.TheVariants as stops;
+
+use crate::fault::VcdFault;
+use crate::parser::{Parser, Stop};
+use std::alloc::Global;
+use tydi_base::{List, Memory, Path};
+
+/// Reads a dump whose text comes in pieces.
+#[derive(Drop)]
+pub struct VcdReader {
+    pub(crate) parser: Parser,
+    /// The place of the token that is begun, or of the next byte.
+    pub(crate) start: u64,
+    /// The bytes of the token that is begun.
+    pub(crate) begun: List<u8>,
+    /// Why nothing more is read.
+    pub(crate) stop: Option<Stop>,
+}
+
+impl VcdReader {
+    /// A reader that was fed nothing. The clock is looked for in the scope of this path. `Memory` comes where there is none for the path.
+    pub fn new(alloc: Global, scope: &Path) -> Result<VcdReader, Memory>
+        ensures { IfOk result (λ reader. StandsFor scope.now reader []) }
+    {
+        Ok(VcdReader {
+            parser: Parser::new(alloc, scope)?,
+            start: 0,
+            begun: List::new(alloc),
+            stop: None,
+        })
+    }
+
+    /// Reads the next bytes of the text. After `Memory` every later call answers `Memory`.
+    pub fn feed(&mut self, alloc: Global, piece: &[u8]) -> Result<(), Memory>
+        requires { HasRoom self.old (length piece.now) }
+        ensures stands { (scope : List (List ℕ)) (fed : List ℕ) → StandsFor scope self.old fed → StandsFor scope self.new (fed ++ piece.now) }
+        ensures memory { IsErr result ↔ (self.new.stop ≡ Some stops.Memory) }
+    {
+        'bytes: for byte in piece {
+            self.byte(alloc, *byte);
+        }
+        self.outcome()
+    }
+
+    /// Whether memory ran out.
+    fn outcome(&self) -> Result<(), Memory>
+        ensures { IsErr result ↔ (self.now.stop ≡ Some stops.Memory) }
+    {
+        match self.stop {
+            Some(Stop::Memory) => Err(Memory),
+            _ => Ok(()),
+        }
+    }
+
+    /// Reads the next byte.
+    #[inline(always)]
+    fn byte(&mut self, alloc: Global, byte: u8)
+        requires { HasRoom self.old 1 }
+        ensures { (scope : List (List ℕ)) (fed : List ℕ) → StandsFor scope self.old fed → StandsFor scope self.new (fed ++ byte ∷ []) }
+    {
+        match self.stop {
+            Some(_) => {}
+            None => {
+                if is_blank(byte) {
+                    self.blank(alloc, byte);
+                } else {
+                    self.go_on(byte);
+                }
+            }
+        }
+    }
+
+    /// The token that is begun goes on with this byte.
+    #[inline(always)]
+    fn go_on(&mut self, byte: u8)
+        requires some { self.old.stop ≡ None }
+        requires word { IsTrue (is_blank byte) → ⊥ }
+        ensures { (scope : List (List ℕ)) (fed : List ℕ) → StandsFor scope self.old fed → StandsFor scope self.new (fed ++ byte ∷ []) }
+    {
+        match self.begun.push(byte) {
+            Ok(()) => {}
+            Err(Memory) => self.stop = Some(Stop::Memory),
+        }
+    }
+
+    /// The token that is begun ends before this byte.
+    fn blank(&mut self, alloc: Global, byte: u8)
+        requires some { self.old.stop ≡ None }
+        requires room { HasRoom self.old 1 }
+        requires blank { IsTrue (is_blank byte) }
+        ensures { (scope : List (List ℕ)) (fed : List ℕ) → StandsFor scope self.old fed → StandsFor scope self.new (fed ++ byte ∷ []) }
+    {
+        match self.end_token(alloc) {
+            Ok(()) => {
+                self.start = self.start + self.begun.len() as u64 + 1;
+                self.begun.truncate(0);
+            }
+            Err(stop) => self.stop = Some(stop),
+        }
+    }
+
+    /// Takes the token that is begun, where there is one.
+    fn end_token(&mut self, alloc: Global) -> Result<(), Stop>
+        requires some { self.old.stop ≡ None }
+        requires room { HasRoom self.old 1 }
+        ensures takes { (scope : List (List ℕ)) (reached : Reached) → parsers.StandsFor scope self.old.parser reached
+            → parsers.Takes scope result self.new.parser (read_on reached.awaited reached.parts (token_at self.old.start self.old.begun)) }
+        ensures block { self.new.parser.dump.wires.block ≤ self.old.start + length self.old.begun }
+        ensures start { self.new.start ≡ self.old.start }
+        ensures begun { self.new.begun ≡ self.old.begun }
+        ensures stop { self.new.stop ≡ self.old.stop }
+    {
+        if self.begun.len() == 0 {
+            return Ok(());
+        }
+        self.parser.take(alloc, self.start, self.begun.as_slice())
+    }
+
+    /// Whether the whole text is of the profile, no time stamp of it is below the one before it, and it has a clock; or its first error.
+    pub fn finish(self, alloc: Global) -> Result<(), VcdFault>
+        requires { HasRoom self 1 }
+        ensures { (scope : List (List ℕ)) (fed : List ℕ) → StandsFor scope self fed → Gives fault_in (λ found. found) result (checked scope fed) }
+    {
+        let mut reader = self;
+        reader.end(alloc)
+    }
+
+    /// The same, in place.
+    fn end(&mut self, alloc: Global) -> Result<(), VcdFault>
+        requires { HasRoom self.old 1 }
+        ensures { (scope : List (List ℕ)) (fed : List ℕ) → StandsFor scope self.old fed → Gives fault_in (λ found. found) result (checked scope fed) }
+    {
+        match self.stop {
+            Some(stop) => Err(fault_of(stop)),
+            None => self.end_text(alloc),
+        }
+    }
+
+    /// The same of a text no token of which is against the profile so far.
+    fn end_text(&mut self, alloc: Global) -> Result<(), VcdFault>
+        requires some { self.old.stop ≡ None }
+        requires room { HasRoom self.old 1 }
+        ensures { (scope : List (List ℕ)) (fed : List ℕ) → StandsFor scope self.old fed → Gives fault_in (λ found. found) result (checked scope fed) }
+    {
+        match self.end_token(alloc) {
+            Ok(()) => self.judge(),
+            Err(stop) => Err(fault_of(stop)),
+        }
+    }
+
+    /// What is found of a text all tokens of which are read.
+    fn judge(&self) -> Result<(), VcdFault>
+        requires { self.now.start + length self.now.begun < 2 ^ 64 }
+        ensures { (scope : List (List ℕ)) (reached : Reached) → parsers.StandsFor scope self.now.parser reached
+            → Gives fault_in (λ found. found) result (parts_found scope (finished (self.now.start + length self.now.begun) reached.awaited reached.parts)) }
+    {
+        if !self.parser.is_finished() {
+            return Err(VcdFault::Syntax(self.start + self.begun.len() as u64));
+        }
+        match self.parser.dump.times.back {
+            Some(offset) => Err(VcdFault::TimeBack(offset)),
+            None => self.judge_clock(),
+        }
+    }
+
+    /// Whether there is a clock.
+    fn judge_clock(&self) -> Result<(), VcdFault>
+        ensures { (scope : List (List ℕ)) (reached : Reached) → parsers.StandsFor scope self.now.parser reached → Gives fault_in (λ found. found) result (clock_found (clock_in scope reached.parts)) }
+    {
+        match self.parser.dump.variables.clock {
+            Some(_) => Ok(()),
+            None => Err(VcdFault::NoClock),
+        }
+    }
+}
+
+/// Whether a byte is white space.
+#[inline(always)]
+fn is_blank(byte: u8) -> bool
+    ensures { result ≡ is_blank byte }
+{
+    (byte == b' ') | (byte == b'\n') | (byte == b'\r') | (byte == b'\t')
+}
+
+/// The error of a text of which no more is read.
+fn fault_of(stop: Stop) -> VcdFault
+    ensures { result ≡ fault_of stop }
+{
+    match stop {
+        Stop::Syntax(offset) => VcdFault::Syntax(offset),
+        Stop::Memory => VcdFault::Memory,
+    }
+}
