@@ -12,9 +12,9 @@ use Rattle.physical_stream.proofs.FirstLemmas.{IsFirst-one}
 use Rattle.cycle_trace.specs.Trace.{TraceText, streams_of}
 use Rattle.cycle_trace.specs.TraceText.{trace_of}
 use Rattle.cycle_trace.specs.Survey.{Surveys, counts_of, first_unfinished, survey_of}
-use Rattle.cycle_trace.specs.declared.counts.Counts.{Counts}
-use Rattle.cycle_trace.specs.declared.counts.SurveyFault.{SurveyFault}
-use Rattle.cycle_trace.specs.declared.counts.SurveyFault.TheVariants as faults
+use Rattle.cycle_trace.specs.declared.surveying.counts.Counts.{Counts}
+use Rattle.cycle_trace.specs.declared.surveying.counts.SurveyFault.{SurveyFault}
+use Rattle.cycle_trace.specs.declared.surveying.counts.SurveyFault.TheVariants as faults
 use Rattle.cycle_trace.specs.declared.fault.TraceFault.{TraceFault}
 use Rattle.til_lexer.specs.Tokens.{tokens_of}
 use Rattle.til_lexer.specs.declared.fault.LexFault.{LexFault}
@@ -110,7 +110,7 @@ ReadsTrace-once word = record {
   lines = λ bytes one other p q. ReadsReading-line word (trace_of bytes) one other p q;
 }
 
-ReportsEnd-one : (path : List (List ℕ)) (end : End) (a b : Answer) → ReportsEnd path end a → ReportsEnd path end b → a ≡ b
+pub ReportsEnd-one : (path : List (List ℕ)) (end : End) (a b : Answer) → ReportsEnd path end a → ReportsEnd path end b → a ≡ b
 ReportsEnd-one path ends.Whole a b x y = absurd x
 ReportsEnd-one path ends.Pending a b x y = x ∙ sym y
 ReportsEnd-one path (ends.Unclosed k) a b x y = x ∙ sym y

@@ -37,15 +37,15 @@ not_both : {X : Type 0} (x : X) (line : List ℕ) → ◌≡◌ {A = Result X (L
 not_both x line e = cc
 
 module _ {X F : Type 0} (refusal : F → Option Refusal) where
-  result-same : (read : Result X F) (x y : X) → ReadsResult refusal read (Ok x) → ReadsResult refusal read (Ok y) → x ≡ y
+  pub result-same : (read : Result X F) (x y : X) → ReadsResult refusal read (Ok x) → ReadsResult refusal read (Ok y) → x ≡ y
   result-same (Ok found) x y p q = same_ok x y (p ∙ sym q)
   result-same (Err fault) x y p q = absurd (not_read (refusal fault) x p)
 
-  result-apart : (read : Result X F) (x : X) (line : List ℕ) → ReadsResult refusal read (Ok x) → ReadsResult refusal read (Err line) → ⊥
+  pub result-apart : (read : Result X F) (x : X) (line : List ℕ) → ReadsResult refusal read (Ok x) → ReadsResult refusal read (Err line) → ⊥
   result-apart (Ok found) x line p q = not_both x line (p ∙ sym q)
   result-apart (Err fault) x line p q = not_read (refusal fault) x p
 
-  result-lines : (read : Result X F) (one other : List ℕ) → ReadsResult refusal read (Err one) → ReadsResult refusal read (Err other) → one ≡ other
+  pub result-lines : (read : Result X F) (one other : List ℕ) → ReadsResult refusal read (Err one) → ReadsResult refusal read (Err other) → one ≡ other
   result-lines (Ok found) one other p q = absurd (not_both found one (sym p))
   result-lines (Err fault) one other p q = RefusesBy-line X (refusal fault) one other p q
 
@@ -59,7 +59,7 @@ module _ {X F : Type 0} (refusal : F → Option Refusal) where
       by None is none = told fault refl is
 
   -- what was read
-  result-read : (read : Result X F) (x : X) → ReadsResult refusal read (Ok x) → read ≡ Ok x
+  pub result-read : (read : Result X F) (x : X) → ReadsResult refusal read (Ok x) → read ≡ Ok x
   result-read (Ok found) x p = ap Ok (sym (same_ok x found p))
   result-read (Err fault) x p = absurd (not_read (refusal fault) x p)
 

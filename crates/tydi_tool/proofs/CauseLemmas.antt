@@ -1,18 +1,17 @@
 -- Each answer comes exactly where its cause stands.
-use Rattle.std.proofs.Common.{◌≡◌, ℕ, ◌<◌, ◌≤◌, inl, inr, Bool, true, false, cond, nat_lt, List, length, Option, Some, None, option_map, Result, Ok, Err, codes, decimal, refl, sym, ap, ◌∙◌, subst}
+use Rattle.std.proofs.Common.{◌≡◌, ℕ, ◌<◌, ◌≤◌, ◌⊎◌, ◌++◌, inl, inr, Bool, true, false, cond, nat_lt, List, length, Option, Some, None, option_map, Result}
+use Rattle.std.proofs.Common.{Ok, Err, codes, decimal, refl, sym, ap, ◌∙◌, subst}
 use Rattle.std.specs.Str.Lossy.{utf8_valid_len}
 use Rattle.tydi_base.specs.Path.{path_text}
 use Rattle.tydi_base.specs.Reading.{◌>>=◌}
 use Rattle.tydi_io.specs.Store.{Files}
 use Rattle.physical_stream.specs.First.{Offence, IsFirst}
-use Rattle.physical_stream.specs.declared.end.End.{End}
-use Rattle.physical_stream.specs.declared.end.End.TheVariants as ends
 use Rattle.cycle_trace.specs.Trace.{TraceText, streams_of}
 use Rattle.cycle_trace.specs.TraceText.{trace_of}
 use Rattle.cycle_trace.specs.Survey.{Surveys, UnfinishedStream, counts_of, first_unfinished, survey_of}
 use Rattle.cycle_trace.specs.Surveying.{offends_in}
-use Rattle.cycle_trace.specs.declared.counts.Counts.{Counts}
-use Rattle.cycle_trace.specs.declared.counts.SurveyFault.{SurveyFault}
+use Rattle.cycle_trace.specs.declared.surveying.counts.Counts.{Counts}
+use Rattle.cycle_trace.specs.declared.surveying.counts.SurveyFault.{SurveyFault}
 use Rattle.cycle_trace.specs.declared.fault.TraceFault.{TraceFault}
 use Rattle.til_lexer.specs.declared.fault.LexFault.{LexFault}
 use Rattle.til_lexer.specs.declared.token.Token.{Token}
@@ -35,8 +34,15 @@ use Rattle.tydi_tool.specs.declared.answer.Answer.TheVariants as answers
 use Rattle.tydi_tool.specs.declared.traces.Survey.{Survey}
 use Rattle.tydi_tool.specs.Ask.{Ask, Ends, SaysBy, TellsOf, goes_on}
 use Rattle.tydi_tool.specs.Causes as rows
-use Rattle.tydi_tool.specs.Causes.{Row, row_of, HasBytes, HasText, HasTraceText, HasSplit, HasDrive, HasReason, HasTraceFault, HasValueFault, HasPlanFault, HasBench, HasRun, HasBenchFault, HasRunFault, HasTextFault, PortWords, DriveWords, SimWords, simulated_in, carried_in, driven_in, port_in, project_of, resolved_of, trace_in, unfinished_line, IsTextOf, CausedBy, ExactlyWhere, NoFileCause, TooLongCause, NotUtf8Cause, LexerCause, ParserCause, ResolverCause, NoPortCause, NameClashCause, NoCarrierCause, TextFaultCause, CountNotMultipleCause, NotFinishedCause, LinkFaultCause, OffenceCause, UnfinishedCause, link_line, linked_in}
-use Rattle.tydi_tool.specs.Commands.{ask_of, Says, check_ask, carried_ask, link_ask, planned_ask, port_ask, run_ask, sim_ask}
+use Rattle.tydi_tool.specs.Causes.{Row, row_of, HasBytes, HasText, HasTraceText, HasSplit, HasDrive, HasReason, HasTraceFault, HasValueFault, HasPlanFault}
+use Rattle.tydi_tool.specs.Causes.{HasBench, HasRun, HasBenchFault, HasRunFault, HasTextFault, PortWords, DriveWords, SimWords, simulated_in, carried_in}
+use Rattle.tydi_tool.specs.Causes.{driven_in, port_in, project_of, resolved_of, trace_in, unfinished_line, IsTextOf, CausedBy, ExactlyWhere, NoFileCause}
+use Rattle.tydi_tool.specs.Causes.{TooLongCause, NotUtf8Cause, LexerCause, ParserCause, ResolverCause, NoPortCause, NameClashCause, NoCarrierCause}
+use Rattle.tydi_tool.specs.Causes.{TextFaultCause, CountNotMultipleCause, NotFinishedCause, LinkFaultCause, CheckedOffence, CheckedUnfinished, OffenceCause}
+use Rattle.tydi_tool.specs.Causes.{UnfinishedCause, DecodeWords, decoded_in, link_line, ChecksLinks, PortClashes, SourceClashes, DesignClashCause}
+use Rattle.tydi_tool.specs.Causes.{at_port}
+use Rattle.tydi_tool.specs.Commands.{ask_of, Says, check_ask, outcome_ask, carried_ask, link_ask, planned_ask, port_ask, run_ask, sim_ask, of_design}
+use Rattle.tydi_tool.specs.Commands.{vhdl_ask}
 use Rattle.tydi_tool.specs.Drives.{TellsDriven, carried, path_of, refused_by, refusal_of_driving}
 use Rattle.tydi_tool.specs.Files.{NoFile, TooLong}
 use Rattle.tydi_tool.specs.Lines.{legal_text}
@@ -44,16 +50,19 @@ use Rattle.tydi_tool.specs.Outcome.{output_answer, output_limit, output_too_long
 use Rattle.tydi_tool.specs.Ports.{split_at, split_unless}
 use Rattle.tydi_tool.specs.Projects.{ReadsProject}
 use Rattle.tydi_tool.specs.Refusals.{not_utf8, refusal_line, refusal_of_lexing, refusal_of_plan, refusal_of_resolving, refusal_of_trace, refusal_of_value, refusal_of_bench, refusal_of_run}
-use Rattle.tydi_tool.specs.Reports.{Reports, ReportsEnd, path_of_stream}
+use Rattle.tydi_tool.specs.Reports.{Reports, path_of_stream}
 use Rattle.tydi_tool.specs.Texts.{ReadsPlan, ReadsPlanned}
 use Rattle.tydi_tool.specs.Traces.{ReadsReading, ReadsTrace}
 use Rattle.tydi_tool.specs.Trees.{ReadsCoded, ReadsTokens, ReadsTree, refusal_of_parsing}
-use Rattle.tydi_tool.specs.Words.{Request, Check, Drive, Link, Read, Sim, Split, bench_file, project_file, text_file, trace_file}
+use Rattle.tydi_tool.specs.Words.{Request, Check, Decode, Drive, Link, Read, Sim, Split, bench_file, project_file, text_file, trace_file, Carry, Vhdl}
 use Rattle.tydi_tool.proofs.AnswerLemmas.{not_read}
 use Rattle.link_check.specs.Checked.{linked}
 use Rattle.link_check.specs.Text.{nets_text}
 use Rattle.link_check.specs.declared.fault.LinkFault.{LinkFault}
 use Rattle.link_check.specs.declared.nets.Nets.{Nets}
+use Rattle.vhdl_writer.specs.PortClashes.{first_clash}
+use Rattle.vhdl_writer.specs.declared.clash.Clash.{Clash}
+use Rattle.tydi_tool.specs.Entities.{TellsApart, TellsDesign, refusal_of_clash, text_of_nets}
 use Rattle.tydi_tool.specs.Links.{TellsChecked, TellsLinked, TellsRefusal, refusal_of_linking}
 use Rattle.tydi_tool.specs.Refusals.{Refusal}
 use Rattle.vhdl_text.specs.Reading.{bench_of}
@@ -67,7 +76,13 @@ use Rattle.tydi_tool.specs.Reading.{ReadsResult}
 use Rattle.tydi_tool.specs.Benches.{ReadsBench, ReadsRun}
 use Rattle.tydi_tool.proofs.BenchLemmas.{ReadsBench-read, ReadsRun-read, bench-read, run-read}
 use Rattle.tydi_tool.proofs.CauseLines.{bench_text, by_line, caused_row, lexer_text, line_of, link_text, one_word, parser_text, plan_text, resolver_text, run_text, same_some, three_words, trace_text, two_words, value_text}
-use Rattle.tydi_tool.proofs.CauseSteps.{Told, over_test, reaches-read, refuses_project, refuses_tree, says-found, says-plan, says-planned, says-port, says-read, says-refused, says-uncarried, says-value, says_lack, test_over, test_within, told-carried, told-file, told-planned, told-port, within_test}
+use Rattle.tydi_tool.proofs.CauseDecodes.{decodes, says-decoded_offence, says-decoded_unfinished, says-disagreement, says-other_header}
+use Rattle.tydi_tool.proofs.CauseDecodes.{says-port_trace_fault, says-value_text, told-decoded}
+use Rattle.tydi_tool.proofs.CauseSteps.{Told, ends_line, over_test, reaches-read, refuses_project, reports_end, refuses_tree, says-found, says-plan}
+use Rattle.tydi_tool.proofs.CauseSteps.{says-planned, says-port, says-read, says-refused, says-uncarried, says-value, says_lack, test_over, test_within}
+use Rattle.tydi_tool.proofs.CauseSteps.{told-carried, told-file, told-planned, told-port, within_test, gives_text}
+use Rattle.tydi_tool.proofs.CarryCauses.{of_carry, says-unread, says_carried_fault, says_carried_text, says_no_path, says_no_streamlet, says_other_header}
+use Rattle.tydi_tool.proofs.CarryCauses.{says_source_clash, says_unlinked, told_carry}
 use Rattle.tydi_tool.proofs.FileLemmas.{file_of-long, file_of-missing}
 
 -- the words of a port of a project, and those of a port that is driven
@@ -77,15 +92,11 @@ of_project project port = record { project = project; port = port }
 abbrev pub of_drive : (project port value plan : List ℕ) → DriveWords
 of_drive project port value plan = record { at = of_project project port; value = value; plan = plan }
 
--- ---- an answer has a cause
+-- those of a port that is decoded
+abbrev pub of_decode : (project port trace : List ℕ) → DecodeWords
+of_decode project port trace = record { at = of_project project port; trace = trace }
 
--- an answer that gives a text
-gives_text : (known : Files) (request : Request) (text : List ℕ) (a : Answer) → IsTextOf known request text → a ≡ output_answer text → Told known request a
-gives_text known request text a is said = by (nat_lt output_limit (length text)) refl said
-  where
-    by : (long : Bool) → nat_lt output_limit (length text) ≡ long → a ≡ cond long (answers.Refused output_too_long_line) (answers.Done text) → Told known request a
-    by true long said = (rows.OutputTooLong, record { text = text; is = is; long = test_over output_limit (length text) long; said = said })
-    by false short said = (rows.AText, record { text = text; is = is; within = test_within output_limit (length text) short; said = said })
+-- ---- an answer has a cause
 
 -- the text of a trace is refused
 refuses_trace : (known : Files) (request : Request) (word bytes line : List ℕ) (a : Answer) → HasTraceText known request word bytes → ReadsTrace word bytes (Err line)
@@ -110,11 +121,6 @@ refuses_trace known request word bytes line a trace refused said = by (trace_of 
       },
     )
 
-ends_line : (path : List (List ℕ)) (end : End) (a : Answer) → ReportsEnd path end a → (line : List ℕ) × ((unfinished_line path end ≡ Some line) × (a ≡ answers.Verdict line))
-ends_line path ends.Whole a said = absurd said
-ends_line path ends.Pending a said = (_, (refl, said))
-ends_line path (ends.Unclosed k) a said = (_, (refl, said))
-
 -- a trace is surveyed
 reports_trace : (known : Files) (trace bytes : List ℕ) (a : Answer) (survey : Survey) → HasBytes known trace 67108864 bytes → ReadsTrace trace bytes (Ok survey)
     → Reports survey.heads survey.found a → Told known (Check trace) a
@@ -124,7 +130,7 @@ reports_trace known trace bytes a survey file reads said = by (trace_of bytes) r
         → Reports t.heads (survey_of first left (counts_of (streams_of t))) a → Told known (Check trace) a
     by_found t (Some first) left is is_first is_left said = (
       rows.AnOffence,
-      record {
+      inl (record {
         word = trace;
         bytes = bytes;
         trace = record { word_is = refl; file = file };
@@ -133,12 +139,12 @@ reports_trace known trace bytes a survey file reads said = by (trace_of bytes) r
         first = first;
         is_first = is_first;
         said = said;
-      },
+      }),
     )
     by_found t None (Some left) is is_first is_left said =
         let line = ends_line (path_of_stream t.heads left.stream) left.end a said in (
           rows.AnUnfinished,
-          record {
+          inl (record {
             word = trace;
             bytes = bytes;
             trace = record { word_is = refl; file = file };
@@ -150,7 +156,7 @@ reports_trace known trace bytes a survey file reads said = by (trace_of bytes) r
             line = line.0;
             told = line.1.0;
             said = line.1.1;
-          },
+          }),
         )
     by_found t None None is is_first is_left said =
         gives_text known (Check trace) (legal_text t.heads (counts_of (streams_of t)).streams) a (record {
@@ -240,7 +246,7 @@ refuses_run known bench run read has bytes line a file refused said = by (run_of
       rows.TextFault,
       record {
         line = line;
-        faulty = inr (inr (inr (inr (record {
+        faulty = inr (inr (inr (inr (inl (record {
           words = record { bench = bench; run = run };
           named = refl;
           bench = read;
@@ -250,7 +256,7 @@ refuses_run known bench run read has bytes line a file refused said = by (run_of
           fault = fault;
           reads = is;
           told = sym (run_text run fault) ∙ line_of SimRun (refusal_of_run run fault) line refused;
-        }))));
+        })))));
         said = said;
       },
     )
@@ -267,11 +273,13 @@ driven_next value plan split = planned_ask value plan split (TellsDriven split)
 abbrev port_next : Request → PlainSplit → Ask
 port_next (Split project port) split = split_end split
 port_next (Drive project port value plan) split = goes_on (carried split) (λ done. driven_next value plan split)
+port_next (Decode project port trace) split = goes_on (carried split) (λ done. outcome_ask trace split)
 port_next request split = Ends (λ a. ⊥)
 
 -- with the split of a port that is carried
 abbrev carried_next : Request → PlainSplit → Ask
 carried_next (Drive project port value plan) split = driven_next value plan split
+carried_next (Decode project port trace) split = outcome_ask trace split
 carried_next request split = Ends (λ a. ⊥)
 
 -- with a value and a plan of its port
@@ -302,21 +310,22 @@ told_sim known bench run a says =
         }) said) said
 
 -- the links of a project
-checks_links : (known : Files) (project bytes : List ℕ) (a : Answer) (read : PlainProject) → HasBytes known project 4194304 bytes → ReadsProject project bytes (Ok read)
-    → TellsLinked project read a → Told known (Link project) a
-checks_links known project bytes a read file reads says = by (linked read.streamlets) refl says
+checks_links : (known : Files) (request : Request) (project bytes : List ℕ) (a : Answer) (read : PlainProject) (write : Nets → List ℕ) → ChecksLinks request project read
+    → HasBytes known project 4194304 bytes → ReadsProject project bytes (Ok read) → ((nets : Nets) → linked read.streamlets ≡ Ok nets → IsTextOf known request (write nets))
+    → TellsChecked project write (linked read.streamlets) a → Told known request a
+checks_links known request project bytes a read write checks file reads text says = by (linked read.streamlets) refl says
   where
-    by_refusal : (fault : LinkFault) → linked read.streamlets ≡ Err fault → (refusal : Option Refusal) → refusal_of_linking project fault ≡ refusal → TellsRefusal refusal a → Told known (Link project) a
+    by_refusal : (fault : LinkFault) → linked read.streamlets ≡ Err fault → (refusal : Option Refusal) → refusal_of_linking project fault ≡ refusal → TellsRefusal refusal a → Told known request a
     by_refusal fault is None none says = absurd says
     by_refusal fault is (Some refusal) some says = (
       rows.NotLinked,
       record {
         word = project;
-        named = refl;
         bytes = bytes;
         file = file;
         read = read;
         reads = reads;
+        checks = checks;
         fault = fault;
         is = is;
         line = refusal_line refusal;
@@ -325,24 +334,46 @@ checks_links known project bytes a read file reads says = by (linked read.stream
       },
     )
 
-    by : (found : Result Nets LinkFault) → linked read.streamlets ≡ found → TellsChecked project read.streamlets found a → Told known (Link project) a
-    by (Ok nets) is says =
-        gives_text known (Link project) (nets_text read.streamlets nets) a (record {
-          bytes = bytes;
-          file = file;
-          read = read;
-          reads = reads;
-          nets = nets;
-          nets_are = is;
-          is = refl;
-        }) says
+    by : (found : Result Nets LinkFault) → linked read.streamlets ≡ found → TellsChecked project write found a → Told known request a
+    by (Ok nets) is says = gives_text known request (write nets) a (text nets is) says
     by (Err fault) is says = by_refusal fault is (refusal_of_linking project fault) refl says
 
 told_link : (known : Files) (project : List ℕ) (a : Answer) → SaysBy (Some known) (link_ask project) a → Told known (Link project) a
 told_link known project a says =
     told-file known (project_file project) (ReadsProject project) (λ read. Ends (TellsLinked project read)) a (Link project) (inl refl)
     (λ bytes line file refused said. refuses_project known (Link project) project bytes line a refl refl file refused said)
-    (λ bytes read file reads said. checks_links known project bytes a read file reads said) says
+    (λ bytes read file reads said. checks_links known (Link project) project bytes a read (nets_text read.streamlets) refl file reads
+    (λ nets is. record { bytes = bytes; file = file; read = read; reads = reads; nets = nets; nets_are = is; is = refl }) said) says
+
+-- the entities and architectures of a project
+writes_design : (known : Files) (project bytes : List ℕ) (a : Answer) (read : PlainProject) → HasBytes known project 4194304 bytes → ReadsProject project bytes (Ok read)
+    → TellsDesign project read a → Told known (Vhdl project) a
+writes_design known project bytes a read file reads says = by (first_clash read.streamlets) refl says
+  where
+    by : (found : Option Clash) → first_clash read.streamlets ≡ found → TellsApart project read.streamlets found a → Told known (Vhdl project) a
+    by None apart says =
+        checks_links known (Vhdl project) project bytes a read (text_of_nets read.streamlets) (refl, apart) file reads
+        (λ nets is. record { bytes = bytes; file = file; read = read; reads = reads; apart = apart; nets = nets; nets_are = is; is = refl }) says
+    by (Some clash) is says = (
+      rows.NameClash,
+      inr (record {
+        word = project;
+        named = refl;
+        bytes = bytes;
+        file = file;
+        read = read;
+        reads = reads;
+        clash = clash;
+        is = is;
+        said = says ∙ ap answers.Refused (two_words (codes "tydi: ") (codes "NameClash") (codes " ") (at_port clash.streamlet clash.port) (path_text clash.path) (codes "\n"));
+      }),
+    )
+
+told_vhdl : (known : Files) (project : List ℕ) (a : Answer) → SaysBy (Some known) (vhdl_ask project) a → Told known (Vhdl project) a
+told_vhdl known project a says =
+    told-file known (project_file project) (ReadsProject project) (λ read. Ends (TellsDesign project read)) a (Vhdl project) (inl refl)
+    (λ bytes line file refused said. refuses_project known (Vhdl project) project bytes line a refl refl file refused said)
+    (λ bytes read file reads said. writes_design known project bytes a read file reads said) says
 
 pub told : (known : Files) (request : Request) (a : Answer) → SaysBy (Some known) (ask_of request) a → Told known request a
 told known (Check trace) a says =
@@ -361,8 +392,14 @@ told known (Drive project port value plan) a says =
     (λ split at said. told-planned known (of_drive project port value plan) TellsDriven (Drive project port value plan) a refl split at (λ other reached. reached)
     (λ read planned all tells. drives_port known (Drive project port value plan) (of_drive project port value plan) split read planned a refl all
     (λ text is. record { split = split; value = read; plan = planned; all = all; is = is }) tells) said) says
+told known (Decode project port trace) a says =
+    told-carried known (of_project project port) (outcome_ask trace) (Decode project port trace) a refl refl refl refl (inl refl)
+    (λ split at said. told-decoded known (of_decode project port trace) (Decode project port trace) a refl split at refl
+    (λ text is tells. gives_text known (Decode project port trace) text a is tells) said) says
 told known (Sim bench run) a says = told_sim known bench run a says
 told known (Link project) a says = told_link known project a says
+told known (Carry project top from to trace) a says = told_carry known project top from to trace a says
+told known (Vhdl project) a says = told_vhdl known project a says
 
 -- ---- a cause gives its answer
 
@@ -371,6 +408,9 @@ same_words one other e = cc
 
 same_driven : (one other : DriveWords) → ◌≡◌ {A = Option DriveWords} (Some one) (Some other) → one ≡ other
 same_driven one other e = cc
+
+same_decoded : (one other : DecodeWords) → ◌≡◌ {A = Option DecodeWords} (Some one) (Some other) → one ≡ other
+same_decoded one other e = cc
 
 same_name : (one other : List ℕ) → ◌≡◌ {A = Option (List ℕ)} (Some one) (Some other) → one ≡ other
 same_name one other e = cc
@@ -385,10 +425,14 @@ from_port known (Check trace) words a named said = absurd cc
 from_port known (Read project) words a named said = absurd cc
 from_port known (Sim bench run) words a named said = absurd cc
 from_port known (Link project) words a named said = absurd cc
+from_port known (Carry project top from to trace) words a named said = absurd cc
+from_port known (Vhdl project) words a named said = absurd cc
 from_port known (Split project port) words a named said =
     subst (λ (w : PortWords). SaysBy (Some known) (port_ask w.project w.port split_end) a) (sym (same_words (of_project project port) words named)) said
 from_port known (Drive project port value plan) words a named said =
     subst (λ (w : PortWords). SaysBy (Some known) (carried_ask w.project w.port (driven_next value plan)) a) (sym (same_words (of_project project port) words named)) said
+from_port known (Decode project port trace) words a named said =
+    subst (λ (w : PortWords). SaysBy (Some known) (carried_ask w.project w.port (outcome_ask trace)) a) (sym (same_words (of_project project port) words named)) said
 
 -- the same of a port that has to be carried
 from_carried : (known : Files) (request : Request) (words : PortWords) (a : Answer) → carried_in request ≡ Some words → SaysBy (Some known) (carried_ask words.project words.port (carried_next request)) a
@@ -397,9 +441,13 @@ from_carried known (Check trace) words a named said = absurd cc
 from_carried known (Read project) words a named said = absurd cc
 from_carried known (Sim bench run) words a named said = absurd cc
 from_carried known (Link project) words a named said = absurd cc
+from_carried known (Carry project top from to trace) words a named said = absurd cc
+from_carried known (Vhdl project) words a named said = absurd cc
 from_carried known (Split project port) words a named said = absurd cc
 from_carried known (Drive project port value plan) words a named said =
     subst (λ (w : PortWords). SaysBy (Some known) (carried_ask w.project w.port (driven_next value plan)) a) (sym (same_words (of_project project port) words named)) said
+from_carried known (Decode project port trace) words a named said =
+    subst (λ (w : PortWords). SaysBy (Some known) (carried_ask w.project w.port (outcome_ask trace)) a) (sym (same_words (of_project project port) words named)) said
 
 -- the same of a port that is driven
 abbrev drives_by : Request → DriveWords → Ask
@@ -410,9 +458,25 @@ from_driven known (Check trace) words a named said = absurd cc
 from_driven known (Read project) words a named said = absurd cc
 from_driven known (Sim bench run) words a named said = absurd cc
 from_driven known (Link project) words a named said = absurd cc
+from_driven known (Carry project top from to trace) words a named said = absurd cc
+from_driven known (Vhdl project) words a named said = absurd cc
 from_driven known (Split project port) words a named said = absurd cc
+from_driven known (Decode project port trace) words a named said = absurd cc
 from_driven known (Drive project port value plan) words a named said =
     subst (λ (w : DriveWords). SaysBy (Some known) (drives_by (Drive project port value plan) w) a) (sym (same_driven (of_drive project port value plan) words named)) said
+
+-- the same of a port that is decoded
+from_decoded : (known : Files) (request : Request) (words : DecodeWords) (a : Answer) → decoded_in request ≡ Some words → SaysBy (Some known) (decodes known words) a → SaysBy (Some known) (ask_of request) a
+from_decoded known (Check trace) words a named said = absurd cc
+from_decoded known (Read project) words a named said = absurd cc
+from_decoded known (Sim bench run) words a named said = absurd cc
+from_decoded known (Link project) words a named said = absurd cc
+from_decoded known (Vhdl project) words a named said = absurd cc
+from_decoded known (Split project port) words a named said = absurd cc
+from_decoded known (Drive project port value plan) words a named said = absurd cc
+from_decoded known (Carry project top from to trace) words a named said = absurd cc
+from_decoded known (Decode project port trace) words a named said =
+    subst (λ (w : DecodeWords). SaysBy (Some known) (decodes known w) a) (sym (same_decoded (of_decode project port trace) words named)) said
 
 says_no_file : (known : Files) (request : Request) (a : Answer) → NoFileCause known request a → SaysBy (Some known) (ask_of request) a
 says_no_file known request a cause =
@@ -446,9 +510,22 @@ says_project known (Drive name port value plan) word bytes line a project refuse
     from_port known (Drive name port value plan) (of_project name port) a refl
     (refused_in_port known (of_project name port) (port_next (Drive name port value plan)) bytes line a
     (subst (λ (w : List ℕ). HasBytes known w 4194304 bytes) (sym same) project.file) (subst (λ (w : List ℕ). ReadsProject w bytes (Err line)) (sym same) refused) said)
+says_project known (Decode name port trace) word bytes line a project refused said =
+    let same = same_name name word project.word_is in
+    from_port known (Decode name port trace) (of_project name port) a refl
+    (refused_in_port known (of_project name port) (port_next (Decode name port trace)) bytes line a
+    (subst (λ (w : List ℕ). HasBytes known w 4194304 bytes) (sym same) project.file) (subst (λ (w : List ℕ). ReadsProject w bytes (Err line)) (sym same) refused) said)
 says_project known (Link name) word bytes line a project refused said =
     let same = same_name name word project.word_is in
     says-refused known (project_file name) (ReadsProject name) (λ read. Ends (TellsLinked name read)) a bytes line
+    (subst (λ (w : List ℕ). HasBytes known w 4194304 bytes) (sym same) project.file) (subst (λ (w : List ℕ). ReadsProject w bytes (Err line)) (sym same) refused) said
+says_project known (Carry name top from to trace) word bytes line a project refused said =
+    let same = same_name name word project.word_is in
+    says-unread known (of_carry (of_design name top from to) trace) bytes line a
+    (subst (λ (w : List ℕ). HasBytes known w 4194304 bytes) (sym same) project.file) (subst (λ (w : List ℕ). ReadsProject w bytes (Err line)) (sym same) refused) said
+says_project known (Vhdl name) word bytes line a project refused said =
+    let same = same_name name word project.word_is in
+    says-refused known (project_file name) (ReadsProject name) (λ read. Ends (TellsDesign name read)) a bytes line
     (subst (λ (w : List ℕ). HasBytes known w 4194304 bytes) (sym same) project.file) (subst (λ (w : List ℕ). ReadsProject w bytes (Err line)) (sym same) refused) said
 
 -- the text of a command's project is refused
@@ -464,8 +541,14 @@ says_tree known (Split name port) word bytes line a project refused said =
     says_project known (Split name port) word bytes line a (record { word_is = project.word_is; file = project.file }) (inl refused) said
 says_tree known (Drive name port value plan) word bytes line a project refused said =
     says_project known (Drive name port value plan) word bytes line a (record { word_is = project.word_is; file = project.file }) (inl refused) said
+says_tree known (Decode name port trace) word bytes line a project refused said =
+    says_project known (Decode name port trace) word bytes line a (record { word_is = project.word_is; file = project.file }) (inl refused) said
 says_tree known (Link name) word bytes line a project refused said =
     says_project known (Link name) word bytes line a (record { word_is = project.word_is; file = project.file }) (inl refused) said
+says_tree known (Carry name top from to trace) word bytes line a project refused said =
+    says_project known (Carry name top from to trace) word bytes line a (record { word_is = project.word_is; file = project.file }) (inl refused) said
+says_tree known (Vhdl name) word bytes line a project refused said =
+    says_project known (Vhdl name) word bytes line a (record { word_is = project.word_is; file = project.file }) (inl refused) said
 
 says_not_utf8 : (known : Files) (request : Request) (a : Answer) → NotUtf8Cause known request a → SaysBy (Some known) (ask_of request) a
 says_not_utf8 known request a cause =
@@ -505,13 +588,22 @@ says_no_port known request a cause =
     (says-found known cause.words (port_next request) a cause.bytes cause.read None cause.file cause.reads cause.none
     (cause.said ∙ ap answers.Refused (sym (one_word (codes "tydi: ") (codes "NoPort") (codes " ") cause.words.port (codes "\n")))))
 
-says_name_clash : (known : Files) (request : Request) (a : Answer) → NameClashCause known request a → SaysBy (Some known) (ask_of request) a
-says_name_clash known request a cause =
+says_port_clash : (known : Files) (request : Request) (path : List (List ℕ)) (a : Answer) → PortClashes known request path
+    → a ≡ answers.Refused (codes "tydi: NameClash " ++ path_text path ++ codes "\n")
+    → SaysBy (Some known) (ask_of request) a
+says_port_clash known request path a cause said =
     from_port known request cause.words a cause.named
     (says-found known cause.words (port_next request) a cause.port.bytes cause.port.read (Some cause.port.found) cause.port.file cause.port.reads cause.port.named
     (subst (λ (o : Option (List (List ℕ))). SaysBy (Some known) (goes_on (split_unless cause.port.found.ltype o) (port_next request)) a)
     (sym (ap clash_of (sym cause.port.type_is) ∙ cause.clash))
-    (cause.said ∙ ap answers.Refused (sym (one_word (codes "tydi: ") (codes "NameClash") (codes " ") (path_text cause.path) (codes "\n"))))))
+    (said ∙ ap answers.Refused (sym (one_word (codes "tydi: ") (codes "NameClash") (codes " ") (path_text path) (codes "\n"))))))
+
+says_name_clash : (known : Files) (request : Request) (a : Answer) → NameClashCause known request a → SaysBy (Some known) (ask_of request) a
+says_name_clash known request a cause = by cause.clashes
+  where
+    by : PortClashes known request cause.path ⊎ SourceClashes known request cause.path → SaysBy (Some known) (ask_of request) a
+    by (inl port) = says_port_clash known request cause.path a port cause.said
+    by (inr source) = says_source_clash known request cause.path a source cause.said
 
 says_no_carrier : (known : Files) (request : Request) (a : Answer) → NoCarrierCause known request a → SaysBy (Some known) (ask_of request) a
 says_no_carrier known request a cause =
@@ -524,8 +616,11 @@ says_trace_fault : (known : Files) (request : Request) (line : List ℕ) (a : An
 says_trace_fault known (Read name) line a has said = absurd (no_word has.word has.trace.word_is)
 says_trace_fault known (Sim bench run) line a has said = absurd (no_word has.word has.trace.word_is)
 says_trace_fault known (Link name) line a has said = absurd (no_word has.word has.trace.word_is)
+says_trace_fault known (Carry name top from to trace) line a has said = absurd (no_word has.word has.trace.word_is)
+says_trace_fault known (Vhdl name) line a has said = absurd (no_word has.word has.trace.word_is)
 says_trace_fault known (Split name port) line a has said = absurd (no_word has.word has.trace.word_is)
 says_trace_fault known (Drive name port value plan) line a has said = absurd (no_word has.word has.trace.word_is)
+says_trace_fault known (Decode name port trace) line a has said = absurd (no_word has.word has.trace.word_is)
 says_trace_fault known (Check trace) line a has said =
     let same = same_name trace has.word has.trace.word_is in
     says-refused known (trace_file trace) (ReadsTrace trace) (λ survey. Ends (λ b. Reports survey.heads survey.found b)) a has.bytes line
@@ -560,6 +655,9 @@ from_simulated known (Read project) words a named said = absurd cc
 from_simulated known (Split project port) words a named said = absurd cc
 from_simulated known (Drive project port value plan) words a named said = absurd cc
 from_simulated known (Link project) words a named said = absurd cc
+from_simulated known (Decode project port trace) words a named said = absurd cc
+from_simulated known (Carry project top from to trace) words a named said = absurd cc
+from_simulated known (Vhdl project) words a named said = absurd cc
 from_simulated known (Sim bench run) words a named said =
     subst (λ (w : SimWords). SaysBy (Some known) (sim_ask w.bench w.run) a) (sym (same_simulated (record { bench = bench; run = run }) words named)) said
 
@@ -599,7 +697,9 @@ says_text_fault known request line a (inl has) said = says_trace_fault known req
 says_text_fault known request line a (inr (inl has)) said = says_value_fault known request line a has said
 says_text_fault known request line a (inr (inr (inl has))) said = says_plan_fault known request line a has said
 says_text_fault known request line a (inr (inr (inr (inl has)))) said = says_bench_fault known request line a has said
-says_text_fault known request line a (inr (inr (inr (inr has)))) said = says_run_fault known request line a has said
+says_text_fault known request line a (inr (inr (inr (inr (inl has))))) said = says_run_fault known request line a has said
+says_text_fault known request line a (inr (inr (inr (inr (inr (inl has)))))) said = from_decoded known request has.words a has.named (says-port_trace_fault known has.words request line a has refl said)
+says_text_fault known request line a (inr (inr (inr (inr (inr (inr has)))))) said = says_carried_fault known request line a has said
 
 -- a port that is not driven
 says_reason : (known : Files) (request : Request) (split : PlainSplit) (reason : Undriven) (a : Answer) → HasReason known request split reason → a ≡ answers.Refused (refusal_line (refusal_of_driving split reason))
@@ -618,7 +718,10 @@ says_reason known request split reason a has said =
     ends (Read project) named = absurd cc
     ends (Sim bench run) named = absurd cc
     ends (Link project) named = absurd cc
+    ends (Carry project top from to trace) named = absurd cc
+    ends (Vhdl project) named = absurd cc
     ends (Split project port) named = absurd cc
+    ends (Decode project port trace) named = absurd cc
     ends (Drive project port value plan) named = tells
 
 says_count : (known : Files) (request : Request) (a : Answer) → CountNotMultipleCause known request a → SaysBy (Some known) (ask_of request) a
@@ -633,25 +736,68 @@ says_not_finished known request a cause =
 
 -- the links of a project that is read
 says_linked : (known : Files) (project bytes : List ℕ) (a : Answer) (read : PlainProject) (found : Result Nets LinkFault) → HasBytes known project 4194304 bytes → ReadsProject project bytes (Ok read)
-    → linked read.streamlets ≡ found → TellsChecked project read.streamlets found a → SaysBy (Some known) (link_ask project) a
+    → linked read.streamlets ≡ found → TellsChecked project (nets_text read.streamlets) found a → SaysBy (Some known) (link_ask project) a
 says_linked known project bytes a read found file reads is tells =
     says-read known (project_file project) (ReadsProject project) (λ one. Ends (TellsLinked project one)) a bytes read file reads
-    (subst (λ (r : Result Nets LinkFault). TellsChecked project read.streamlets r a) (sym is) tells)
+    (subst (λ (r : Result Nets LinkFault). TellsChecked project (nets_text read.streamlets) r a) (sym is) tells)
+
+-- the first clash of a project that is read
+says_apart : (known : Files) (project bytes : List ℕ) (a : Answer) (read : PlainProject) (found : Option Clash) → HasBytes known project 4194304 bytes → ReadsProject project bytes (Ok read)
+    → first_clash read.streamlets ≡ found → TellsApart project read.streamlets found a → SaysBy (Some known) (vhdl_ask project) a
+says_apart known project bytes a read found file reads is tells =
+    says-read known (project_file project) (ReadsProject project) (λ one. Ends (TellsDesign project one)) a bytes read file reads
+    (subst (λ (o : Option Clash). TellsApart project read.streamlets o a) (sym is) tells)
+
+-- the links of a project without a clash
+says_wired : (known : Files) (project bytes : List ℕ) (a : Answer) (read : PlainProject) (found : Result Nets LinkFault) → HasBytes known project 4194304 bytes → ReadsProject project bytes (Ok read)
+    → first_clash read.streamlets ≡ None → linked read.streamlets ≡ found → TellsChecked project (text_of_nets read.streamlets) found a → SaysBy (Some known) (vhdl_ask project) a
+says_wired known project bytes a read found file reads apart is tells =
+    says_apart known project bytes a read None file reads apart (subst (λ (r : Result Nets LinkFault). TellsChecked project (text_of_nets read.streamlets) r a) (sym is) tells)
+
+says_design_clash : (known : Files) (request : Request) (a : Answer) → DesignClashCause known request a → SaysBy (Some known) (ask_of request) a
+says_design_clash known (Check trace) a cause = absurd (no_word cause.word cause.named)
+says_design_clash known (Read name) a cause = absurd (no_word cause.word cause.named)
+says_design_clash known (Sim bench run) a cause = absurd (no_word cause.word cause.named)
+says_design_clash known (Split name port) a cause = absurd (no_word cause.word cause.named)
+says_design_clash known (Drive name port value plan) a cause = absurd (no_word cause.word cause.named)
+says_design_clash known (Link name) a cause = absurd (no_word cause.word cause.named)
+says_design_clash known (Decode name port trace) a cause = absurd (no_word cause.word cause.named)
+says_design_clash known (Carry name top from to trace) a cause = absurd (no_word cause.word cause.named)
+says_design_clash known (Vhdl name) a cause =
+    let same = sym (same_name name cause.word cause.named) in
+    says_apart known name cause.bytes a cause.read (Some cause.clash)
+    (subst (λ (w : List ℕ). HasBytes known w 4194304 cause.bytes) same cause.file) (subst (λ (w : List ℕ). ReadsProject w cause.bytes (Ok cause.read)) same cause.reads) cause.is
+    (cause.said ∙ ap answers.Refused (sym (two_words (codes "tydi: ") (codes "NameClash") (codes " ") (at_port cause.clash.streamlet cause.clash.port) (path_text cause.clash.path) (codes "\n"))))
 
 tells_by : (refusal : Option Refusal) (line : List ℕ) (a : Answer) → option_map refusal_line refusal ≡ Some line → a ≡ answers.Refused line → TellsRefusal refusal a
 tells_by (Some refusal) line a told said = said ∙ ap answers.Refused (sym (same_some (refusal_line refusal) line told))
 tells_by None line a told said = absurd cc
 
 says_link_fault : (known : Files) (request : Request) (a : Answer) → LinkFaultCause known request a → SaysBy (Some known) (ask_of request) a
-says_link_fault known (Check trace) a cause = absurd (no_word cause.word cause.named)
-says_link_fault known (Read name) a cause = absurd (no_word cause.word cause.named)
-says_link_fault known (Sim bench run) a cause = absurd (no_word cause.word cause.named)
-says_link_fault known (Split name port) a cause = absurd (no_word cause.word cause.named)
-says_link_fault known (Drive name port value plan) a cause = absurd (no_word cause.word cause.named)
+says_link_fault known (Check trace) a cause = absurd cause.checks
+says_link_fault known (Read name) a cause = absurd cause.checks
+says_link_fault known (Sim bench run) a cause = absurd cause.checks
+says_link_fault known (Split name port) a cause = absurd cause.checks
+says_link_fault known (Drive name port value plan) a cause = absurd cause.checks
+says_link_fault known (Decode name port trace) a cause = absurd cause.checks
+says_link_fault known (Carry name top from to trace) a cause =
+    let same = cause.checks.0 in
+    says_unlinked known (of_carry (of_design name top from to) trace) a cause.read cause.checks.1.0 cause.fault cause.line
+    (record {
+      bytes = cause.bytes;
+      file = subst (λ (w : List ℕ). HasBytes known w 4194304 cause.bytes) same cause.file;
+      reads = subst (λ (w : List ℕ). ReadsProject w cause.bytes (Ok cause.read)) same cause.reads;
+    }) cause.checks.1.1 cause.is (subst (λ (w : List ℕ). link_line w cause.fault ≡ Some cause.line) same cause.told) cause.said
 says_link_fault known (Link name) a cause =
-    let same = sym (same_name name cause.word cause.named) in
+    let same = cause.checks in
     says_linked known name cause.bytes a cause.read (Err cause.fault)
     (subst (λ (w : List ℕ). HasBytes known w 4194304 cause.bytes) same cause.file) (subst (λ (w : List ℕ). ReadsProject w cause.bytes (Ok cause.read)) same cause.reads) cause.is
+    (tells_by (refusal_of_linking name cause.fault) cause.line a
+    (link_text name cause.fault ∙ subst (λ (w : List ℕ). link_line w cause.fault ≡ Some cause.line) same cause.told) cause.said)
+says_link_fault known (Vhdl name) a cause =
+    let same = cause.checks.0 in
+    says_wired known name cause.bytes a cause.read (Err cause.fault)
+    (subst (λ (w : List ℕ). HasBytes known w 4194304 cause.bytes) same cause.file) (subst (λ (w : List ℕ). ReadsProject w cause.bytes (Ok cause.read)) same cause.reads) cause.checks.1 cause.is
     (tells_by (refusal_of_linking name cause.fault) cause.line a
     (link_text name cause.fault ∙ subst (λ (w : List ℕ). link_line w cause.fault ≡ Some cause.line) same cause.told) cause.said)
 
@@ -665,35 +811,44 @@ says_surveyed known trace bytes t found a file reads surveyed said =
     read = subst (λ (reading : Result TraceText TraceFault). ReadsReading trace reading (Ok (record { heads = t.heads; found = found }))) (sym reads)
         (record { heads = refl; found = surveyed })
 
-says_offence : (known : Files) (request : Request) (a : Answer) → OffenceCause known request a → SaysBy (Some known) (ask_of request) a
-says_offence known (Read name) a cause = absurd (no_word cause.word cause.trace.word_is)
-says_offence known (Sim bench run) a cause = absurd (no_word cause.word cause.trace.word_is)
-says_offence known (Link name) a cause = absurd (no_word cause.word cause.trace.word_is)
-says_offence known (Split name port) a cause = absurd (no_word cause.word cause.trace.word_is)
-says_offence known (Drive name port value plan) a cause = absurd (no_word cause.word cause.trace.word_is)
-says_offence known (Check trace) a cause =
+checked_offence : (known : Files) (request : Request) (a : Answer) → CheckedOffence known request a → SaysBy (Some known) (ask_of request) a
+checked_offence known (Read name) a cause = absurd (no_word cause.word cause.trace.word_is)
+checked_offence known (Sim bench run) a cause = absurd (no_word cause.word cause.trace.word_is)
+checked_offence known (Link name) a cause = absurd (no_word cause.word cause.trace.word_is)
+checked_offence known (Split name port) a cause = absurd (no_word cause.word cause.trace.word_is)
+checked_offence known (Drive name port value plan) a cause = absurd (no_word cause.word cause.trace.word_is)
+checked_offence known (Decode name port trace) a cause = absurd (no_word cause.word cause.trace.word_is)
+checked_offence known (Carry name top from to trace) a cause = absurd (no_word cause.word cause.trace.word_is)
+checked_offence known (Vhdl name) a cause = absurd (no_word cause.word cause.trace.word_is)
+checked_offence known (Check trace) a cause =
     let t = cause.read in
     says_surveyed known trace cause.bytes t (survey_of (Some cause.first) (first_unfinished 0 (streams_of t)) (counts_of (streams_of t))) a
     (subst (λ (w : List ℕ). HasBytes known w 67108864 cause.bytes) (sym (same_name trace cause.word cause.trace.word_is)) cause.trace.file) cause.reads
     (record { first = Some cause.first; is_first = cause.is_first; says = refl }) cause.said
 
-reports_end : (path : List (List ℕ)) (end : End) (line : List ℕ) (a : Answer) → unfinished_line path end ≡ Some line → a ≡ answers.Verdict line → ReportsEnd path end a
-reports_end path ends.Whole line a told said = absurd cc
-reports_end path ends.Pending line a told said = said ∙ ap answers.Verdict (sym (same_some _ line told))
-reports_end path (ends.Unclosed k) line a told said = said ∙ ap answers.Verdict (sym (same_some _ line told))
-
-says_unfinished : (known : Files) (request : Request) (a : Answer) → UnfinishedCause known request a → SaysBy (Some known) (ask_of request) a
-says_unfinished known (Read name) a cause = absurd (no_word cause.word cause.trace.word_is)
-says_unfinished known (Sim bench run) a cause = absurd (no_word cause.word cause.trace.word_is)
-says_unfinished known (Link name) a cause = absurd (no_word cause.word cause.trace.word_is)
-says_unfinished known (Split name port) a cause = absurd (no_word cause.word cause.trace.word_is)
-says_unfinished known (Drive name port value plan) a cause = absurd (no_word cause.word cause.trace.word_is)
-says_unfinished known (Check trace) a cause =
+checked_unfinished : (known : Files) (request : Request) (a : Answer) → CheckedUnfinished known request a → SaysBy (Some known) (ask_of request) a
+checked_unfinished known (Read name) a cause = absurd (no_word cause.word cause.trace.word_is)
+checked_unfinished known (Sim bench run) a cause = absurd (no_word cause.word cause.trace.word_is)
+checked_unfinished known (Link name) a cause = absurd (no_word cause.word cause.trace.word_is)
+checked_unfinished known (Split name port) a cause = absurd (no_word cause.word cause.trace.word_is)
+checked_unfinished known (Drive name port value plan) a cause = absurd (no_word cause.word cause.trace.word_is)
+checked_unfinished known (Decode name port trace) a cause = absurd (no_word cause.word cause.trace.word_is)
+checked_unfinished known (Carry name top from to trace) a cause = absurd (no_word cause.word cause.trace.word_is)
+checked_unfinished known (Vhdl name) a cause = absurd (no_word cause.word cause.trace.word_is)
+checked_unfinished known (Check trace) a cause =
     let t = cause.read in
     says_surveyed known trace cause.bytes t (survey_of None (Some cause.left) (counts_of (streams_of t))) a
     (subst (λ (w : List ℕ). HasBytes known w 67108864 cause.bytes) (sym (same_name trace cause.word cause.trace.word_is)) cause.trace.file) cause.reads
     (record { first = None; is_first = cause.legal; says = ap (λ (left : Option UnfinishedStream). survey_of None left (counts_of (streams_of t))) (sym cause.is_left) })
     (reports_end (path_of_stream t.heads cause.left.stream) cause.left.end cause.line a cause.told cause.said)
+
+says_offence : (known : Files) (request : Request) (a : Answer) → OffenceCause known request a → SaysBy (Some known) (ask_of request) a
+says_offence known request a (inl cause) = checked_offence known request a cause
+says_offence known request a (inr cause) = from_decoded known request cause.words a cause.named (says-decoded_offence known request a cause)
+
+says_unfinished : (known : Files) (request : Request) (a : Answer) → UnfinishedCause known request a → SaysBy (Some known) (ask_of request) a
+says_unfinished known request a (inl cause) = checked_unfinished known request a cause
+says_unfinished known request a (inr cause) = from_decoded known request cause.words a cause.named (says-decoded_unfinished known request a cause)
 
 -- a text
 pub says_text : (known : Files) (request : Request) (text : List ℕ) (a : Answer) → IsTextOf known request text → a ≡ output_answer text → SaysBy (Some known) (ask_of request) a
@@ -709,9 +864,12 @@ says_text known (Split name port) text a is said =
 says_text known (Drive name port value plan) text a is said =
     says-planned known (of_drive name port value plan) TellsDriven a is.split is.value is.plan is.all
     (subst (λ (r : Result (List ℕ) Undriven). TellsOf (refused_by is.split r) (λ t b. b ≡ output_answer t) a) (sym is.is) said)
+says_text known (Decode name port trace) text a is said = says-value_text known (of_decode name port trace) text a is said
 says_text known (Sim bench run) text a is said =
     says-simulated known bench run a is.bench is.run is.bench_is is.run_is (said ∙ ap output_answer is.is)
 says_text known (Link name) text a is said = says_linked known name is.bytes a is.read (Ok is.nets) is.file is.reads is.nets_are (said ∙ ap output_answer is.is)
+says_text known (Carry name top from to trace) text a is said = says_carried_text known (of_carry (of_design name top from to) trace) text a is said
+says_text known (Vhdl name) text a is said = says_wired known name is.bytes a is.read (Ok is.nets) is.file is.reads is.apart is.nets_are (said ∙ ap output_answer is.is)
 
 answer_over : (text : List ℕ) → 67108864 < length text → output_answer text ≡ answers.Refused (codes "tydi: OutputTooLong\n")
 answer_over text long = ap (λ (b : Bool). cond b (answers.Refused output_too_long_line) (answers.Done text)) (over_test output_limit (length text) long)
@@ -727,15 +885,21 @@ comes rows.LexerFault known request a cause = says_lexer known request a cause
 comes rows.ParserFault known request a cause = says_parser known request a cause
 comes rows.ResolverFault known request a cause = says_resolver known request a cause
 comes rows.NoPort known request a cause = says_no_port known request a cause
-comes rows.NameClash known request a cause = says_name_clash known request a cause
+comes rows.NoStreamlet known request a cause = says_no_streamlet known request a cause
+comes rows.NameClash known request a (inl cause) = says_name_clash known request a cause
+comes rows.NameClash known request a (inr cause) = says_design_clash known request a cause
 comes rows.NoCarrier known request a cause = says_no_carrier known request a cause
 comes rows.TextFault known request a cause = says_text_fault known request cause.line a cause.faulty cause.said
+comes rows.OtherHeader known request a (inl cause) = from_decoded known request cause.words a cause.named (says-other_header known request a cause)
 comes rows.CountNotMultiple known request a cause = says_count known request a cause
 comes rows.NotFinished known request a cause = says_not_finished known request a cause
 comes rows.NotLinked known request a cause = says_link_fault known request a cause
+comes rows.NoPath known request a cause = says_no_path known request a cause
+comes rows.OtherHeader known request a (inr cause) = says_other_header known request a cause
 comes rows.OutputTooLong known request a cause = says_text known request cause.text a cause.is (cause.said ∙ sym (answer_over cause.text cause.long))
 comes rows.AnOffence known request a cause = says_offence known request a cause
 comes rows.AnUnfinished known request a cause = says_unfinished known request a cause
+comes rows.ADisagreement known request a cause = from_decoded known request cause.words a cause.named (says-disagreement known request a cause)
 comes rows.AText known request a cause = says_text known request cause.text a cause.is (cause.said ∙ sym (answer_within cause.text cause.within))
 
 -- ---- the laws

@@ -33,6 +33,7 @@ use Rattle.tydi_tool.specs.declared.answer.Answer.{Answer}
 use Rattle.tydi_tool.specs.declared.answer.Answer.TheVariants as answers
 use Rattle.tydi_tool.specs.Causes as rows
 use Rattle.tydi_tool.specs.Causes.{Row, row_of, at_place, lexer_line, parser_line, type_fault_text, resolver_line, trace_line, value_line, plan_line, bench_line, run_line, why_text, link_line, unfinished_line, CausedBy, HasTextFault}
+use Rattle.tydi_tool.specs.Drives.{path_of}
 use Rattle.tydi_tool.specs.Reading.{RefusesBy}
 use Rattle.tydi_tool.specs.Refusals.{Refusal, At, of_file_with, refusal_line, refusal_of_bench, refusal_of_lexing, refusal_of_plan, refusal_of_resolving, refusal_of_run, refusal_of_trace, refusal_of_value, type_fault_name}
 use Rattle.tydi_tool.specs.Reports.{path_of_stream}
@@ -285,7 +286,9 @@ text_row known request line (inl trace) = trace_row trace.word line trace.fault 
 text_row known request line (inr (inl value)) = value_row value.words.value line value.fault value.told
 text_row known request line (inr (inr (inl plan))) = plan_row plan.words.plan line plan.fault plan.told
 text_row known request line (inr (inr (inr (inl bench)))) = bench_row bench.words.bench line bench.fault bench.told
-text_row known request line (inr (inr (inr (inr run)))) = run_row run.words.run line run.fault run.told
+text_row known request line (inr (inr (inr (inr (inl run))))) = run_row run.words.run line run.fault run.told
+text_row known request line (inr (inr (inr (inr (inr (inl trace)))))) = trace_row trace.words.trace line trace.fault trace.told
+text_row known request line (inr (inr (inr (inr (inr (inr trace)))))) = trace_row trace.words.trace line trace.fault trace.told
 
 link_row : (word line : List ℕ) (fault : LinkFault) → link_line word fault ≡ Some line → row_of (answers.Refused line) ≡ Some rows.NotLinked
 link_row word line (linking.UnknownEnd place) told = row_by rows.NotLinked _ line told refl
@@ -309,13 +312,21 @@ caused_row rows.LexerFault known request a cause = row_as a _ rows.LexerFault ca
 caused_row rows.ParserFault known request a cause = row_as a _ rows.ParserFault cause.said (parser_row cause.word cause.line cause.tokens cause.fault cause.told)
 caused_row rows.ResolverFault known request a cause = row_as a _ rows.ResolverFault cause.said (resolver_row cause.word cause.line cause.fault cause.told)
 caused_row rows.NoPort known request a cause = row_as a _ rows.NoPort cause.said refl
-caused_row rows.NameClash known request a cause = row_as a _ rows.NameClash cause.said refl
+caused_row rows.NoStreamlet known request a cause = row_as a _ rows.NoStreamlet cause.said refl
+caused_row rows.NameClash known request a (inl cause) = row_as a _ rows.NameClash cause.said refl
+caused_row rows.NameClash known request a (inr cause) = row_as a _ rows.NameClash cause.said refl
 caused_row rows.NoCarrier known request a cause = row_as a _ rows.NoCarrier cause.said refl
 caused_row rows.TextFault known request a cause = row_as a _ rows.TextFault cause.said (text_row known request cause.line cause.faulty)
+caused_row rows.OtherHeader known request a (inl cause) = row_as a _ rows.OtherHeader cause.said refl
+caused_row rows.OtherHeader known request a (inr cause) = row_as a _ rows.OtherHeader cause.said refl
 caused_row rows.CountNotMultiple known request a cause = row_as a _ rows.CountNotMultiple cause.said refl
 caused_row rows.NotFinished known request a cause = row_as a _ rows.NotFinished cause.said refl
 caused_row rows.NotLinked known request a cause = row_as a _ rows.NotLinked cause.said (link_row cause.word cause.line cause.fault cause.told)
+caused_row rows.NoPath known request a cause = row_as a _ rows.NoPath cause.said refl
 caused_row rows.OutputTooLong known request a cause = row_as a _ rows.OutputTooLong cause.said refl
-caused_row rows.AnOffence known request a cause = row_as a _ rows.AnOffence cause.said refl
-caused_row rows.AnUnfinished known request a cause = row_as a _ rows.AnUnfinished cause.said (unfinished_row (path_of_stream cause.read.heads cause.left.stream) cause.left.end cause.line cause.told)
+caused_row rows.AnOffence known request a (inl cause) = row_as a _ rows.AnOffence cause.said refl
+caused_row rows.AnOffence known request a (inr cause) = row_as a _ rows.AnOffence cause.said refl
+caused_row rows.AnUnfinished known request a (inl cause) = row_as a _ rows.AnUnfinished cause.said (unfinished_row (path_of_stream cause.read.heads cause.left.stream) cause.left.end cause.line cause.told)
+caused_row rows.AnUnfinished known request a (inr cause) = row_as a _ rows.AnUnfinished cause.said (unfinished_row (path_of cause.split cause.left.stream) cause.left.end cause.line cause.told)
+caused_row rows.ADisagreement known request a cause = row_as a _ rows.ADisagreement cause.said refl
 caused_row rows.AText known request a cause = row_as a _ rows.AText cause.said refl

@@ -20,19 +20,24 @@ use Rattle.plan_text.specs.declared.fault.PlanFault.{PlanFault}
 use Rattle.plan_text.specs.declared.plan.Plan.{Plan}
 use Rattle.tydi_tool.specs.declared.answer.Answer.{Answer}
 use Rattle.tydi_tool.specs.declared.answer.Answer.TheVariants as answers
+use Rattle.physical_stream.specs.declared.end.End.{End}
+use Rattle.physical_stream.specs.declared.end.End.TheVariants as ends
 use Rattle.tydi_tool.specs.Ask.{Ask, Ends, Asks, SaysBy, SaysOfFile, goes_on}
 use Rattle.tydi_tool.specs.Causes as rows
-use Rattle.tydi_tool.specs.Causes.{Row, Reaches, HasBytes, PortWords, DriveWords, HasText, HasPort, HasSplit, HasCarried, HasValue, HasPlan, HasDrive, CausedBy, carried_in, driven_in, port_in, project_of, resolved_of}
+use Rattle.tydi_tool.specs.Causes.{Row, Reaches, HasBytes, PortWords, DriveWords, HasText, HasPort, HasSplit, HasCarried, HasValue, HasPlan, HasDrive}
+use Rattle.tydi_tool.specs.Causes.{CausedBy, carried_in, driven_in, port_in, project_of, resolved_of, unfinished_line, IsTextOf}
 use Rattle.tydi_tool.specs.Commands.{ask_of, carried_ask, plan_ask, planned_ask, port_ask}
 use Rattle.tydi_tool.specs.Drives.{carried, carried_unless}
 use Rattle.tydi_tool.specs.Files.{Lack, NoFile, TooLong, bytes_within, file_of, lack_line}
+use Rattle.tydi_tool.specs.Outcome.{output_answer, output_limit, output_too_long_line}
 use Rattle.tydi_tool.specs.Ports.{port_named, split_at, split_found, split_unless}
 use Rattle.tydi_tool.specs.Projects.{ReadsProject}
 use Rattle.tydi_tool.specs.Refusals.{Refusal, not_utf8, refusal_line, refusal_of_lexing, refusal_of_plan, refusal_of_resolving, refusal_of_value}
+use Rattle.tydi_tool.specs.Reports.{ReportsEnd}
 use Rattle.tydi_tool.specs.Texts.{ReadsPlan, ReadsPlanned, ReadsValue}
 use Rattle.tydi_tool.specs.Trees.{ReadsCoded, ReadsTokens, ReadsTree, refusal_of_parsing}
 use Rattle.tydi_tool.specs.Words.{Request, FileWord, project_file, text_file}
-use Rattle.tydi_tool.proofs.CauseLines.{line_of, lexer_text, one_word, parser_text, plan_text, resolver_text, two_words, value_text}
+use Rattle.tydi_tool.proofs.CauseLines.{line_of, lexer_text, one_word, parser_text, plan_text, resolver_text, same_some, two_words, value_text}
 use Rattle.tydi_tool.proofs.FileLemmas.{file_of-there}
 use Rattle.tydi_tool.proofs.AnswerLemmas.{not_read}
 
@@ -55,6 +60,18 @@ same_line l m e = cc
 
 pub no_tree : (ast : Ast) (line : List ℕ) → ◌≡◌ {A = Result Ast (List ℕ)} (Err line) (Ok ast) → ⊥
 no_tree ast line e = cc
+
+-- ---- the line of a stream that does not end whole
+
+pub ends_line : (path : List (List ℕ)) (end : End) (a : Answer) → ReportsEnd path end a → (line : List ℕ) × ((unfinished_line path end ≡ Some line) × (a ≡ answers.Verdict line))
+ends_line path ends.Whole a said = absurd said
+ends_line path ends.Pending a said = (_, (refl, said))
+ends_line path (ends.Unclosed k) a said = (_, (refl, said))
+
+pub reports_end : (path : List (List ℕ)) (end : End) (line : List ℕ) (a : Answer) → unfinished_line path end ≡ Some line → a ≡ answers.Verdict line → ReportsEnd path end a
+reports_end path ends.Whole line a told said = absurd cc
+reports_end path ends.Pending line a told said = said ∙ ap answers.Verdict (sym (same_some _ line told))
+reports_end path (ends.Unclosed k) line a told said = said ∙ ap answers.Verdict (sym (same_some _ line told))
 
 -- ---- the bytes that are found of a file
 
@@ -125,6 +142,15 @@ lacks known request file a reached TooLong is said =
         said = said ∙ ap answers.Refused (one_word (codes "tydi: ") (codes "TooLong") (codes " ") file.word (codes "\n"));
       },
     )
+
+-- an answer that gives a text
+pub gives_text : (known : Files) (request : Request) (text : List ℕ) (a : Answer) → IsTextOf known request text → a ≡ output_answer text → Told known request a
+gives_text known request text a is said = by (nat_lt output_limit (length text)) refl said
+  where
+    by : (long : Bool) → nat_lt output_limit (length text) ≡ long → a ≡ cond long (answers.Refused output_too_long_line) (answers.Done text)
+        → Told known request a
+    by true long said = (rows.OutputTooLong, record { text = text; is = is; long = test_over output_limit (length text) long; said = said })
+    by false short said = (rows.AText, record { text = text; is = is; within = test_within output_limit (length text) short; said = said })
 
 module _ {X : Type 0} (known : Files) (file : FileWord) (Reads : List ℕ → Result X (List ℕ) → Type 0) (next : X → Ask) (a : Answer) where
   -- the file is lacking, refused, or read
@@ -249,15 +275,11 @@ module _ (known : Files) (words : PortWords) (next : PlainSplit → Ask) where
       by_clash ltype None port apart said = rest (split_of ltype) (record { ltype = ltype; port = port; apart = apart; is = refl }) said
       by_clash ltype (Some path) port clash said = (
         rows.NameClash,
-        record {
-          words = words;
-          named = named;
-          ltype = ltype;
-          port = port;
+        inl (record {
           path = path;
-          clash = clash;
+          clashes = inl (record { words = words; named = named; ltype = ltype; port = port; clash = clash });
           said = said ∙ ap answers.Refused (one_word (codes "tydi: ") (codes "NameClash") (codes " ") (path_text path) (codes "\n"));
-        },
+        }),
       )
 
       by : (bytes : List ℕ) (read : PlainProject) → HasBytes known words.project 4194304 bytes → ReadsProject words.project bytes (Ok read) → (found : Option PlainPort) → port_named read words.port ≡ found

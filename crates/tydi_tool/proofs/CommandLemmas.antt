@@ -7,17 +7,22 @@ use Rattle.link_check.specs.Laws.{AnswersAreOfTheProject}
 use Rattle.til_parser.specs.Canonical.{canonical}
 use Rattle.tydi_tool.specs.declared.answer.Answer.{Answer}
 use Rattle.tydi_tool.specs.Ask.{Ends, SaysBy}
-use Rattle.tydi_tool.specs.Commands.{ask_of, planned_ask}
+use Rattle.tydi_tool.specs.Commands.{ask_of, outcome_ask, planned_ask, of_design}
 use Rattle.tydi_tool.specs.Drives.{TellsDriven}
 use Rattle.tydi_tool.specs.Laws.{AsksAlways, AsksOnce, HasSome}
 use Rattle.tydi_tool.specs.Outcome.{output_answer}
 use Rattle.split_text.specs.Text.{split_text}
-use Rattle.tydi_tool.specs.Words.{Request, Check, Drive, Link, Read, Sim, Split}
+use Rattle.tydi_tool.specs.Words.{Request, Check, Decode, Drive, Link, Read, Sim, Split, Carry, Vhdl}
 use Rattle.bench_run.specs.Traces.{trace_text_of}
 use Rattle.tydi_tool.proofs.BenchLemmas.{ReadsBench-once, ReadsBench-some, ReadsRun-once, ReadsRun-some}
 use Rattle.tydi_tool.proofs.AnswerLemmas.{ReadsTrace-once, ReadsTree-once, Reports-one, SaysBy-one}
 use Rattle.tydi_tool.proofs.ReadingLemmas.{IsFoundAmong-read}
+use Rattle.tydi_tool.proofs.DecodeLemmas.{HasOutcomes, outcome-always, outcome-once}
+use Rattle.tydi_tool.proofs.EntityLemmas.{design-one, design-some}
 use Rattle.tydi_tool.proofs.DriveLemmas.{driven-one, driven-some, planned-always, planned-once}
+use Rattle.link_check.specs.CarryLaws.{ChainsKeepTypes}
+use Rattle.tydi_tool.proofs.ArrivalLemmas.{ReadsCycles-once, ReadsCycles-some, arrived-one, arrived-some}
+use Rattle.tydi_tool.proofs.DesignLemmas.{ReadsDesign-once, ReadsDesign-some}
 use Rattle.tydi_tool.proofs.LinkLemmas.{linked-one, linked-some}
 use Rattle.tydi_tool.proofs.ProjectLemmas.{ReadsProject-once, ReadsProject-some}
 use Rattle.tydi_tool.proofs.StepLemmas.{carried-always, carried-once, port-always, port-once}
@@ -26,31 +31,51 @@ use Rattle.tydi_tool.proofs.SomeLemmas.{ReadsCoded-some, ReadsReading-some, Repo
 asks_once : (request : Request) → AsksOnce (ask_of request)
 asks_once (Check trace) = (ReadsTrace-once trace, λ bytes survey reads a b p q. Reports-one survey.heads survey.found a b p q)
 asks_once (Read project) = (ReadsTree-once project, λ bytes ast reads a b p q. p ∙ sym q)
-asks_once (Split project port) = port-once project port (λ split. Ends (λ a. a ≡ output_answer (split_text split))) (λ split a b p q. p ∙ sym q)
+asks_once (Split project port) = port-once project port (λ split. Ends (λ a. a ≡ output_answer (split_text split))) (λ split is a b p q. p ∙ sym q)
 asks_once (Drive project port value plan) =
-    carried-once project port (λ split. planned_ask value plan split (TellsDriven split)) (λ split. planned-once value plan split (TellsDriven split) (driven-one split))
+    carried-once project port (λ split. planned_ask value plan split (TellsDriven split)) (λ split can. planned-once value plan split (TellsDriven split) (driven-one split))
+asks_once (Decode project port trace) = carried-once project port (outcome_ask trace) (outcome-once trace)
 asks_once (Sim bench run) = (ReadsBench-once bench, λ bytes read reads. (ReadsRun-once run read, λ run_bytes made said a b p q. p ∙ sym q))
 asks_once (Link project) = (ReadsProject-once project, λ bytes read reads. linked-one project read)
+asks_once (Carry project top from to trace) = (
+  ReadsDesign-once (of_design project top from to),
+  λ bytes heads reads. (
+    ReadsCycles-once trace,
+    λ trace_bytes t said a b p q. arrived-one trace heads t a
+        b p q,
+  ),
+)
+asks_once (Vhdl project) = (ReadsProject-once project, λ bytes read reads. design-one project read)
 
 -- one answer
 pub SaysBy-request : (told : Files) (request : Request) (a b : Answer) → SaysBy (Some told) (ask_of request) a → SaysBy (Some told) (ask_of request) b → a ≡ b
 SaysBy-request told request a b p q = SaysBy-one told (ask_of request) a b (asks_once request) p q
 
-asks_always : AnswersAreOfTheProject → (request : Request) → AsksAlways (ask_of request)
-asks_always checks (Check trace) = (
+asks_always : AnswersAreOfTheProject → HasOutcomes → ChainsKeepTypes → (request : Request) → AsksAlways (ask_of request)
+asks_always checks outcomes chains (Check trace) = (
   λ bytes. ReadsReading-some trace bytes (trace_of bytes) refl,
   λ bytes survey reads none. let a = Reports-some survey.heads survey.found (IsFoundAmong-read trace bytes survey reads) in none a.0 a.1,
 )
-asks_always checks (Read project) = (λ bytes. ReadsCoded-some project bytes (is_utf8 bytes) refl, λ bytes ast reads none. none (output_answer (canonical ast)) refl)
-asks_always checks (Split project port) = port-always project port (λ split. Ends (λ a. a ≡ output_answer (split_text split))) (λ split none. none (output_answer (split_text split)) refl)
-asks_always checks (Drive project port value plan) =
-    carried-always project port (λ split. planned_ask value plan split (TellsDriven split)) (λ split. planned-always value plan split (TellsDriven split) (driven-some split))
-asks_always checks (Sim bench run) = (
+asks_always checks outcomes chains (Read project) = (λ bytes. ReadsCoded-some project bytes (is_utf8 bytes) refl, λ bytes ast reads none. none (output_answer (canonical ast)) refl)
+asks_always checks outcomes chains (Split project port) = port-always project port (λ split. Ends (λ a. a ≡ output_answer (split_text split))) (λ split is none. none (output_answer (split_text split)) refl)
+asks_always checks outcomes chains (Drive project port value plan) =
+    carried-always project port (λ split. planned_ask value plan split (TellsDriven split)) (λ split can. planned-always value plan split (TellsDriven split) (driven-some split))
+asks_always checks outcomes chains (Decode project port trace) = carried-always project port (outcome_ask trace) (outcome-always outcomes trace)
+asks_always checks outcomes chains (Sim bench run) = (
   λ bytes. ReadsBench-some bench bytes,
   λ bytes read reads. (λ run_bytes. ReadsRun-some run read run_bytes, λ run_bytes made said none. none (output_answer (trace_text_of read made)) refl),
 )
-asks_always checks (Link project) = (ReadsProject-some project, λ bytes read reads. linked-some checks project read)
+asks_always checks outcomes chains (Link project) = (ReadsProject-some project, λ bytes read reads. linked-some checks project read)
+asks_always checks outcomes chains (Carry project top from to trace) = (
+  ReadsDesign-some checks chains (of_design project top from to),
+  λ bytes heads reads. (
+    ReadsCycles-some trace,
+    λ trace_bytes t said. arrived-some trace
+        heads t,
+  ),
+)
+asks_always checks outcomes chains (Vhdl project) = (ReadsProject-some project, λ bytes read reads. design-some checks project read)
 
 -- some answer
-pub SaysBy-request-some : AnswersAreOfTheProject → (told : Files) (request : Request) → HasSome Answer (SaysBy (Some told) (ask_of request))
-SaysBy-request-some checks told request = SaysBy-some told (ask_of request) (asks_always checks request)
+pub SaysBy-request-some : AnswersAreOfTheProject → HasOutcomes → ChainsKeepTypes → (told : Files) (request : Request) → HasSome Answer (SaysBy (Some told) (ask_of request))
+SaysBy-request-some checks outcomes chains told request = SaysBy-some told (ask_of request) (asks_always checks outcomes chains request)

@@ -7,7 +7,7 @@ use Rattle.std.proofs.lemmas.Str.{IsUtf8-from_is_utf8}
 use Rattle.tydi_reading.specs.Lists.{EachIs}
 use Rattle.tydi_base.specs.declared.place.Place.{Place}
 use Rattle.logical_types.specs.Tree.{Ltype, null, bits, group, union, stream}
-use Rattle.type_split.specs.Streams.{IsStream}
+use Rattle.type_split.specs.Streams.{IsPortSplit, IsStream, PlainSplit, clash_of, split_of}
 use Rattle.til_lexer.specs.Tokens.{tokens_of}
 use Rattle.til_lexer.specs.declared.fault.LexFault.{LexFault}
 use Rattle.til_lexer.specs.declared.token.Token.{Token}
@@ -35,10 +35,12 @@ use Rattle.til_resolve.specs.declared.fault.ResolveFault.TheVariants as faults
 use Rattle.til_resolve.specs.Types.{is_stream, meaning_of, replaced, replaced_parts, type_by, type_of, type_of_number}
 use Rattle.til_resolve.proofs.PortTypeLemmas.{Contains-found, Contains-mapped, ports-valid}
 use Rattle.port_drive.specs.Forms.{ArePartsInForm, IsTypeInForm}
-use Rattle.tydi_tool.specs.Ports.{port_named, port_path}
+use Rattle.logical_types.specs.Tree as types
+use Rattle.value_text.specs.Printable.{HasNames, HaveNames}
+use Rattle.tydi_tool.specs.Ports.{port_named, port_path, split_at, split_found, split_unless}
 use Rattle.tydi_tool.specs.Projects.{ReadsProject}
 use Rattle.tydi_tool.specs.Trees.{ReadsCoded, ReadsTokens, ReadsTree, refusal_of_parsing}
-use Rattle.tydi_tool.specs.Refusals.{refusal_of_lexing}
+use Rattle.tydi_tool.specs.Refusals.{Refusal, refusal_of_lexing}
 use Rattle.tydi_tool.proofs.AnswerLemmas.{not_read, same_ok}
 
 -- ---- lists of things that are such
@@ -240,7 +242,7 @@ pub record IsPortFormed (ltype : Ltype) : Type 0 where
   pub form : IsTypeInForm ltype
 
 -- so are those of all ports of a project
-abbrev AreFormed : PlainProject → Type 0
+abbrev pub AreFormed : PlainProject → Type 0
 AreFormed project = (streamlet : PlainStreamlet) (port : PlainPort) → Contains project.streamlets streamlet → Contains streamlet.ports port → IsPortFormed port.ltype
 
 project-formed : (ast : Ast) → IsSound ast → EachIs IsNamespace ast.namespaces → AreFormed (project_of ast)
@@ -285,13 +287,48 @@ tree-of word bytes ast reads = by (is_utf8 bytes) refl reads
     by true coded reads = by_tokens (tokens_of bytes) coded refl reads
     by false coded reads = absurd cc
 
--- the type of a port of a project that is read from a text
+-- the types of the ports of a project that is read from a text
+pub read-formed : (word bytes : List ℕ) (read : PlainProject) → ReadsProject word bytes (Ok read) → AreFormed read
+read-formed word bytes read reads = subst AreFormed (sym reads.1.1.1) (project-formed reads.0 reads.1.1.0
+    (trees-have_form bytes reads.0 (tree-of word bytes reads.0 reads.1.0)).spellable.each)
+
+-- and of one that a word names
 pub port-formed : (word bytes : List ℕ) (read : PlainProject) (port : List ℕ) (found : PlainPort) → ReadsProject word bytes (Ok read) → port_named read port ≡ Some found → IsPortFormed found.ltype
 port-formed word bytes read port found reads is = by (port_path port) is
   where
-    formed : AreFormed read
-    formed = subst AreFormed (sym reads.1.1.1) (project-formed reads.0 reads.1.1.0 (trees-have_form bytes reads.0 (tree-of word bytes reads.0 reads.1.0)).spellable.each)
-
     by : (path : Option (List (List ℕ))) → option_and_then (plain_port_at read.streamlets) path ≡ Some found → IsPortFormed found.ltype
     by None none = absurd cc
-    by (Some path) is = found-formed read.streamlets path found formed is
+    by (Some path) is = found-formed read.streamlets path found (read-formed word bytes read reads) is
+
+-- ---- the split of a port
+
+same_split : (one other : PlainSplit) → ◌≡◌ {A = Result PlainSplit Refusal} (Ok one) (Ok other) → one ≡ other
+same_split one other e = cc
+
+-- a split that is found is that of a port of a project that is read
+pub port-split : (word bytes : List ℕ) (read : PlainProject) (port : List ℕ) (split : PlainSplit) → ReadsProject word bytes (Ok read) → split_at read port ≡ Ok split → IsPortSplit split
+port-split word bytes read port split reads is = by (port_named read port) refl is
+  where
+    by_clash : (ltype : Ltype) → IsPortFormed ltype → (clash : Option (List (List ℕ))) → clash_of ltype ≡ clash → split_unless ltype clash ≡ Ok split → IsPortSplit split
+    by_clash ltype formed None apart is =
+        record { ltype = ltype; port = formed.port; valid = formed.valid.valid; few = formed.valid.few; apart = apart; is = sym (same_split (split_of ltype) split is) }
+    by_clash ltype formed (Some path) apart is = absurd cc
+
+    by : (found : Option PlainPort) → port_named read port ≡ found → split_found port found ≡ Ok split → IsPortSplit split
+    by None none is = absurd cc
+    by (Some found) some is = by_clash found.ltype (port-formed word bytes read port found reads some) (clash_of found.ltype) refl is
+
+-- ---- names
+
+mutual
+  -- the fields and variants of a type in form have names
+  pub form-names : (ltype : Ltype) → IsTypeInForm ltype → HasNames ltype
+  form-names null is = tt
+  form-names (bits width) is = tt
+  form-names (group parts) is = form-named parts is
+  form-names (union parts) is = form-named parts is
+  form-names (stream element user settings) is = form-names element is.0
+
+  form-named : (parts : types.Parts) → ArePartsInForm parts → HaveNames parts
+  form-named types.no_parts is = tt
+  form-named (types.part name ltype more) is = (is.0, form-names ltype is.1, form-named more is.2)

@@ -33,19 +33,19 @@ no_memory word fault refusal some same = no_refusal (subst (λ (f : LinkFault). 
     no_refusal e = cc
 
 -- the project has these nets
-pub linked-told : (word : List ℕ) (project : PlainProject) (nets : Nets) (reply : Reply) → linked project.streamlets ≡ Ok nets → Judges (λ a. a ≡ output_answer (nets_text project.streamlets nets)) reply
-    → Judges (TellsLinked word project) reply
-linked-told word project nets reply is judges = subst (λ (r : Result Nets LinkFault). Judges (TellsChecked word project.streamlets r) reply) (sym is) judges
+pub checked-told : (word : List ℕ) (write : Nets → List ℕ) (found : Result Nets LinkFault) (nets : Nets) (reply : Reply) → found ≡ Ok nets → Judges (λ a. a ≡ output_answer (write nets)) reply
+    → Judges (TellsChecked word write found) reply
+checked-told word write found nets reply is judges = subst (λ (r : Result Nets LinkFault). Judges (TellsChecked word write r) reply) (sym is) judges
 
 -- the project has this error, or there was no memory
-pub linked-refused : (word : List ℕ) (project : PlainProject) (fault : LinkFault) (reply : Reply) → (fault ≢ linking.Memory → linked project.streamlets ≡ Err fault)
-    → IsRefusedBy (refusal_of_linking word fault) reply → Judges (TellsLinked word project) reply
-linked-refused word project fault reply is refused = by (refusal_of_linking word fault) refl refused
+pub checked-refused : (word : List ℕ) (write : Nets → List ℕ) (found : Result Nets LinkFault) (fault : LinkFault) (reply : Reply) → (fault ≢ linking.Memory → found ≡ Err fault)
+    → IsRefusedBy (refusal_of_linking word fault) reply → Judges (TellsChecked word write found) reply
+checked-refused word write found fault reply is refused = by (refusal_of_linking word fault) refl refused
   where
-    by : (refusal : Option Refusal) → refusal_of_linking word fault ≡ refusal → IsRefusedBy refusal reply → Judges (TellsLinked word project) reply
-    by None none memory = subst (Judges (TellsLinked word project)) (sym memory) tt
+    by : (refusal : Option Refusal) → refusal_of_linking word fault ≡ refusal → IsRefusedBy refusal reply → Judges (TellsChecked word write found) reply
+    by None none memory = subst (Judges (TellsChecked word write found)) (sym memory) tt
     by (Some refusal) some refused =
-        subst (λ (r : Result Nets LinkFault). Judges (TellsChecked word project.streamlets r) reply) (sym (is (no_memory word fault refusal some)))
+        subst (λ (r : Result Nets LinkFault). Judges (TellsChecked word write r) reply) (sym (is (no_memory word fault refusal some)))
         (subst (λ (o : Option Refusal). Judges (TellsRefusal o) reply) (sym some) (Judges-refusal (Some refusal) reply refused))
 
 -- ---- a text of at most so many bytes
@@ -76,12 +76,12 @@ refusal-one : (refusal : Option Refusal) (a b : Answer) → TellsRefusal refusal
 refusal-one (Some refusal) a b p q = p ∙ sym q
 refusal-one None a b p q = absurd p
 
-checked-one : (word : List ℕ) (streamlets : List PlainStreamlet) (found : Result Nets LinkFault) (a b : Answer) → TellsChecked word streamlets found a → TellsChecked word streamlets found b → a ≡ b
-checked-one word streamlets (Ok nets) a b p q = p ∙ sym q
-checked-one word streamlets (Err fault) a b p q = refusal-one (refusal_of_linking word fault) a b p q
+pub checked-one : (word : List ℕ) (write : Nets → List ℕ) (found : Result Nets LinkFault) (a b : Answer) → TellsChecked word write found a → TellsChecked word write found b → a ≡ b
+checked-one word write (Ok nets) a b p q = p ∙ sym q
+checked-one word write (Err fault) a b p q = refusal-one (refusal_of_linking word fault) a b p q
 
 pub linked-one : (word : List ℕ) (project : PlainProject) (a b : Answer) → TellsLinked word project a → TellsLinked word project b → a ≡ b
-linked-one word project a b p q = checked-one word project.streamlets (linked project.streamlets) a b p q
+linked-one word project a b p q = checked-one word (nets_text project.streamlets) (linked project.streamlets) a b p q
 
 fault-some : (word : List ℕ) (fault : LinkFault) → fault ≢ linking.Memory → HasSome Answer (TellsRefusal (refusal_of_linking word fault))
 fault-some word (linking.UnknownEnd place) real = λ none. none _ refl
@@ -93,9 +93,12 @@ fault-some word linking.DesignTooLarge real = λ none. none _ refl
 fault-some word linking.Memory real = absurd (real refl)
 
 -- the check has an answer of its own
-pub linked-some : AnswersAreOfTheProject → (word : List ℕ) (project : PlainProject) → HasSome Answer (TellsLinked word project)
-linked-some checks word project = by (linked project.streamlets) (checks project.streamlets)
+pub checked-some : AnswersAreOfTheProject → (word : List ℕ) (write : Nets → List ℕ) (streamlets : List PlainStreamlet) → HasSome Answer (TellsChecked word write (linked streamlets))
+checked-some checks word write streamlets = by (linked streamlets) (checks streamlets)
   where
-    by : (found : Result Nets LinkFault) → found ≢ Err linking.Memory → HasSome Answer (TellsChecked word project.streamlets found)
-    by (Ok nets) real = λ none. none (output_answer (nets_text project.streamlets nets)) refl
+    by : (found : Result Nets LinkFault) → found ≢ Err linking.Memory → HasSome Answer (TellsChecked word write found)
+    by (Ok nets) real = λ none. none (output_answer (write nets)) refl
     by (Err fault) real = fault-some word fault (λ same. real (ap Err same))
+
+pub linked-some : AnswersAreOfTheProject → (word : List ℕ) (project : PlainProject) → HasSome Answer (TellsLinked word project)
+linked-some checks word project = checked-some checks word (nets_text project.streamlets) project.streamlets

@@ -10,15 +10,15 @@ use Rattle.physical_stream.specs.declared.head.Head.{Head}
 use Rattle.cycle_trace.specs.Trace.{TraceText, streams_of}
 use Rattle.cycle_trace.specs.Survey.{Surveys, UnfinishedStream, survey_of, counts_of, or_unfinished, first_unfinished}
 use Rattle.cycle_trace.specs.Surveying.{offends_in}
-use Rattle.cycle_trace.specs.declared.counts.Counts.{Counts}
-use Rattle.cycle_trace.specs.declared.counts.SurveyFault.{SurveyFault}
+use Rattle.cycle_trace.specs.declared.surveying.counts.Counts.{Counts}
+use Rattle.cycle_trace.specs.declared.surveying.counts.SurveyFault.{SurveyFault}
 use Rattle.cycle_trace.proofs.StreamLemmas.{length-streams}
 use Rattle.tydi_tool.specs.Lines.{counts_text}
 use Rattle.tydi_tool.specs.Reports.{IsFoundAmong, IsUnfinished}
 
 -- ---- the stream that is named
 
-abbrev IsAmong : ℕ → Option UnfinishedStream → Type 0
+abbrev pub IsAmong : ℕ → Option UnfinishedStream → Type 0
 IsAmong streams None = Unit {0}
 IsAmong streams (Some u) = (u.stream < streams) × IsUnfinished u.end
 
@@ -27,7 +27,7 @@ or_unfinished-among streams stream ends.Whole later within among = among
 or_unfinished-among streams stream ends.Pending later within among = (within, tt)
 or_unfinished-among streams stream (ends.Unclosed k) later within among = (within, tt)
 
-first_unfinished-among : (many stream : ℕ) (streams : List StreamTrace) → stream + length streams ≤ many → IsAmong many (first_unfinished stream streams)
+pub first_unfinished-among : (many stream : ℕ) (streams : List StreamTrace) → stream + length streams ≤ many → IsAmong many (first_unfinished stream streams)
 first_unfinished-among many stream [] within = tt
 first_unfinished-among many stream (s ∷ streams) within =
     or_unfinished-among many stream (ending_of s.params s.cycles) (first_unfinished (suc stream) streams) (omega arith) (first_unfinished-among many (suc stream) streams (omega arith))

@@ -8,18 +8,23 @@ use Rattle.tydi_tool.specs.declared.answer.Reply.TheVariants as replies
 use Rattle.tydi_tool.specs.declared.status.Status.{Status}
 use Rattle.tydi_tool.specs.declared.status.Status.TheVariants as statuses
 use Rattle.tydi_tool.specs.Drives.{TellsDriven}
-use Rattle.tydi_tool.specs.Words.{Request, Check, Drive, Link, Read, Sim, Split, FileWord, file_words, text_file}
+use Rattle.tydi_tool.specs.Words.{Request, Check, Decode, Drive, Link, Read, Sim, Split, FileWord, file_words, text_file, trace_file, Carry, Vhdl}
 use Rattle.split_text.specs.Text.{split_text}
 use Rattle.tydi_tool.specs.Outcome.{out_of_answer, output_answer, out_of, err_of, status_of, status_of_answer, usage_line, memory_line, write_fault_line}
 use Rattle.tydi_tool.specs.Delivery.{Adds, AddsFront, AddsPart, TakesLine, IsLined, IsCut, IsWritten, OutFails, OutWants, Delivers}
 use Rattle.tydi_tool.specs.Ask.{AsksFor, AsksSome, Decides, Ends}
-use Rattle.tydi_tool.specs.Commands.{ask_of, Says, planned_ask}
+use Rattle.tydi_tool.specs.Commands.{ask_of, Says, outcome_ask, planned_ask}
 use Rattle.tydi_tool.specs.Started.{IsPulledOut, IsGivenOne, NamesStarted, StartsWithin, Leaves}
-use Rattle.tydi_tool.specs.Run.{Runs, EndsAsked, EndsUnasked, EndsInAnswer, IsAnswered, IsComplete, IsCaused, ReportsRead, OutFront, OutPart, IsRefusal, IsLine, ErrFront, LeavesOut, LeavesErr, StartedAtEnd, WritesTrace}
+use Rattle.tydi_tool.specs.Run.{Runs, EndsAsked, EndsUnasked, EndsInAnswer, IsAnswered, IsComplete, IsCaused, ReportsRead, OutFront, OutPart, IsRefusal}
+use Rattle.tydi_tool.specs.Run.{IsLine, ErrFront, LeavesOut, LeavesErr, StartedAtEnd, UsageExactly, WritesReadBack, WritesTrace, WritesValue, WritesCarried}
 use Rattle.tydi_tool.proofs.CauseLemmas.{told}
 use Rattle.tydi_tool.proofs.CauseLines.{one_word}
+use Rattle.tydi_tool.proofs.DecodeLemmas.{outcome-for}
+use Rattle.tydi_tool.proofs.DecodeLawLemmas.{driven-read_back, written-carried}
 use Rattle.tydi_tool.proofs.DriveLawLemmas.{written-driven}
 use Rattle.tydi_tool.proofs.DriveLemmas.{planned-for}
+use Rattle.tydi_tool.specs.DecodeLaw.{IsReadBack, WritesDecoded, decode_words}
+use Rattle.tydi_tool.specs.CarryLaw.{WritesArrived, WrittenTracesArrive, carry_words}
 use Rattle.tydi_tool.specs.DriveLaw.{WritesDriven, drive_words}
 use Rattle.tydi_tool.proofs.CommandLemmas.{SaysBy-request}
 use Rattle.tydi_tool.proofs.AskLemmas.{SaysBy-decided}
@@ -35,16 +40,22 @@ asks_for (Read project) = (refl, λ x. tt)
 asks_for (Split project port) = port-for project port [] (λ split. Ends (λ a. a ≡ output_answer (split_text split))) (λ split. tt)
 asks_for (Drive project port value plan) =
     carried-for project port (text_file value ∷ text_file plan ∷ []) (λ split. planned_ask value plan split (TellsDriven split)) (λ split. planned-for value plan split (TellsDriven split))
+asks_for (Decode project port trace) = carried-for project port (trace_file trace ∷ []) (outcome_ask trace) (outcome-for trace)
 asks_for (Sim bench run) = (refl, λ read. (refl, λ made. tt))
 asks_for (Link project) = (refl, λ x. tt)
+asks_for (Carry project top from to trace) = (refl, λ heads. (refl, λ t. tt))
+asks_for (Vhdl project) = (refl, λ x. tt)
 
 asks_some : (request : Request) → AsksSome (ask_of request)
 asks_some (Check trace) = tt
 asks_some (Read project) = tt
 asks_some (Split project port) = tt
 asks_some (Drive project port value plan) = tt
+asks_some (Decode project port trace) = tt
 asks_some (Sim bench run) = tt
 asks_some (Link project) = tt
+asks_some (Carry project top from to trace) = tt
+asks_some (Vhdl project) = tt
 
 -- ---- a run of a command
 
@@ -280,6 +291,17 @@ IsCaused-answered (Some known) (Some request) status out_old out_new err_old err
 pub is_done : (status : Status) → status ≡ statuses.Done → EndsInAnswer status
 is_done status done = subst EndsInAnswer (sym done) tt
 
+-- out has exactly a text more that the command writes, of which more is known
+written_text : (request : Request) (known : Files) (Is : List ℕ → Type 0) → ((text : List ℕ) → Says (Some known) (Some request) (answers.Done text) → Is text)
+    → (status : Status) (out_old out_new err_old err_new : Option (List ℕ)) → IsAnswered (Some known) (Some request) status out_old out_new err_old err_new → status ≡ statuses.Done
+    → (text : List ℕ) × (Is text × Adds out_old out_new text)
+written_text request known Is is status out_old out_new err_old err_new a done = by a.answer a.says (sym a.ends ∙ done) a.out
+  where
+    by : (answer : Answer) → Says (Some known) (Some request) answer → status_of_answer answer ≡ statuses.Done → Adds out_old out_new (out_of_answer answer) → (text : List ℕ) × (Is text × Adds out_old out_new text)
+    by (answers.Done text) says ends out = (text, (is text says, out))
+    by (answers.Verdict line) says ends out = absurd cc
+    by (answers.Refused line) says ends out = absurd cc
+
 -- a text that is written for a port that is driven is that of such a trace
 pub WritesTrace-answered : (files : Option Files) (request : Option Request) (status : Status) (out_old out_new err_old err_new : Option (List ℕ)) →
     IsAnswered files request status out_old out_new err_old err_new → status ≡ statuses.Done → IfSome files (λ known. WritesTrace known request out_old out_new)
@@ -288,14 +310,71 @@ WritesTrace-answered (Some known) None status out_old out_new err_old err_new a 
 WritesTrace-answered (Some known) (Some (Check trace)) status out_old out_new err_old err_new a done = tt
 WritesTrace-answered (Some known) (Some (Read project)) status out_old out_new err_old err_new a done = tt
 WritesTrace-answered (Some known) (Some (Split project port)) status out_old out_new err_old err_new a done = tt
+WritesTrace-answered (Some known) (Some (Decode project port trace)) status out_old out_new err_old err_new a done = tt
 WritesTrace-answered (Some known) (Some (Sim bench run)) status out_old out_new err_old err_new a done = tt
 WritesTrace-answered (Some known) (Some (Link project)) status out_old out_new err_old err_new a done = tt
+WritesTrace-answered (Some known) (Some (Carry project top from to trace)) status out_old out_new err_old err_new a done = tt
+WritesTrace-answered (Some known) (Some (Vhdl project)) status out_old out_new err_old err_new a done = tt
 WritesTrace-answered (Some known) (Some (Drive project port value plan)) status out_old out_new err_old err_new a done =
+    written_text (Drive project port value plan) known (WritesDriven known (drive_words project port value plan)) (λ text says. (written-driven known project port value plan text says).1)
+    status out_old out_new err_old err_new a done
+
+-- each text that is written for a port that is driven is read back
+pub WritesReadBack-answered : (files : Option Files) (request : Option Request) (status : Status) (out_old out_new err_old err_new : Option (List ℕ)) →
+    IsAnswered files request status out_old out_new err_old err_new → status ≡ statuses.Done → IfSome files (λ known. WritesReadBack known request out_old out_new)
+WritesReadBack-answered None request status out_old out_new err_old err_new a done = tt
+WritesReadBack-answered (Some known) None status out_old out_new err_old err_new a done = tt
+WritesReadBack-answered (Some known) (Some (Check trace)) status out_old out_new err_old err_new a done = tt
+WritesReadBack-answered (Some known) (Some (Read project)) status out_old out_new err_old err_new a done = tt
+WritesReadBack-answered (Some known) (Some (Split project port)) status out_old out_new err_old err_new a done = tt
+WritesReadBack-answered (Some known) (Some (Decode project port trace)) status out_old out_new err_old err_new a done = tt
+WritesReadBack-answered (Some known) (Some (Sim bench run)) status out_old out_new err_old err_new a done = tt
+WritesReadBack-answered (Some known) (Some (Link project)) status out_old out_new err_old err_new a done = tt
+WritesReadBack-answered (Some known) (Some (Vhdl project)) status out_old out_new err_old err_new a done = tt
+WritesReadBack-answered (Some known) (Some (Carry project top from to trace)) status out_old out_new err_old err_new a done = tt
+WritesReadBack-answered (Some known) (Some (Drive project port value plan)) status out_old out_new err_old err_new a done =
+    written_text (Drive project port value plan) known (IsReadBack known (drive_words project port value plan)) (λ text says. driven-read_back known project port value plan text says)
+    status out_old out_new err_old err_new a done
+
+-- each text that is written for a port that is decoded is that of the value that the trace carries
+pub WritesValue-answered : (files : Option Files) (request : Option Request) (status : Status) (out_old out_new err_old err_new : Option (List ℕ)) →
+    IsAnswered files request status out_old out_new err_old err_new → status ≡ statuses.Done → IfSome files (λ known. WritesValue known request out_old out_new)
+WritesValue-answered None request status out_old out_new err_old err_new a done = tt
+WritesValue-answered (Some known) None status out_old out_new err_old err_new a done = tt
+WritesValue-answered (Some known) (Some (Check trace)) status out_old out_new err_old err_new a done = tt
+WritesValue-answered (Some known) (Some (Read project)) status out_old out_new err_old err_new a done = tt
+WritesValue-answered (Some known) (Some (Split project port)) status out_old out_new err_old err_new a done = tt
+WritesValue-answered (Some known) (Some (Drive project port value plan)) status out_old out_new err_old err_new a done = tt
+WritesValue-answered (Some known) (Some (Sim bench run)) status out_old out_new err_old err_new a done = tt
+WritesValue-answered (Some known) (Some (Link project)) status out_old out_new err_old err_new a done = tt
+WritesValue-answered (Some known) (Some (Vhdl project)) status out_old out_new err_old err_new a done = tt
+WritesValue-answered (Some known) (Some (Carry project top from to trace)) status out_old out_new err_old err_new a done = tt
+WritesValue-answered (Some known) (Some (Decode project port trace)) status out_old out_new err_old err_new a done =
+    written_text (Decode project port trace) known (WritesDecoded known (decode_words project port trace)) (λ text says. (written-carried known project port trace text says).1)
+    status out_old out_new err_old err_new a done
+
+-- where a trace is carried, out has the text of the trace that arrives
+pub WritesCarried-answered : WrittenTracesArrive → (files : Option Files) (request : Option Request) (status : Status)
+    (out_old out_new err_old err_new : Option (List ℕ)) →
+    IsAnswered files request status out_old out_new err_old err_new → status ≡ statuses.Done
+    → IfSome files (λ known. WritesCarried known request out_old out_new)
+WritesCarried-answered arrive None request status out_old out_new err_old err_new a done = tt
+WritesCarried-answered arrive (Some known) None status out_old out_new err_old err_new a done = tt
+WritesCarried-answered arrive (Some known) (Some (Check trace)) status out_old out_new err_old err_new a done = tt
+WritesCarried-answered arrive (Some known) (Some (Read project)) status out_old out_new err_old err_new a done = tt
+WritesCarried-answered arrive (Some known) (Some (Split project port)) status out_old out_new err_old err_new a done = tt
+WritesCarried-answered arrive (Some known) (Some (Drive project port value plan)) status out_old out_new err_old err_new a done = tt
+WritesCarried-answered arrive (Some known) (Some (Vhdl project)) status out_old out_new err_old err_new a done = tt
+WritesCarried-answered arrive (Some known) (Some (Decode project port trace)) status out_old out_new err_old err_new a done = tt
+WritesCarried-answered arrive (Some known) (Some (Sim bench run)) status out_old out_new err_old err_new a done = tt
+WritesCarried-answered arrive (Some known) (Some (Link project)) status out_old out_new err_old err_new a done = tt
+WritesCarried-answered arrive (Some known) (Some (Carry project top from to trace)) status out_old out_new err_old err_new a done =
     by a.answer a.says (sym a.ends ∙ done) a.out
   where
-    by : (answer : Answer) → Says (Some known) (Some (Drive project port value plan)) answer → status_of_answer answer ≡ statuses.Done → Adds out_old out_new (out_of_answer answer)
-        → (text : List ℕ) × (WritesDriven known (drive_words project port value plan) text × Adds out_old out_new text)
-    by (answers.Done text) says ends out = (text, ((written-driven known project port value plan text says).1, out))
+    by : (answer : Answer) → Says (Some known) (Some (Carry project top from to trace)) answer → status_of_answer answer ≡ statuses.Done
+        → Adds out_old out_new (out_of_answer answer)
+        → (text : List ℕ) × (WritesArrived known (carry_words project top from to trace) text × Adds out_old out_new text)
+    by (answers.Done text) says ends out = (text, ((arrive known project top from to trace text says).1, out))
     by (answers.Verdict line) says ends out = absurd cc
     by (answers.Refused line) says ends out = absurd cc
 
@@ -486,6 +565,18 @@ module _ (out_rose err_rose : Type 0) (reply : Reply) (status : Status) (out_old
       (⊎_elim (λ (f : Failed out_rose err_rose status err_old err_new). absurd (memory_apart status is f.ends)) (λ (m : Wanted status err_old err_new). m.err)) (how d)
 
 module _ (told : Option Files) where
+  -- Usage comes exactly where there is no command, a failure of err aside
+  pub usage-exactly : (request : Option Request) (old new : Option (List ℕ × ℕ)) (rose out_rose err_rose : Type 0) (status : Status) (out_old out_new err_old err_new : Option (List ℕ)) →
+      Runs rose out_rose err_rose request told old new status out_old out_new err_old err_new → UsageExactly request err_rose status
+  usage-exactly None old new rose out_rose err_rose status out_old out_new err_old err_new r = (
+    λ is. refl,
+    λ is. ⊎_elim (λ (l : IsLined status statuses.Usage err_old err_new usage_line). inl l.ends) (λ (c : IsCut err_rose status err_old err_new usage_line). inr (c.ends, c.rose)) r.err,
+  )
+  usage-exactly (Some request) old new rose out_rose err_rose status out_old out_new err_old err_new r = (
+    λ is. absurd (how_usage out_rose err_rose r.reply status out_old out_new err_old err_new r.delivered is),
+    λ none. absurd cc,
+  )
+
   pub usage-run : (request : Option Request) (old new : Option (List ℕ × ℕ)) (rose out_rose err_rose : Type 0) (status : Status) (out_old out_new err_old err_new : Option (List ℕ)) →
       Runs rose out_rose err_rose request told old new status out_old out_new err_old err_new → status ≡ statuses.Usage → Adds out_old out_new [] × Adds err_old err_new usage_line
   usage-run None old new rose out_rose err_rose status out_old out_new err_old err_new r is =

@@ -11,9 +11,9 @@ use Rattle.physical_stream.specs.declared.head.Head.{Head}
 use Rattle.cycle_trace.specs.Trace.{TraceText, streams_of}
 use Rattle.cycle_trace.specs.TraceText.{trace_of}
 use Rattle.cycle_trace.specs.Survey.{counts_of, first_unfinished, survey_of}
-use Rattle.cycle_trace.specs.declared.counts.Counts.{Counts}
-use Rattle.cycle_trace.specs.declared.counts.SurveyFault.{SurveyFault}
-use Rattle.cycle_trace.specs.declared.counts.SurveyFault.TheVariants as faults
+use Rattle.cycle_trace.specs.declared.surveying.counts.Counts.{Counts}
+use Rattle.cycle_trace.specs.declared.surveying.counts.SurveyFault.{SurveyFault}
+use Rattle.cycle_trace.specs.declared.surveying.counts.SurveyFault.TheVariants as faults
 use Rattle.cycle_trace.specs.declared.fault.TraceFault.{TraceFault}
 use Rattle.cycle_trace.specs.declared.fault.TraceFault.TheVariants as reading
 use Rattle.til_lexer.specs.Tokens.{tokens_of}
@@ -40,7 +40,7 @@ use Rattle.tydi_tool.specs.Trees.{ReadsTokens, ReadsCoded, place_of, refusal_of_
 use Rattle.tydi_tool.specs.Files.{Lack, lack_line, file_of}
 use Rattle.tydi_tool.specs.Ask.{Ask, Ends, Asks, SaysBy}
 use Rattle.tydi_tool.specs.Laws.{HasSome, AsksAlways}
-use Rattle.tydi_tool.proofs.FirstOfAll.{first_of_all}
+use Rattle.cycle_trace.proofs.FirstOfAll.{first_of_all}
 
 -- ---- whatever a command asks for
 
@@ -64,22 +64,28 @@ SaysBy-some told (Asks file X Reads next) always =
 
 -- ---- a trace
 
-RefusesBy-trace : (word : List ℕ) (fault : TraceFault) → (fault ≡ reading.Memory → ⊥) → (line : List ℕ) × RefusesBy {X = Survey} (refusal_of_trace word fault) (Err line)
-RefusesBy-trace word (reading.BadHeader line) some = (_, refl)
-RefusesBy-trace word reading.TooManyCycles some = (_, refl)
-RefusesBy-trace word (reading.BadRow line) some = (_, refl)
-RefusesBy-trace word (reading.WrongSignals line) some = (_, refl)
-RefusesBy-trace word (reading.RowsMissing want got) some = (_, refl)
-RefusesBy-trace word (reading.RowsLeft line) some = (_, refl)
-RefusesBy-trace word reading.Memory some = absurd (some refl)
+pub RefusesBy-trace : (X : Type 0) (word : List ℕ) (fault : TraceFault) → (fault ≡ reading.Memory → ⊥)
+    → (line : List ℕ) × RefusesBy {X = X} (refusal_of_trace word fault) (Err line)
+RefusesBy-trace X word (reading.BadHeader line) some = (_, refl)
+RefusesBy-trace X word reading.TooManyCycles some = (_, refl)
+RefusesBy-trace X word (reading.BadRow line) some = (_, refl)
+RefusesBy-trace X word (reading.WrongSignals line) some = (_, refl)
+RefusesBy-trace X word (reading.RowsMissing want got) some = (_, refl)
+RefusesBy-trace X word (reading.RowsLeft line) some = (_, refl)
+RefusesBy-trace X word reading.Memory some = absurd (some refl)
 
 pub ReadsReading-some : (word text : List ℕ) (read : Result TraceText TraceFault) → trace_of text ≡ read → HasSome (Result Survey (List ℕ)) (ReadsReading word read)
 ReadsReading-some word text (Ok trace) is = λ none. first_of_all (Offends (streams_of trace)) (λ first is_first.
     none (Ok (record { heads = trace.heads; found = survey_of first (first_unfinished 0 (streams_of trace)) (counts_of (streams_of trace)) })) (record { heads = refl; found = record { first = first; is_first = is_first; says = refl } }))
 ReadsReading-some word text (Err fault) is = λ none.
-    let refused = RefusesBy-trace word fault (λ same. trace_free text (is ∙ ap Err same)) in none (Err refused.0) refused.1
+    let refused = RefusesBy-trace Survey word fault (λ same. trace_free text (is ∙ ap Err same)) in none (Err refused.0) refused.1
 
-ReportsEnd-some : (path : List (List ℕ)) (end : End) → IsUnfinished end → (a : Answer) × ReportsEnd path end a
+-- a text that is no trace is refused
+pub cycles-refused : (word text : List ℕ) (fault : TraceFault) → trace_of text ≡ Err fault
+    → (line : List ℕ) × RefusesBy {X = TraceText} (refusal_of_trace word fault) (Err line)
+cycles-refused word text fault is = RefusesBy-trace TraceText word fault (λ same. trace_free text (is ∙ ap Err same))
+
+pub ReportsEnd-some : (path : List (List ℕ)) (end : End) → IsUnfinished end → (a : Answer) × ReportsEnd path end a
 ReportsEnd-some path ends.Whole is = absurd is
 ReportsEnd-some path ends.Pending is = (_, refl)
 ReportsEnd-some path (ends.Unclosed k) is = (_, refl)

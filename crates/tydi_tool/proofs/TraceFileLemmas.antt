@@ -7,7 +7,7 @@ use Rattle.cycle_trace.specs.SurveyorView.{SurveyorStands}
 use Rattle.cycle_trace.specs.Trace.{TraceText}
 use Rattle.cycle_trace.specs.TraceText.{trace_of}
 use Rattle.cycle_trace.specs.declared.fault.TraceFault.{TraceFault}
-use Rattle.cycle_trace.specs.declared.surveyor.Surveyor.{Surveyor}
+use Rattle.cycle_trace.specs.declared.surveying.surveyor.Surveyor.{Surveyor}
 use Rattle.tydi_tool.specs.declared.answer.Answer.TheVariants as answers
 use Rattle.tydi_tool.specs.declared.answer.Reply.{Reply}
 use Rattle.tydi_tool.specs.declared.answer.Reply.TheVariants as replies

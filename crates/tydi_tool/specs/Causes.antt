@@ -3,7 +3,7 @@
 use Rattle.std.specs.Prelude.{◌≡◌, ℕ, ◌<◌, ◌≤◌, ◌⊎◌, ◌↔◌, ◌==◌, ◌||◌, if◌then◌else◌, true, false, List, [], ◌∷◌, ◌++◌, length, drop, slice_get, Option, Some, None, option_map, Ok, Err, codes, decimal}
 use Rattle.std.specs.Str.{bytes_eq, is_utf8}
 use Rattle.std.specs.Str.Lossy.{utf8_valid_len}
-use Rattle.tydi_base.specs.Path.{path_text}
+use Rattle.tydi_base.specs.Path.{colon_text, path_text}
 use Rattle.tydi_base.specs.declared.place.Place.{Place}
 use Rattle.tydi_io.specs.Store.{Files}
 use Rattle.physical_stream.specs.First.{Offence, IsFirst}
@@ -42,12 +42,19 @@ use Rattle.plan_text.specs.declared.fault.PlanFault.{PlanFault}
 use Rattle.plan_text.specs.declared.fault.PlanFault.TheVariants as planning
 use Rattle.plan_text.specs.declared.plan.Plan.{Plan}
 use Rattle.port_drive.specs.Drives as driving
-use Rattle.port_drive.specs.Drives.{Undriven, drive_of}
+use Rattle.port_drive.specs.Drives.{Undriven, drive_of, heads_of}
 use Rattle.port_drive.specs.Text.{drive_text}
 use Rattle.split_text.specs.Text.{split_text}
 use Rattle.value_text.specs.Reading.{IsFaulty, IsValue}
 use Rattle.value_text.specs.declared.fault.ValueFault.{ValueFault}
 use Rattle.value_text.specs.declared.fault.ValueFault.TheVariants as valuing
+use Rattle.port_drive.specs.Laws.{done_on}
+use Rattle.logical_value.specs.Tree.{Tree}
+use Rattle.trace_decode.specs.Outcome.{DifferFirst, DisagreeAt, users_on}
+use Rattle.trace_decode.specs.Tags.{OffendsWithTags}
+use Rattle.value_text.specs.Canonical as values
+use Rattle.value_views.specs.Comparing.{Disagreement}
+use Rattle.value_views.specs.Views.{Carries}
 use Rattle.tydi_tool.specs.declared.answer.Answer.{Answer}
 use Rattle.tydi_tool.specs.declared.answer.Answer.TheVariants as answers
 use Rattle.tydi_tool.specs.Ask.{Ask, Ends, Asks}
@@ -75,7 +82,15 @@ use Rattle.link_check.specs.declared.difference.Why.TheVariants as whys
 use Rattle.link_check.specs.declared.fault.LinkFault.{LinkFault}
 use Rattle.link_check.specs.declared.fault.LinkFault.TheVariants as linking
 use Rattle.link_check.specs.declared.nets.Nets.{Nets}
-use Rattle.tydi_tool.specs.Words.{Request, Check, Drive, Link, Read, Sim, Split, FileWord}
+use Rattle.tydi_tool.specs.Words.{Request, Check, Decode, Drive, Link, Read, Sim, Split, FileWord, Carry, Vhdl}
+use Rattle.link_check.specs.Carry.{FirstOther, carried}
+use Rattle.link_check.specs.declared.end_heads.EndHeads.{EndHeads}
+use Rattle.port_drive.specs.Text.{written_text}
+use Rattle.tydi_tool.specs.Designs.{AreJoined, DesignWords, HasClash, HasNoClash, ReadsDesign, leaf_at, top_at}
+use Rattle.vhdl_writer.specs.Architecture.{architectures}
+use Rattle.vhdl_writer.specs.Designs.{design_text}
+use Rattle.vhdl_writer.specs.PortClashes.{first_clash}
+use Rattle.vhdl_writer.specs.declared.clash.Clash.{Clash}
 
 -- ---- which row an answer is of
 
@@ -87,15 +102,19 @@ pub data Row : Type 0 where
   ParserFault : Row
   ResolverFault : Row
   NoPort : Row
+  NoStreamlet : Row
   NameClash : Row
   NoCarrier : Row
   TextFault : Row
+  OtherHeader : Row
   CountNotMultiple : Row
   NotFinished : Row
   NotLinked : Row
+  NoPath : Row
   OutputTooLong : Row
   AnOffence : Row
   AnUnfinished : Row
+  ADisagreement : Row
   AText : Row
 
 -- the row of each name of a fault
@@ -108,6 +127,7 @@ rows_of_faults =
     ∷ (codes "DeclaredTwice", ResolverFault) ∷ (codes "UnknownName", ResolverFault) ∷ (codes "WrongKind", ResolverFault)
     ∷ (codes "CyclicType", ResolverFault) ∷ (codes "TypeTooLarge", ResolverFault) ∷ (codes "BadType", ResolverFault)
     ∷ (codes "PortNotStream", ResolverFault) ∷ (codes "CyclicInstance", ResolverFault)
+    ∷ (codes "NoStreamlet", NoStreamlet) ∷ (codes "NoPath", NoPath)
     ∷ (codes "NoPort", NoPort) ∷ (codes "NameClash", NameClash) ∷ (codes "NoCarrier", NoCarrier)
     ∷ (codes "BadHeader", TextFault) ∷ (codes "TooManyCycles", TextFault) ∷ (codes "BadRow", TextFault)
     ∷ (codes "WrongSignals", TextFault) ∷ (codes "RowsMissing", TextFault) ∷ (codes "RowsLeft", TextFault)
@@ -117,14 +137,14 @@ rows_of_faults =
     ∷ (codes "MaskTooWide", TextFault) ∷ (codes "UserTooWide", TextFault)
     ∷ (codes "NotForm", TextFault) ∷ (codes "UnknownSignal", TextFault) ∷ (codes "TwoDrivers", TextFault)
     ∷ (codes "NotOrder", TextFault) ∷ (codes "TooManyOrders", TextFault)
-    ∷ (codes "CountNotMultiple", CountNotMultiple) ∷ (codes "NotFinished", NotFinished)
+    ∷ (codes "OtherHeader", OtherHeader) ∷ (codes "CountNotMultiple", CountNotMultiple) ∷ (codes "NotFinished", NotFinished)
     ∷ (codes "UnknownEnd", NotLinked) ∷ (codes "SameSide", NotLinked) ∷ (codes "NotCompatible", NotLinked)
     ∷ (codes "LinkedTwice", NotLinked) ∷ (codes "Unlinked", NotLinked) ∷ (codes "DesignTooLarge", NotLinked)
     ∷ (codes "OutputTooLong", OutputTooLong) ∷ []
 
 -- the row of each word with which a verdict begins
 abbrev pub rows_of_verdicts : List (List ℕ × Row)
-rows_of_verdicts = (codes "offence", AnOffence) ∷ (codes "unfinished", AnUnfinished) ∷ []
+rows_of_verdicts = (codes "offence", AnOffence) ∷ (codes "unfinished", AnUnfinished) ∷ (codes "disagree", ADisagreement) ∷ []
 
 abbrev pub row_in : List (List ℕ × Row) → List ℕ → Option Row
 row_in [] name = None
@@ -162,8 +182,11 @@ project_of (Check trace) = None
 project_of (Read project) = Some project
 project_of (Split project port) = Some project
 project_of (Drive project port value plan) = Some project
+project_of (Decode project port trace) = Some project
 project_of (Sim bench run) = None
 project_of (Link project) = Some project
+project_of (Carry project top from to trace) = Some project
+project_of (Vhdl project) = Some project
 
 -- the project that a command resolves
 abbrev pub resolved_of : Request → Option (List ℕ)
@@ -171,8 +194,11 @@ resolved_of (Check trace) = None
 resolved_of (Read project) = None
 resolved_of (Split project port) = Some project
 resolved_of (Drive project port value plan) = Some project
+resolved_of (Decode project port trace) = Some project
 resolved_of (Sim bench run) = None
 resolved_of (Link project) = Some project
+resolved_of (Carry project top from to trace) = Some project
+resolved_of (Vhdl project) = Some project
 
 -- the trace that a command reads before it reads anything else
 abbrev pub trace_in : Request → Option (List ℕ)
@@ -188,11 +214,13 @@ pub record PortWords : Type 0 where
 abbrev pub port_in : Request → Option PortWords
 port_in (Split project port) = Some (record { project = project; port = port })
 port_in (Drive project port value plan) = Some (record { project = project; port = port })
+port_in (Decode project port trace) = Some (record { project = project; port = port })
 port_in request = None
 
 -- the port that a command begins with, each of whose nodes has to be carried
 abbrev pub carried_in : Request → Option PortWords
 carried_in (Drive project port value plan) = Some (record { project = project; port = port })
+carried_in (Decode project port trace) = Some (record { project = project; port = port })
 carried_in request = None
 
 -- a port of a project, a value of it and a plan of its streams
@@ -206,6 +234,16 @@ abbrev pub driven_in : Request → Option DriveWords
 driven_in (Drive project port value plan) = Some (record { at = record { project = project; port = port }; value = value; plan = plan })
 driven_in request = None
 
+-- a port of a project, and a trace of it
+pub record DecodeWords : Type 0 where
+  pub at : PortWords
+  pub trace : List ℕ
+
+-- the port that a command decodes, with the file of the trace
+abbrev pub decoded_in : Request → Option DecodeWords
+decoded_in (Decode project port trace) = Some (record { at = record { project = project; port = port }; trace = trace })
+decoded_in request = None
+
 -- a bench and a run of it
 pub record SimWords : Type 0 where
   pub bench : List ℕ
@@ -216,10 +254,34 @@ abbrev pub simulated_in : Request → Option SimWords
 simulated_in (Sim bench run) = Some (record { bench = bench; run = run })
 simulated_in request = None
 
--- the project whose links a command checks
-abbrev pub linked_in : Request → Option (List ℕ)
-linked_in (Link project) = Some project
-linked_in request = None
+-- a design, two leaf ports of it, and a trace at the first
+pub record CarryWords : Type 0 where
+  pub design : DesignWords
+  pub trace : List ℕ
+
+-- the trace that a command carries
+abbrev pub carried_words : Request → Option CarryWords
+carried_words (Carry project top from to trace) = Some (record { design = record { project = project; top = top; from = from; to = to }; trace = trace })
+carried_words request = None
+
+-- under this top, a command that carries a trace comes past a clash: no two streams of its leaf source clash
+pub record IsPastClash (read : PlainProject) (words : DesignWords) (top : ℕ) : Type 0 where
+  pub named : top_at read.streamlets words.top ≡ Some top
+  pub apart : HasNoClash read.streamlets (leaf_at top words.from)
+
+-- a command checks the links of the project of this word, once it has read it so: to write its nets or its architectures, or to carry a
+-- trace along them
+abbrev pub ChecksLinks : Request → List ℕ → PlainProject → Type 0
+ChecksLinks (Link project) word read = word ≡ project
+ChecksLinks (Carry project top from to trace) word read = (word ≡ project) × ((number : ℕ) × IsPastClash read
+    (record { project = project; top = top; from = from; to = to }) number)
+ChecksLinks (Vhdl project) word read = (word ≡ project) × (first_clash read.streamlets ≡ None)
+ChecksLinks request word read = ⊥
+
+-- the project each port of which a command splits before it checks the links
+abbrev pub designed_in : Request → Option (List ℕ)
+designed_in (Vhdl project) = Some project
+designed_in request = None
 
 -- a text of at most so many bytes that a command reads by this word
 pub record HasText (known : Files) (named : Option (List ℕ)) (limit : ℕ) (word bytes : List ℕ) : Type 0 where
@@ -278,6 +340,19 @@ pub record HasDrive (known : Files) (words : DriveWords) (split : PlainSplit) (v
   pub value_is : HasValue known split words.value value
   pub plan_is : HasPlan known split words.plan plan
 
+-- all that a command needs to decode a port is there: the port, each node of which is carried, and a file of at most 64 MiB with the text of this
+-- trace
+pub record HasDecode (known : Files) (words : DecodeWords) (split : PlainSplit) (read : TraceText) : Type 0 where
+  pub at : HasCarried known words.at split
+  pub bytes : List ℕ
+  pub file : HasBytes known words.trace 67108864 bytes
+  pub reads : trace_of bytes ≡ Ok read
+
+-- a trace of a port has the heads of the port, and no offence by rules 1 to 11
+pub record IsLegalOf (split : PlainSplit) (read : TraceText) : Type 0 where
+  pub same : read.heads ≡ heads_of split
+  pub legal : (o : Offence) → OffendsWithTags split read o → ⊥
+
 -- a file of at most 64 MiB has the text of this bench
 pub record HasBench (known : Files) (word : List ℕ) (bench : Bench) : Type 0 where
   pub bytes : List ℕ
@@ -290,11 +365,33 @@ pub record HasRun (known : Files) (bench : Bench) (word : List ℕ) (run : SimRu
   pub file : HasBytes known word 16777216 bytes
   pub reads : run_of bench bytes ≡ Ok run
 
+-- the project is there and is read
+pub record HasRead (known : Files) (word : List ℕ) (read : PlainProject) : Type 0 where
+  pub bytes : List ℕ
+  pub file : HasBytes known word 4194304 bytes
+  pub reads : ReadsProject word bytes (Ok read)
+
+-- and these are the heads of a trace between the two leaf ports
+pub record HasDesign (known : Files) (words : DesignWords) (heads : EndHeads) : Type 0 where
+  pub bytes : List ℕ
+  pub file : HasBytes known words.project 4194304 bytes
+  pub reads : ReadsDesign words bytes (Ok heads)
+
+-- a file of at most 64 MiB has the text of this trace
+pub record HasTrace (known : Files) (word : List ℕ) (t : TraceText) : Type 0 where
+  pub bytes : List ℕ
+  pub file : HasBytes known word 67108864 bytes
+  pub reads : trace_of bytes ≡ Ok t
+
 -- ---- the lines
 
 -- a place in a text, as it stands in a line
 abbrev pub at_place : Place → List ℕ
 at_place place = decimal place.line ++ codes ":" ++ decimal place.column
+
+-- a port of the streamlet of a path, as it stands in a line
+abbrev pub at_port : List (List ℕ) → List ℕ → List ℕ
+at_port streamlet port = colon_text streamlet ++ codes "." ++ port
 
 abbrev pub lexer_line : List ℕ → LexFault → Option (List ℕ)
 lexer_line word (lexing.StrayChar place) = Some (codes "tydi: StrayChar " ++ word ++ codes " " ++ at_place place ++ codes "\n")
@@ -483,15 +580,45 @@ pub record NoPortCause (known : Files) (request : Request) (a : Answer) : Type 0
   pub none : port_named read words.port ≡ None
   pub said : a ≡ answers.Refused (codes "tydi: NoPort " ++ words.port ++ codes "\n")
 
--- two physical streams of the port clash on this path
-pub record NameClashCause (known : Files) (request : Request) (a : Answer) : Type 0 where
+-- two physical streams of the port that a command begins with clash on this path
+pub record PortClashes (known : Files) (request : Request) (path : List (List ℕ)) : Type 0 where
   pub words : PortWords
   pub named : port_in request ≡ Some words
   pub ltype : Ltype
   pub port : HasPort known words ltype
-  pub path : List (List ℕ)
   pub clash : clash_of ltype ≡ Some path
+
+-- two physical streams of the leaf source where a trace comes from clash on this path
+pub record SourceClashes (known : Files) (request : Request) (path : List (List ℕ)) : Type 0 where
+  pub words : CarryWords
+  pub named : carried_words request ≡ Some words
+  pub read : PlainProject
+  pub project : HasRead known words.design.project read
+  pub top : ℕ
+  pub top_is : top_at read.streamlets words.design.top ≡ Some top
+  pub clash : HasClash read.streamlets (leaf_at top words.design.from) path
+
+-- two physical streams of the port clash on this path
+pub record NameClashCause (known : Files) (request : Request) (a : Answer) : Type 0 where
+  pub path : List (List ℕ)
+  pub clashes : PortClashes known request path ⊎ SourceClashes known request path
   pub said : a ≡ answers.Refused (codes "tydi: NameClash " ++ path_text path ++ codes "\n")
+
+-- two physical streams of some port of the project clash on this path, and it is the first such port
+pub record DesignClashCause (known : Files) (request : Request) (a : Answer) : Type 0 where
+  pub word : List ℕ
+  pub named : designed_in request ≡ Some word
+  pub bytes : List ℕ
+  pub file : HasBytes known word 4194304 bytes
+  pub read : PlainProject
+  pub reads : ReadsProject word bytes (Ok read)
+  pub clash : Clash
+  pub is : first_clash read.streamlets ≡ Some clash
+  pub said : a ≡ answers.Refused (codes "tydi: NameClash " ++ at_port clash.streamlet clash.port ++ codes " " ++ path_text clash.path ++ codes "\n")
+
+-- the same of the port that a command begins with, or of a whole project
+abbrev pub ClashCause : Files → Request → Answer → Type 0
+ClashCause known request a = NameClashCause known request a ⊎ DesignClashCause known request a
 
 -- a node of the port is not carried, and the first such one has this path
 pub record NoCarrierCause (known : Files) (request : Request) (a : Answer) : Type 0 where
@@ -560,10 +687,40 @@ pub record HasRunFault (known : Files) (request : Request) (line : List ℕ) : T
   pub reads : run_of bench bytes ≡ Err fault
   pub told : run_line words.run fault ≡ Some line
 
+-- the port is there, each node of it is carried, and the text of the trace has no reading, with this line
+pub record HasPortTraceFault (known : Files) (request : Request) (line : List ℕ) : Type 0 where
+  pub words : DecodeWords
+  pub named : decoded_in request ≡ Some words
+  pub split : PlainSplit
+  pub at : HasCarried known words.at split
+  pub bytes : List ℕ
+  pub file : HasBytes known words.trace 67108864 bytes
+  pub fault : TraceFault
+  pub reads : trace_of bytes ≡ Err fault
+  pub told : trace_line words.trace fault ≡ Some line
+
+-- the heads between the leaf ports are there, and the text of the trace that is carried has no reading, with this line
+pub record HasCarriedFault (known : Files) (request : Request) (line : List ℕ) : Type 0 where
+  pub words : CarryWords
+  pub named : carried_words request ≡ Some words
+  pub heads : EndHeads
+  pub design : HasDesign known words.design heads
+  pub bytes : List ℕ
+  pub file : HasBytes known words.trace 67108864 bytes
+  pub fault : TraceFault
+  pub reads : trace_of bytes ≡ Err fault
+  pub told : trace_line words.trace fault ≡ Some line
+
 -- an error of one of these texts, with this line
 abbrev pub HasTextFault : Files → Request → List ℕ → Type 0
 HasTextFault known request line =
-    HasTraceFault known request line ⊎ (HasValueFault known request line ⊎ (HasPlanFault known request line ⊎ (HasBenchFault known request line ⊎ HasRunFault known request line)))
+    HasTraceFault known request line
+    ⊎ (HasValueFault known request line
+    ⊎ (HasPlanFault known request line
+    ⊎ (HasBenchFault known request line
+    ⊎ (HasRunFault known request line
+    ⊎ (HasPortTraceFault known request line
+    ⊎ HasCarriedFault known request line)))))
 
 -- the text of a trace, a value, a plan, a bench or a run has no reading
 pub record TextFaultCause (known : Files) (request : Request) (a : Answer) : Type 0 where
@@ -600,19 +757,53 @@ pub record NotFinishedCause (known : Files) (request : Request) (a : Answer) : T
 -- the project is read, and its links have this error first
 pub record LinkFaultCause (known : Files) (request : Request) (a : Answer) : Type 0 where
   pub word : List ℕ
-  pub named : linked_in request ≡ Some word
   pub bytes : List ℕ
   pub file : HasBytes known word 4194304 bytes
   pub read : PlainProject
   pub reads : ReadsProject word bytes (Ok read)
+  pub checks : ChecksLinks request word read
   pub fault : LinkFault
   pub is : linked read.streamlets ≡ Err fault
   pub line : List ℕ
   pub told : link_line word fault ≡ Some line
   pub said : a ≡ answers.Refused line
 
--- the trace has an offence, and this is the first
-pub record OffenceCause (known : Files) (request : Request) (a : Answer) : Type 0 where
+-- no streamlet of the project has the path that the word of the top spells, if it spells one
+pub record NoStreamletCause (known : Files) (request : Request) (a : Answer) : Type 0 where
+  pub words : CarryWords
+  pub named : carried_words request ≡ Some words
+  pub read : PlainProject
+  pub project : HasRead known words.design.project read
+  pub none : top_at read.streamlets words.design.top ≡ None
+  pub said : a ≡ answers.Refused (codes "tydi: NoStreamlet " ++ words.design.top ++ codes "\n")
+
+-- the nets of the project do not lead from the one port to the other: not where the first is no leaf source
+pub record NoPathCause (known : Files) (request : Request) (a : Answer) : Type 0 where
+  pub words : CarryWords
+  pub named : carried_words request ≡ Some words
+  pub read : PlainProject
+  pub project : HasRead known words.design.project read
+  pub top : ℕ
+  pub past : IsPastClash read words.design top
+  pub nets : Nets
+  pub nets_are : linked read.streamlets ≡ Ok nets
+  pub none : AreJoined read.streamlets nets (leaf_at top words.design.from) (leaf_at top words.design.to) → ⊥
+  pub said : a ≡ answers.Refused (codes "tydi: NoPath " ++ words.design.from ++ codes " " ++ words.design.to ++ codes "\n")
+
+-- the trace has other heads than those where its streams come from, first at this stream
+pub record CarriedOtherHeader (known : Files) (request : Request) (a : Answer) : Type 0 where
+  pub words : CarryWords
+  pub named : carried_words request ≡ Some words
+  pub heads : EndHeads
+  pub design : HasDesign known words.design heads
+  pub t : TraceText
+  pub trace : HasTrace known words.trace t
+  pub stream : ℕ
+  pub first : FirstOther heads.from t.heads stream
+  pub said : a ≡ answers.Refused (codes "tydi: OtherHeader " ++ words.trace ++ codes " " ++ decimal stream ++ codes "\n")
+
+-- the trace that is checked has an offence by rules 1 to 10, and this is the first
+pub record CheckedOffence (known : Files) (request : Request) (a : Answer) : Type 0 where
   pub word : List ℕ
   pub bytes : List ℕ
   pub trace : HasTraceText known request word bytes
@@ -623,8 +814,25 @@ pub record OffenceCause (known : Files) (request : Request) (a : Answer) : Type 
   pub said : a ≡ answers.Verdict (codes "offence cycle " ++ decimal first.cycle ++ codes " stream " ++ path_text (path_of_stream read.heads first.stream)
       ++ codes " rule " ++ decimal (number_of_rule first.rule) ++ codes " " ++ name_of_rule first.rule ++ codes "\n")
 
--- the trace has no offence, and this is its first stream that does not end whole
-pub record UnfinishedCause (known : Files) (request : Request) (a : Answer) : Type 0 where
+-- the trace that is decoded has an offence by rules 1 to 11, and this is the first
+pub record DecodedOffence (known : Files) (request : Request) (a : Answer) : Type 0 where
+  pub words : DecodeWords
+  pub named : decoded_in request ≡ Some words
+  pub split : PlainSplit
+  pub read : TraceText
+  pub all : HasDecode known words split read
+  pub same : read.heads ≡ heads_of split
+  pub first : Offence
+  pub is_first : IsFirst (OffendsWithTags split read) (Some first)
+  pub said : a ≡ answers.Verdict (codes "offence cycle " ++ decimal first.cycle ++ codes " stream " ++ path_text (path_of split first.stream)
+      ++ codes " rule " ++ decimal (number_of_rule first.rule) ++ codes " " ++ name_of_rule first.rule ++ codes "\n")
+
+-- the trace has an offence, and this is the first
+abbrev pub OffenceCause : Files → Request → Answer → Type 0
+OffenceCause known request a = CheckedOffence known request a ⊎ DecodedOffence known request a
+
+-- the trace that is checked has no offence, and this is its first stream that does not end whole
+pub record CheckedUnfinished (known : Files) (request : Request) (a : Answer) : Type 0 where
   pub word : List ℕ
   pub bytes : List ℕ
   pub trace : HasTraceText known request word bytes
@@ -636,6 +844,52 @@ pub record UnfinishedCause (known : Files) (request : Request) (a : Answer) : Ty
   pub line : List ℕ
   pub told : unfinished_line (path_of_stream read.heads left.stream) left.end ≡ Some line
   pub said : a ≡ answers.Verdict line
+
+-- the trace that is decoded has no offence, and this is its first stream that does not end whole
+pub record DecodedUnfinished (known : Files) (request : Request) (a : Answer) : Type 0 where
+  pub words : DecodeWords
+  pub named : decoded_in request ≡ Some words
+  pub split : PlainSplit
+  pub read : TraceText
+  pub all : HasDecode known words split read
+  pub legal : IsLegalOf split read
+  pub left : UnfinishedStream
+  pub is_left : first_unfinished 0 (streams_of read) ≡ Some left
+  pub line : List ℕ
+  pub told : unfinished_line (path_of split left.stream) left.end ≡ Some line
+  pub said : a ≡ answers.Verdict line
+
+-- the trace has no offence, and this is its first stream that does not end whole
+abbrev pub UnfinishedCause : Files → Request → Answer → Type 0
+UnfinishedCause known request a = CheckedUnfinished known request a ⊎ DecodedUnfinished known request a
+
+-- the heads of the trace differ from those of the port, first at this place
+pub record DecodedOtherHeader (known : Files) (request : Request) (a : Answer) : Type 0 where
+  pub words : DecodeWords
+  pub named : decoded_in request ≡ Some words
+  pub split : PlainSplit
+  pub read : TraceText
+  pub all : HasDecode known words split read
+  pub place : ℕ
+  pub differ : DifferFirst read.heads (heads_of split) place
+  pub said : a ≡ answers.Refused (codes "tydi: OtherHeader " ++ words.trace ++ codes " " ++ decimal place ++ codes "\n")
+
+-- the trace has other heads, first at this place
+abbrev pub OtherHeaderCause : Files → Request → Answer → Type 0
+OtherHeaderCause known request a = DecodedOtherHeader known request a ⊎ CarriedOtherHeader known request a
+
+-- the trace has no offence, and each stream ends whole, but the items done are those of no value, first at this stream and packet
+pub record DisagreeCause (known : Files) (request : Request) (a : Answer) : Type 0 where
+  pub words : DecodeWords
+  pub named : decoded_in request ≡ Some words
+  pub split : PlainSplit
+  pub read : TraceText
+  pub all : HasDecode known words split read
+  pub legal : IsLegalOf split read
+  pub whole : first_unfinished 0 (streams_of read) ≡ None
+  pub place : Disagreement
+  pub disagree : DisagreeAt split (done_on (streams_of read)) place
+  pub said : a ≡ answers.Verdict (codes "disagree stream " ++ path_text place.path ++ codes " packet " ++ decimal place.packet ++ codes "\n")
 
 -- ---- the text of an answer
 
@@ -671,6 +925,17 @@ pub record IsDriveText (known : Files) (words : DriveWords) (text : List ℕ) : 
   pub all : HasDrive known words split value plan
   pub is : drive_text split (plain_port value) plan ≡ Ok text
 
+-- the trace has no offence, each stream ends whole, and the items done carry this value
+pub record IsDecodeText (known : Files) (words : DecodeWords) (text : List ℕ) : Type 0 where
+  pub split : PlainSplit
+  pub read : TraceText
+  pub all : HasDecode known words split read
+  pub legal : IsLegalOf split read
+  pub whole : first_unfinished 0 (streams_of read) ≡ None
+  pub value : List (List Tree)
+  pub carries : Carries split value (done_on (streams_of read))
+  pub is : text ≡ values.canonical split value (users_on (streams_of read))
+
 -- the bench and the run are read
 pub record IsSimText (known : Files) (words : SimWords) (text : List ℕ) : Type 0 where
   pub bench : Bench
@@ -689,14 +954,38 @@ pub record IsLinkText (known : Files) (project text : List ℕ) : Type 0 where
   pub nets_are : linked read.streamlets ≡ Ok nets
   pub is : text ≡ nets_text read.streamlets nets
 
+-- the trace has the heads where its streams come from, and arrives under those where they go
+pub record IsCarriedText (known : Files) (words : CarryWords) (text : List ℕ) : Type 0 where
+  pub heads : EndHeads
+  pub design : HasDesign known words.design heads
+  pub t : TraceText
+  pub trace : HasTrace known words.trace t
+  pub same : t.heads ≡ heads.from
+  pub is : text ≡ written_text (carried heads.to t)
+
+-- the project is read, no port of it has two physical streams of one path, and its links have these nets and no error
+pub record IsVhdlText (known : Files) (project text : List ℕ) : Type 0 where
+  pub bytes : List ℕ
+  pub file : HasBytes known project 4194304 bytes
+  pub read : PlainProject
+  pub reads : ReadsProject project bytes (Ok read)
+  pub apart : first_clash read.streamlets ≡ None
+  pub nets : Nets
+  pub nets_are : linked read.streamlets ≡ Ok nets
+  pub is : text ≡ design_text (architectures read.streamlets nets.impls)
+
 -- the text that a command makes of the files
 abbrev pub IsTextOf : Files → Request → List ℕ → Type 0
 IsTextOf known (Check trace) text = IsLegalText known trace text
 IsTextOf known (Read project) text = IsTreeText known project text
 IsTextOf known (Split project port) text = IsSplitText known (record { project = project; port = port }) text
 IsTextOf known (Drive project port value plan) text = IsDriveText known (record { at = record { project = project; port = port }; value = value; plan = plan }) text
+IsTextOf known (Decode project port trace) text = IsDecodeText known (record { at = record { project = project; port = port }; trace = trace }) text
 IsTextOf known (Sim bench run) text = IsSimText known (record { bench = bench; run = run }) text
 IsTextOf known (Link project) text = IsLinkText known project text
+IsTextOf known (Carry project top from to trace) text =
+    IsCarriedText known (record { design = record { project = project; top = top; from = from; to = to }; trace = trace }) text
+IsTextOf known (Vhdl project) text = IsVhdlText known project text
 
 -- the text is over 64 MiB
 pub record OutputTooLongCause (known : Files) (request : Request) (a : Answer) : Type 0 where
@@ -720,15 +1009,19 @@ CausedBy LexerFault known request a = LexerCause known request a
 CausedBy ParserFault known request a = ParserCause known request a
 CausedBy ResolverFault known request a = ResolverCause known request a
 CausedBy NoPort known request a = NoPortCause known request a
-CausedBy NameClash known request a = NameClashCause known request a
+CausedBy NoStreamlet known request a = NoStreamletCause known request a
+CausedBy NameClash known request a = ClashCause known request a
 CausedBy NoCarrier known request a = NoCarrierCause known request a
 CausedBy TextFault known request a = TextFaultCause known request a
+CausedBy OtherHeader known request a = OtherHeaderCause known request a
 CausedBy CountNotMultiple known request a = CountNotMultipleCause known request a
 CausedBy NotFinished known request a = NotFinishedCause known request a
 CausedBy NotLinked known request a = LinkFaultCause known request a
+CausedBy NoPath known request a = NoPathCause known request a
 CausedBy OutputTooLong known request a = OutputTooLongCause known request a
 CausedBy AnOffence known request a = OffenceCause known request a
 CausedBy AnUnfinished known request a = UnfinishedCause known request a
+CausedBy ADisagreement known request a = DisagreeCause known request a
 CausedBy AText known request a = TextCause known request a
 
 -- ---- the laws

@@ -14,11 +14,18 @@ use Rattle.plan_text.specs.declared.plan.Plan.{Plan}
 use Rattle.vhdl_text.specs.declared.bench.Bench.{Bench}
 use Rattle.vhdl_meaning.specs.declared.run.SimRun.{SimRun}
 use Rattle.bench_run.specs.Traces.{trace_text_of}
+use Rattle.trace_decode.specs.Outcome.{Outcome}
+use Rattle.tydi_tool.specs.Decodes.{ReadsOutcome, TellsOutcome}
 use Rattle.tydi_tool.specs.Drives.{TellsDriven, carried}
 use Rattle.tydi_tool.specs.Texts.{ReadsPlan, ReadsValue}
 use Rattle.tydi_tool.specs.Benches.{ReadsBench, ReadsRun}
+use Rattle.tydi_tool.specs.Entities.{TellsDesign}
 use Rattle.tydi_tool.specs.Links.{TellsLinked}
-use Rattle.tydi_tool.specs.Words.{Request, Check, Drive, Link, Read, Sim, Split, bench_file, trace_file, project_file, text_file}
+use Rattle.tydi_tool.specs.Words.{Request, Check, Decode, Drive, Link, Read, Sim, Split, bench_file, trace_file, project_file, text_file, Carry, Vhdl}
+use Rattle.cycle_trace.specs.Trace.{TraceText}
+use Rattle.link_check.specs.declared.end_heads.EndHeads.{EndHeads}
+use Rattle.tydi_tool.specs.Arrivals.{ReadsCycles, TellsArrived}
+use Rattle.tydi_tool.specs.Designs.{DesignWords, ReadsDesign}
 use Rattle.tydi_tool.specs.Outcome.{output_answer}
 use Rattle.tydi_tool.specs.Ports.{split_at}
 use Rattle.tydi_tool.specs.Projects.{ReadsProject}
@@ -63,6 +70,15 @@ planned_ask value plan split Tells = Asks (text_file value) PortValue (ReadsValu
 abbrev pub drive_ask : (project port value plan : List ℕ) → Ask
 drive_ask project port value plan = carried_ask project port (λ split. planned_ask value plan split (TellsDriven split))
 
+-- a command that ends with the trace of a port
+abbrev pub outcome_ask : List ℕ → PlainSplit → Ask
+outcome_ask trace split = Asks (trace_file trace) Outcome (ReadsOutcome split trace) (λ outcome. Ends (TellsOutcome split trace outcome))
+
+-- `decode PROJECT PORT TRACE`: the value that the trace carries, or the first place that is not the port's, not legal, not whole or not of one
+-- value. The project and its port are decided before the trace is started.
+abbrev pub decode_ask : (project port trace : List ℕ) → Ask
+decode_ask project port trace = carried_ask project port (outcome_ask trace)
+
 -- a command that ends with a run of a bench: the trace
 abbrev pub run_ask : List ℕ → Bench → Ask
 run_ask run bench = Asks (text_file run) SimRun (ReadsRun run bench) (λ read. Ends (λ a. a ≡ output_answer (trace_text_of bench read)))
@@ -75,13 +91,32 @@ sim_ask bench run = Asks (bench_file bench) Bench (ReadsBench bench) (run_ask ru
 abbrev pub link_ask : List ℕ → Ask
 link_ask project = project_ask project (λ read. Ends (TellsLinked project read))
 
+-- a command that ends with a trace between these heads: the trace that arrives
+abbrev pub arrival_ask : List ℕ → EndHeads → Ask
+arrival_ask trace heads = Asks (trace_file trace) TraceText (ReadsCycles trace) (λ t. Ends (TellsArrived trace heads t))
+
+-- `carry PROJECT TOP FROM TO TRACE`: the trace at the sink
+abbrev pub carry_ask : DesignWords → List ℕ → Ask
+carry_ask words trace = Asks (project_file words.project) EndHeads (ReadsDesign words) (arrival_ask trace)
+
+-- the words of a design
+abbrev pub of_design : (project top from to : List ℕ) → DesignWords
+of_design project top from to = record { project = project; top = top; from = from; to = to }
+
+-- `vhdl PROJECT`: its entities and architectures
+abbrev pub vhdl_ask : List ℕ → Ask
+vhdl_ask project = project_ask project (λ read. Ends (TellsDesign project read))
+
 abbrev pub ask_of : Request → Ask
 ask_of (Check trace) = check_ask trace
 ask_of (Read project) = read_ask project
 ask_of (Split project port) = split_ask project port
 ask_of (Drive project port value plan) = drive_ask project port value plan
+ask_of (Decode project port trace) = decode_ask project port trace
 ask_of (Sim bench run) = sim_ask bench run
 ask_of (Link project) = link_ask project
+ask_of (Carry project top from to trace) = carry_ask (of_design project top from to) trace
+ask_of (Vhdl project) = vhdl_ask project
 
 -- the answer of the tool: none where the words spell no command
 abbrev pub Says : Option Files → Option Request → Answer → Type 0

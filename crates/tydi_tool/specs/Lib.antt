@@ -1,8 +1,15 @@
 pub mod Ask
+pub mod Arrivals
 pub mod Benches
+pub mod CarryLaw
 pub mod Causes
 pub mod Commands
+pub mod Decodes
+pub mod DecodeFiles
+pub mod DecodeLaw
 pub mod Delivery
+pub mod Designs
+pub mod Entities
 pub mod Drives
 pub mod Files
 pub mod Laws

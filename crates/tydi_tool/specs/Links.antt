@@ -1,6 +1,6 @@
 -- The nets of a project, or the refusal of its first link error (this project's own).
 use Rattle.std.specs.Prelude.{◌≡◌, ℕ, List, [], ◌∷◌, Option, Some, None, Result, Ok, Err, codes}
-use Rattle.til_resolve.specs.PlainProject.{PlainProject, PlainStreamlet}
+use Rattle.til_resolve.specs.PlainProject.{PlainProject}
 use Rattle.link_check.specs.Checked.{linked}
 use Rattle.link_check.specs.Text.{nets_text}
 use Rattle.link_check.specs.declared.difference.Why.{Why}
@@ -40,11 +40,11 @@ abbrev pub TellsRefusal : Option Refusal → Answer → Type 0
 TellsRefusal (Some refusal) a = a ≡ answers.Refused (refusal_line refusal)
 TellsRefusal None a = ⊥
 
--- the text of the nets, or the refusal of the error in their place
-abbrev pub TellsChecked : List ℕ → List PlainStreamlet → Result Nets LinkFault → Answer → Type 0
-TellsChecked word streamlets (Ok nets) a = a ≡ output_answer (nets_text streamlets nets)
-TellsChecked word streamlets (Err fault) a = TellsRefusal (refusal_of_linking word fault) a
+-- a text of the nets, or the refusal of the error in their place
+abbrev pub TellsChecked : List ℕ → (Nets → List ℕ) → Result Nets LinkFault → Answer → Type 0
+TellsChecked word write (Ok nets) a = a ≡ output_answer (write nets)
+TellsChecked word write (Err fault) a = TellsRefusal (refusal_of_linking word fault) a
 
 -- the answer to the links of a project: its nets, or its first error
 abbrev pub TellsLinked : List ℕ → PlainProject → Answer → Type 0
-TellsLinked word project a = TellsChecked word project.streamlets (linked project.streamlets) a
+TellsLinked word project a = TellsChecked word (nets_text project.streamlets) (linked project.streamlets) a

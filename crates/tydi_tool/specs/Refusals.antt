@@ -1,7 +1,7 @@
 -- Refusals, each a name and its details, and the errors of texts that they stand for (this project's own).
 use Rattle.std.specs.Prelude.{ℕ, List, [], ◌∷◌, ◌++◌, Option, Some, None, codes, decimal}
 use Rattle.std.specs.List.{flat_map}
-use Rattle.tydi_base.specs.Path.{path_text}
+use Rattle.tydi_base.specs.Path.{colon_text, path_text}
 use Rattle.tydi_base.specs.declared.place.Place.{Place}
 use Rattle.cycle_trace.specs.declared.fault.TraceFault.{TraceFault}
 use Rattle.cycle_trace.specs.declared.fault.TraceFault.TheVariants as faults
@@ -22,13 +22,15 @@ use Rattle.vhdl_meaning.specs.declared.run.RunFault.TheVariants as running
 use Rattle.tydi_tool.specs.declared.refusal.Detail.{Detail}
 use Rattle.tydi_tool.specs.declared.refusal.Detail.TheVariants as details
 
--- a detail, apart from where it lies in memory: a word, the path of a stream, a number, a place in a text, or a name
+-- a detail, apart from where it lies in memory: a word, the path of a stream, a number, a place in a text, a name, or a port of
+-- the streamlet of a path
 pub data Said : Type 0 where
   Word : List ℕ → Said
   Stream : List (List ℕ) → Said
   Number : ℕ → Said
   At : Place → Said
   Name : List ℕ → Said
+  Port : List (List ℕ) → List ℕ → Said
 
 abbrev pub said_by : Detail → Said
 said_by (details.Word word) = Word word.now
@@ -36,6 +38,7 @@ said_by (details.Stream path) = Stream path.now
 said_by (details.Number number) = Number number
 said_by (details.At place) = At place
 said_by (details.Name name) = Name name.now
+said_by (details.Port streamlet port) = Port streamlet.now port.now
 
 -- a fault's name, and what its line has after it
 pub record Refusal : Type 0 where
@@ -48,6 +51,7 @@ said_text (Stream path) = path_text path
 said_text (Number number) = decimal number
 said_text (At place) = decimal place.line ++ codes ":" ++ decimal place.column
 said_text (Name name) = name
+said_text (Port streamlet port) = colon_text streamlet ++ codes "." ++ port
 
 -- a detail stands after one space
 abbrev pub detail_text : Said → List ℕ

@@ -7,8 +7,10 @@ use Rattle.tydi_tool.specs.declared.answer.Answer.TheVariants as answers
 use Rattle.tydi_tool.specs.declared.answer.Reply.{Reply}
 use Rattle.tydi_tool.specs.declared.status.Status.{Status}
 use Rattle.tydi_tool.specs.declared.status.Status.TheVariants as statuses
+use Rattle.tydi_tool.specs.DecodeLaw.{IsReadBack, WritesDecoded, decode_words}
 use Rattle.tydi_tool.specs.DriveLaw.{WritesDriven, drive_words}
-use Rattle.tydi_tool.specs.Words.{Request, Check, Drive, Link, Read, Sim, Split, FileWord, file_words}
+use Rattle.tydi_tool.specs.Words.{Request, Check, Decode, Drive, Link, Read, Sim, Split, FileWord, file_words, Carry, Vhdl}
+use Rattle.tydi_tool.specs.CarryLaw.{WritesArrived, carry_words}
 use Rattle.tydi_tool.specs.Outcome.{read_fault_line, out_of_answer, err_of_answer, status_of_answer, usage_line, memory_line, write_fault_line}
 use Rattle.tydi_tool.specs.Delivery.{Adds, AddsFront, AddsPart, TakesLine, Delivers}
 use Rattle.tydi_tool.specs.Ask.{Decides}
@@ -171,7 +173,28 @@ WritesTrace known None out_old out_new = Unit {0}
 WritesTrace known (Some (Check trace)) out_old out_new = Unit {0}
 WritesTrace known (Some (Read project)) out_old out_new = Unit {0}
 WritesTrace known (Some (Split project port)) out_old out_new = Unit {0}
+WritesTrace known (Some (Decode project port trace)) out_old out_new = Unit {0}
 WritesTrace known (Some (Sim bench run)) out_old out_new = Unit {0}
 WritesTrace known (Some (Link project)) out_old out_new = Unit {0}
+WritesTrace known (Some (Carry project top from to trace)) out_old out_new = Unit {0}
+WritesTrace known (Some (Vhdl project)) out_old out_new = Unit {0}
 WritesTrace known (Some (Drive project port value plan)) out_old out_new =
     (text : List ℕ) × (WritesDriven known (drive_words project port value plan) text × Adds out_old out_new text)
+
+-- where the command drives a port, wherever a file holds what out was given, `decode` gives exactly the value that was driven
+abbrev pub WritesReadBack : Files → Option Request → (out_old out_new : Option (List ℕ)) → Type 0
+WritesReadBack known (Some (Drive project port value plan)) out_old out_new =
+    (text : List ℕ) × (IsReadBack known (drive_words project port value plan) text × Adds out_old out_new text)
+WritesReadBack known request out_old out_new = Unit {0}
+
+-- where the command decodes a port, out has exactly the text of the one value more that the trace carries, which is legal and ends whole on each stream
+abbrev pub WritesValue : Files → Option Request → (out_old out_new : Option (List ℕ)) → Type 0
+WritesValue known (Some (Decode project port trace)) out_old out_new =
+    (text : List ℕ) × (WritesDecoded known (decode_words project port trace) text × Adds out_old out_new text)
+WritesValue known request out_old out_new = Unit {0}
+
+-- where the command carries a trace, out has exactly the text of a trace more that arrives whole at the other end of a chain of nets
+abbrev pub WritesCarried : Files → Option Request → (out_old out_new : Option (List ℕ)) → Type 0
+WritesCarried known (Some (Carry project top from to trace)) out_old out_new =
+    (text : List ℕ) × (WritesArrived known (carry_words project top from to trace) text × Adds out_old out_new text)
+WritesCarried known request out_old out_new = Unit {0}

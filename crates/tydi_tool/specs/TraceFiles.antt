@@ -4,7 +4,7 @@ use Rattle.cycle_trace.specs.ReaderView.{StandsFor}
 use Rattle.cycle_trace.specs.SurveyorView.{SurveyorStands}
 use Rattle.cycle_trace.specs.Trace.{TraceText}
 use Rattle.cycle_trace.specs.declared.fault.TraceFault.{TraceFault}
-use Rattle.cycle_trace.specs.declared.surveyor.Surveyor.{Surveyor}
+use Rattle.cycle_trace.specs.declared.surveying.surveyor.Surveyor.{Surveyor}
 use Rattle.tydi_tool.specs.declared.traces.Survey.{Survey}
 use Rattle.tydi_tool.specs.declared.traces.TraceFile.{TraceFile}
 use Rattle.tydi_tool.specs.Traces.{ReadsTrace}

@@ -11,16 +11,22 @@ pub data Request : Type 0 where
   Read : List ℕ → Request
   Split : List ℕ → List ℕ → Request
   Drive : List ℕ → List ℕ → List ℕ → List ℕ → Request
+  Decode : List ℕ → List ℕ → List ℕ → Request
   Sim : List ℕ → List ℕ → Request
   Link : List ℕ → Request
+  Carry : List ℕ → List ℕ → List ℕ → List ℕ → List ℕ → Request
+  Vhdl : List ℕ → Request
 
 abbrev pub request_from : Command → Request
 request_from (commands.Check trace) = Check trace.now
 request_from (commands.Read project) = Read project.now
 request_from (commands.Split project port) = Split project.now port.now
 request_from (commands.Drive project port value plan) = Drive project.now port.now value.now plan.now
+request_from (commands.Decode project port trace) = Decode project.now port.now trace.now
 request_from (commands.Sim bench run) = Sim bench.now run.now
 request_from (commands.Link project) = Link project.now
+request_from (commands.Carry project top from to trace) = Carry project.now top.now from.now to.now trace.now
+request_from (commands.Vhdl project) = Vhdl project.now
 
 -- a word that is not empty and does not begin with `-`
 abbrev pub is_word : List ℕ → Bool
@@ -48,6 +54,11 @@ drive_request (project ∷ port ∷ value ∷ plan ∷ []) =
     if (is_word project && is_word port) && (is_word value && is_word plan) then Some (Drive project port value plan) else None
 drive_request words = None
 
+-- `decode PROJECT PORT TRACE`
+abbrev pub decode_request : List (List ℕ) → Option Request
+decode_request (project ∷ port ∷ trace ∷ []) = if (is_word project && is_word port) && is_word trace then Some (Decode project port trace) else None
+decode_request words = None
+
 -- `sim BENCH RUN`
 abbrev pub sim_request : List (List ℕ) → Option Request
 sim_request (bench ∷ run ∷ []) = if is_word bench && is_word run then Some (Sim bench run) else None
@@ -57,6 +68,17 @@ sim_request words = None
 abbrev pub link_request : List (List ℕ) → Option Request
 link_request (project ∷ []) = if is_word project then Some (Link project) else None
 link_request words = None
+
+-- `carry PROJECT TOP FROM TO TRACE`
+abbrev pub carry_request : List (List ℕ) → Option Request
+carry_request (project ∷ top ∷ from ∷ to ∷ trace ∷ []) =
+    if is_word project && ((is_word top && is_word from) && (is_word to && is_word trace)) then Some (Carry project top from to trace) else None
+carry_request words = None
+
+-- `vhdl PROJECT`
+abbrev pub vhdl_request : List (List ℕ) → Option Request
+vhdl_request (project ∷ []) = if is_word project then Some (Vhdl project) else None
+vhdl_request words = None
 
 -- the command that the words spell: the command's own word, and then exactly its words
 abbrev pub request_of : List (List ℕ) → Option Request
@@ -68,7 +90,10 @@ request_of (command ∷ words) =
     else (if bytes_eq command (codes "drive") then drive_request words
     else (if bytes_eq command (codes "sim") then sim_request words
     else (if bytes_eq command (codes "link") then link_request words
-    else None)))))
+    else (if bytes_eq command (codes "decode") then decode_request words
+    else (if bytes_eq command (codes "carry") then carry_request words
+    else (if bytes_eq command (codes "vhdl") then vhdl_request words
+    else None))))))))
 
 -- a file that a command names, and the most bytes that it may have
 pub record FileWord : Type 0 where
@@ -107,8 +132,11 @@ file_words (Check trace) = trace_file trace ∷ []
 file_words (Read project) = project_file project ∷ []
 file_words (Split project port) = project_file project ∷ []
 file_words (Drive project port value plan) = project_file project ∷ text_file value ∷ text_file plan ∷ []
+file_words (Decode project port trace) = project_file project ∷ trace_file trace ∷ []
 file_words (Sim bench run) = bench_file bench ∷ text_file run ∷ []
 file_words (Link project) = project_file project ∷ []
+file_words (Carry project top from to trace) = project_file project ∷ trace_file trace ∷ []
+file_words (Vhdl project) = project_file project ∷ []
 
 -- the store may start each file of the command
 abbrev pub Allows : (List ℕ → Bool) → Option Request → Type 0

@@ -19,8 +19,11 @@ ghost use Rattle.tydi_tool.specs.Words.{request_from, file_words, project_file};
 
 use crate::answer::Reply;
 use crate::asking::{ask, ask_text};
+use crate::carry::carry;
+use crate::decode::decode;
+use crate::designs::DesignText;
 use crate::drive::drive;
-use crate::ending::{OUTPUT_LIMIT, answered, answered_front};
+use crate::ending::{OUTPUT_LIMIT, answered, answered_front, too_long};
 use crate::link::link;
 use crate::ports::split_of_port;
 use crate::projects::ProjectText;
@@ -28,8 +31,9 @@ use crate::reports::report;
 use crate::sim::sim;
 use crate::traces::TraceFile;
 use crate::trees::TreeText;
+use crate::vhdl::vhdl;
 use crate::words::Command;
-use split_text::split_text;
+use split_text::{split_fits, split_text};
 use std::alloc::Global;
 use til_parser::{Ast, print};
 use til_resolve::Project;
@@ -38,10 +42,10 @@ use tydi_io::Store;
 use type_split::Split;
 
 /// The most bytes of a trace: 64 MiB.
-const TRACE_LIMIT: usize = 67_108_864;
+pub(crate) const TRACE_LIMIT: usize = 67_108_864;
 
 /// The most bytes of a project: 4 MiB.
-const PROJECT_LIMIT: usize = 4_194_304;
+pub(crate) const PROJECT_LIMIT: usize = 4_194_304;
 
 /// The reply of the tool to this command.
 pub(crate) fn reply_to<S: Store>(alloc: Global, command: Command<'_>, store: &mut S) -> Reply
@@ -59,8 +63,29 @@ pub(crate) fn reply_to<S: Store>(alloc: Global, command: Command<'_>, store: &mu
             value,
             plan,
         } => drive(alloc, project, port, value, plan, store),
+        Command::Decode {
+            project,
+            port,
+            trace,
+        } => decode(alloc, project, port, trace, store),
         Command::Sim { bench, run } => sim(alloc, bench, run, store),
         Command::Link { project } => link(alloc, project, store),
+        Command::Carry {
+            project,
+            top,
+            from,
+            to,
+            trace,
+        } => {
+            let words = DesignText {
+                project,
+                top,
+                from,
+                to,
+            };
+            carry(alloc, words, trace, store)
+        }
+        Command::Vhdl { project } => vhdl(alloc, project, store),
     }
 }
 
@@ -70,10 +95,7 @@ fn check<S: Store>(alloc: Global, trace: &Text, store: &mut S) -> Reply
     ensures decided { Decides (S.files store.old) (S.started store.old) (S.started store.new) (Rose (S.faults store.old) (S.faults store.new))
         (check_ask trace.now) result }
 {
-    match TraceFile::new(alloc, trace) {
-        Ok(reader) => check_with(alloc, trace, reader, store),
-        Err(Memory) => Reply::Memory,
-    }
+    check_with(alloc, trace, TraceFile::new(alloc, trace), store)
 }
 
 /// `check TRACE`, with a new reader of the trace.
@@ -151,8 +173,20 @@ fn split_in(alloc: Global, project: &Project, port: &Text) -> Reply
     }
 }
 
-/// The text of the physical streams of a split.
+/// The text of the physical streams of a split, which is made only where it is not too long.
 fn streams_text(alloc: Global, split: &Split<'_>) -> Reply
+    requires { IsPortSplit (plain_split split.now) }
+    ensures { Judges (λ a. a ≡ output_answer (split_text (plain_split split.now))) result }
+{
+    match split_fits(alloc, split, OUTPUT_LIMIT) {
+        Ok(true) => made_text(alloc, split),
+        Ok(false) => too_long(alloc),
+        Err(Memory) => Reply::Memory,
+    }
+}
+
+/// The text of the physical streams of a split.
+fn made_text(alloc: Global, split: &Split<'_>) -> Reply
     requires { IsPortSplit (plain_split split.now) }
     ensures { Judges (λ a. a ≡ output_answer (split_text (plain_split split.now))) result }
 {

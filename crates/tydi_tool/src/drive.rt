@@ -98,7 +98,7 @@ fn drive_carried<S: Store>(
 }
 
 /// Whether all nodes of a split are carried. The error is the reply where one is not.
-fn check_carried(alloc: Global, split: &Split<'_>) -> Result<(), Reply>
+pub(crate) fn check_carried(alloc: Global, split: &Split<'_>) -> Result<(), Reply>
     ensures { Gives (λ done. done) (carried (plain_split split.now)) result }
 {
     match uncarried(split) {

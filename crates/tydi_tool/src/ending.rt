@@ -1,6 +1,6 @@
 //! How a command ends: with a verdict, or with a text.
 
-ghost use Rattle.std.specs.Prelude.{◌≡◌, ◌⊎◌, ℕ, List, Ok, Err, MatchResult};
+ghost use Rattle.std.specs.Prelude.{◌≡◌, ◌<◌, ◌⊎◌, ℕ, List, length, Ok, Err, MatchResult};
 ghost use Rattle.split_text.specs.Text.{IsUpTo};
 ghost use Rattle.tydi_tool.specs.Outcome.{output_answer, output_limit};
 ghost use Rattle.tydi_tool.specs.declared.answer.Answer.TheVariants as answers;
@@ -42,6 +42,13 @@ pub(crate) fn answered_front(alloc: Global, front: List<u8>) -> Reply
     output(alloc, Output::whole(front))
 }
 
+/// The reply for a text that is too long, or want of memory.
+pub(crate) fn too_long(alloc: Global) -> Reply
+    ensures { (text : List ℕ) → output_limit < length text → (result ≡ replies.Says (output_answer text)) ⊎ (result ≡ replies.Memory) }
+{
+    refused(alloc, "OutputTooLong", &[])
+}
+
 /// A text as the answer, where it is not too long.
 pub(crate) fn output(alloc: Global, text: Output) -> Reply
     ensures { (result ≡ replies.Says (output_answer text)) ⊎ (result ≡ replies.Memory) }
@@ -49,5 +56,5 @@ pub(crate) fn output(alloc: Global, text: Output) -> Reply
     if text.len() <= OUTPUT_LIMIT {
         return Reply::Says(Answer::Done(text));
     }
-    refused(alloc, "OutputTooLong", &[])
+    too_long(alloc)
 }

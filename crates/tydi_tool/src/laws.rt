@@ -1,16 +1,20 @@
 ghost use Rattle.tydi_tool.specs.Causes.{
+  ClashCause,
   CountNotMultipleCause,
+  DisagreeCause,
   EachIsOfARow,
   ExactlyWhere,
   LexerCause,
   LinkFaultCause,
-  NameClashCause,
   NoCarrierCause,
   NoFileCause,
+  NoPathCause,
   NoPortCause,
+  NoStreamletCause,
   NotFinishedCause,
   NotUtf8Cause,
   OffenceCause,
+  OtherHeaderCause,
   OutputTooLongCause,
   ParserCause,
   ResolverCause,
@@ -20,10 +24,16 @@ ghost use Rattle.tydi_tool.specs.Causes.{
   UnfinishedCause,
 };
 ghost use Rattle.tydi_tool.specs.Causes as rows;
+ghost use Rattle.tydi_tool.specs.DecodeLaw.{CarriedValuesAreWritten, DrivenValuesAreReadBack, LevelsKeepValues, WrittenValuesAreCarried};
+ghost use Rattle.tydi_tool.specs.CarryLaw.{LevelsRiseOnTheWay, WrittenTracesArrive};
 ghost use Rattle.tydi_tool.specs.DriveLaw.{AcceptedPortsAreDriven, WrittenTracesAreDriven};
 ghost use Rattle.tydi_tool.specs.Laws.{OneAnswer, SomeAnswer};
 
-use link_check::projects_have_one_answer;
+use carried_values::traces_arrive_whole;
+use cycle_trace::traces_are_read_as_spelled;
+use link_check::{compatible_ports_carry, projects_have_one_answer};
+use port_drive::driven_texts_are_traces;
+use trace_decode::texts_have_one_outcome;
 
 /// The laws of answers: to given words and files there is an answer, and one.
 pub fn answers_are_one()
@@ -31,6 +41,8 @@ pub fn answers_are_one()
     ensures some { SomeAnswer }
 {
     projects_have_one_answer();
+    compatible_ports_carry();
+    texts_have_one_outcome();
 }
 
 /// The table of causes: each row's answer comes exactly where its cause stands in the words and the files, and each answer is of a
@@ -43,15 +55,19 @@ pub fn causes_are_told()
     ensures parser { ExactlyWhere rows.ParserFault ParserCause }
     ensures resolver { ExactlyWhere rows.ResolverFault ResolverCause }
     ensures no_port { ExactlyWhere rows.NoPort NoPortCause }
-    ensures name_clash { ExactlyWhere rows.NameClash NameClashCause }
+    ensures no_streamlet { ExactlyWhere rows.NoStreamlet NoStreamletCause }
+    ensures name_clash { ExactlyWhere rows.NameClash ClashCause }
     ensures no_carrier { ExactlyWhere rows.NoCarrier NoCarrierCause }
     ensures file_text { ExactlyWhere rows.TextFault TextFaultCause }
+    ensures other_header { ExactlyWhere rows.OtherHeader OtherHeaderCause }
     ensures count_not_multiple { ExactlyWhere rows.CountNotMultiple CountNotMultipleCause }
     ensures not_finished { ExactlyWhere rows.NotFinished NotFinishedCause }
     ensures link_fault { ExactlyWhere rows.NotLinked LinkFaultCause }
+    ensures no_path { ExactlyWhere rows.NoPath NoPathCause }
     ensures output_too_long { ExactlyWhere rows.OutputTooLong OutputTooLongCause }
     ensures offence { ExactlyWhere rows.AnOffence OffenceCause }
     ensures unfinished { ExactlyWhere rows.AnUnfinished UnfinishedCause }
+    ensures disagreement { ExactlyWhere rows.ADisagreement DisagreeCause }
     ensures text { ExactlyWhere rows.AText TextCause }
     ensures each { EachIsOfARow }
 {}
@@ -63,3 +79,26 @@ pub fn drives_are_legal()
     ensures accepted { AcceptedPortsAreDriven }
     ensures written { WrittenTracesAreDriven }
 {}
+
+/// The laws of `decode`, over the words and the files alone. Each text that it writes is that of the one value that the trace carries, which
+/// breaks no rule and ends whole on each stream; and where a trace carries a value so, the answer is the text of this value. Of a text that
+/// `drive` wrote it gives exactly the value that was driven. A trace carries the same value under all greater levels.
+pub fn values_are_read_back()
+    ensures written { WrittenValuesAreCarried }
+    ensures carried { CarriedValuesAreWritten }
+    ensures driven { DrivenValuesAreReadBack }
+    ensures levels { LevelsKeepValues }
+{}
+
+/// The laws of `carry`. Each text that it writes is that of the trace that arrives at the leaf sink to which the nets lead from the leaf
+/// source, and this trace arrives whole: the same cycles with valid and ready, the same items done in each, legal where it was legal, and
+/// carrying the same values by the types of both ends. No level falls on the way, so no trace is refused for one.
+pub fn carried_traces_arrive()
+    ensures written { WrittenTracesArrive }
+    ensures levels { LevelsRiseOnTheWay }
+{
+    traces_arrive_whole();
+    traces_are_read_as_spelled();
+    driven_texts_are_traces();
+    compatible_ports_carry();
+}

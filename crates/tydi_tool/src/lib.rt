@@ -4,10 +4,16 @@
 #![tactic(auto)]
 
 mod answer;
+mod arrivals;
 mod asking;
 mod benches;
+mod carry;
 mod commands;
+mod decode;
+mod decode_file;
+mod decoding;
 mod delivery;
+mod designs;
 mod drive;
 mod driving;
 mod ending;
@@ -29,10 +35,13 @@ mod status;
 mod texts;
 mod traces;
 mod trees;
+mod vhdl;
 mod words;
 
 pub use answer::{Answer, Reply};
-pub use laws::{answers_are_one, causes_are_told, drives_are_legal};
+pub use laws::{
+    answers_are_one, carried_traces_arrive, causes_are_told, drives_are_legal, values_are_read_back,
+};
 pub use output::Output;
 pub use running::run;
 pub use status::Status;

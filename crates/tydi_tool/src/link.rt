@@ -57,7 +57,7 @@ fn written(alloc: Global, project: &Project, nets: &Nets) -> Reply
 }
 
 /// The reply to a project whose links have this error.
-fn unlinked(alloc: Global, word: &Text, fault: LinkFault) -> Reply
+pub(crate) fn unlinked(alloc: Global, word: &Text, fault: LinkFault) -> Reply
     ensures { IsRefusedBy (refusal_of_linking word.now fault) result }
 {
     let file = Detail::Word(word);

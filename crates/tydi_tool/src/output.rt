@@ -1,6 +1,7 @@
 ghost use Rattle.std.specs.Prelude.{◌≡◌, ◌<◌, ◌-◌, ◌++◌, length, OnOk};
 ghost use Rattle.bench_run.specs.TextLeft as benches;
 ghost use Rattle.port_drive.specs.PortText.{text_left};
+ghost use Rattle.vhdl_writer.specs.Designs as designs;
 
 use crate::making::make_piece;
 use crate::source::Source;
@@ -11,6 +12,7 @@ use std::alloc::Global;
 use std::marker::Model;
 use trace_pieces::TracePieces;
 use tydi_base::{List, Memory};
+use vhdl_writer::DesignPieces;
 
 /// A text for out, which is made piece by piece as it is written. Contracts see what is left of it.
 #[derive(Drop)]
@@ -62,6 +64,17 @@ impl Output {
     {
         Output {
             source: Source::Cycles(pieces),
+            left,
+        }
+    }
+
+    /// The text of a design, which has so many bytes.
+    pub(crate) fn design(pieces: DesignPieces, left: u64) -> Output
+        requires { left ≡ length (designs.text_left pieces) }
+        ensures { result ≡ designs.text_left pieces }
+    {
+        Output {
+            source: Source::Design(pieces),
             left,
         }
     }

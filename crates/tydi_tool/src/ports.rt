@@ -64,7 +64,7 @@ fn no_port(alloc: Global, port: &Text) -> Reply
 }
 
 /// The split of a port's type, unless two of its physical streams clash.
-fn split_apart(alloc: Global, ltype: &StreamType) -> Result<Split<'_>, Reply>
+pub(crate) fn split_apart(alloc: Global, ltype: &StreamType) -> Result<Split<'_>, Reply>
     requires { IsPortType (plain_of_stream ltype.now) }
     ensures split { Gives plain_split (split_unless (plain_of_stream ltype.now) (clash_of (plain_of_stream ltype.now))) result }
     ensures whole { IfOk result (λ split. IsPortSplit (plain_split split)) }

@@ -2,13 +2,13 @@
 
 ghost use Rattle.std.specs.Prelude.{◌≡◌, ◌⊎◌, ◌++◌, map, IfOk, OnOk, OnErr};
 ghost use Rattle.tydi_base.specs.Writing.{StandsInFront};
-ghost use Rattle.tydi_tool.specs.Refusals.{said_by, said_text, detail_text, refusal_line, At};
+ghost use Rattle.tydi_tool.specs.Refusals.{said_by, said_text, detail_text, refusal_line, At, Port};
 ghost use Rattle.tydi_tool.specs.declared.answer.Answer.TheVariants as answers;
 ghost use Rattle.tydi_tool.specs.declared.answer.Reply.TheVariants as replies;
 
 use crate::answer::{Answer, Reply};
 use std::alloc::Global;
-use tydi_base::{Each, List, Memory, Path, Place, Text, Written, emit};
+use tydi_base::{Colons, Each, List, Memory, Name, Path, Place, Text, Written, emit};
 
 /// A detail of an error line, after the name of the error.
 #[derive(Clone, Copy)]
@@ -23,6 +23,8 @@ pub enum Detail<'a> {
     At(Place),
     /// A name that the tool knows.
     Name(&'a str),
+    /// A port of the streamlet of a path, as `a::b::s.p`.
+    Port(&'a Path, &'a Name),
 }
 
 /// It is written after a space.
@@ -37,6 +39,7 @@ impl Written for Detail<'_> {
             Detail::Number(number) => number.write_to(out),
             Detail::At(place) => write_place(*place, out),
             Detail::Name(name) => name.write_to(out),
+            Detail::Port(streamlet, port) => write_port(streamlet, port, out),
         }
     }
 }
@@ -63,6 +66,14 @@ pub(crate) fn refused(alloc: Global, name: &str, details: &[Detail<'_>]) -> Repl
         Ok(line) => Reply::Says(Answer::Refused(line)),
         Err(Memory) => Reply::Memory,
     }
+}
+
+/// A port of the streamlet of a path.
+fn write_port(streamlet: &Path, port: &Name, out: &mut List<u8>) -> Result<(), Memory>
+    ensures ok { OnOk result (out.new ≡ out.old ++ said_text (Port streamlet.now port.now)) }
+    ensures err { OnErr result (StandsInFront out.old out.new) }
+{
+    emit!(out; Colons(streamlet), ".", port)
 }
 
 /// The line and the column of a place.

@@ -62,7 +62,12 @@ fn push_counts(path: &Path, transfers: u64, packets: u64, text: &mut List<u8>) -
     emit!(text; "stream ", path, " transfers ", transfers, " packets ", packets, "\n")
 }
 
-fn offence(alloc: Global, cycle: u32, path: &Path, rule: Rule) -> Result<List<u8>, Memory>
+pub(crate) fn offence(
+    alloc: Global,
+    cycle: u32,
+    path: &Path,
+    rule: Rule,
+) -> Result<List<u8>, Memory>
     ensures { IfOk result (λ line. line ≡ offence_line cycle path.now rule) }
 {
     let mut line = List::new(alloc);
@@ -71,7 +76,7 @@ fn offence(alloc: Global, cycle: u32, path: &Path, rule: Rule) -> Result<List<u8
 }
 
 /// The line of a stream that ends so, not whole.
-fn unfinished(alloc: Global, path: &Path, end: End) -> Result<List<u8>, Memory>
+pub(crate) fn unfinished(alloc: Global, path: &Path, end: End) -> Result<List<u8>, Memory>
     requires { IsUnfinished end }
     ensures { IfOk result (λ line. ReportsEnd path.now end (answers.Verdict line)) }
 {

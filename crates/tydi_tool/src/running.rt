@@ -18,13 +18,17 @@ ghost use Rattle.tydi_tool.specs.Run.{
   IsRefusal,
   ErrFront,
   StartedAtEnd,
+  WritesReadBack,
+  WritesCarried,
   WritesTrace,
+  WritesValue,
 };
 ghost use Rattle.tydi_tool.specs.declared.answer.Answer.{Answer};
 ghost use Rattle.tydi_tool.specs.declared.status.Status.TheVariants as statuses;
 
 use crate::commands::reply_to;
 use crate::delivery::{deliver, deliver_line};
+use crate::laws::carried_traces_arrive;
 use crate::status::Status;
 use crate::words::words_of;
 use std::alloc::Global;
@@ -68,6 +72,13 @@ pub fn run<S: Store, O: Sink, E: Sink>(
         (O.taken out.old) (O.taken out.new) (E.taken err.old) (E.taken err.new)) }
     // Where a port is driven, out has exactly the text of a trace that breaks no rule, ends whole and carries the value.
     ensures driven { result ≡ statuses.Done → IfSome (S.files store.old) (λ known. WritesTrace known (request_of words.now) (O.taken out.old) (O.taken out.new)) }
+    // Wherever a file holds this text, beside the same project, `decode` gives exactly the value that was driven.
+    ensures read_back { result ≡ statuses.Done → IfSome (S.files store.old) (λ known. WritesReadBack known (request_of words.now) (O.taken out.old) (O.taken out.new)) }
+    // Where a port is decoded, out has exactly the text of the one value that the trace carries, which breaks no rule and ends whole.
+    ensures decoded { result ≡ statuses.Done → IfSome (S.files store.old) (λ known. WritesValue known (request_of words.now) (O.taken out.old) (O.taken out.new)) }
+    // Where a trace is carried, out has exactly the text of the trace that arrives, which arrives whole.
+    ensures carried { result ≡ statuses.Done → IfSome (S.files store.old) (λ known. WritesCarried known (request_of words.now) (O.taken out.old)
+        (O.taken out.new)) }
     // Where no count of faults rose, the run ends with that answer, as Usage, or for want of memory.
     ensures complete { (Rose (S.faults store.old) (S.faults store.new) → ⊥) →
         (Rose (O.faults out.old) (O.faults out.new) → ⊥) → (Rose (E.faults err.old) (E.faults err.new) → ⊥) →
@@ -87,6 +98,7 @@ pub fn run<S: Store, O: Sink, E: Sink>(
     // The file that is started at the end, and how far it was given.
     ensures started { IfSome (S.files store.old) (λ known. StartedAtEnd known (request_of words.now) result (S.started store.old) (S.started store.new)) }
 {
+    carried_traces_arrive();
     run_words(alloc, words, store, out, err)
 }
 

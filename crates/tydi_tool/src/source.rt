@@ -3,6 +3,7 @@ use handshake::PortRun;
 use scheduler::Planner;
 use trace_pieces::TracePieces;
 use tydi_base::List;
+use vhdl_writer::DesignPieces;
 
 /// Where the pieces of a text come from.
 #[derive(Drop)]
@@ -13,4 +14,6 @@ pub(crate) enum Source {
     Rows(TracePieces<PortRun<Planner>>),
     /// The trace of a bench, whose rows are made one after another.
     Cycles(TracePieces<BenchRows>),
+    /// Entities and architectures, whose text is made one after another.
+    Design(DesignPieces),
 }

@@ -1,6 +1,6 @@
 //! How the text of a trace is read: as what a survey of it finds.
 
-ghost use Rattle.std.specs.Prelude.{◌≡◌, ◌++◌, ℕ, List, [], Ok, Err, IfOk, IsOk, Result};
+ghost use Rattle.std.specs.Prelude.{◌≡◌, ◌++◌, ℕ, List, [], Ok, Err, IsOk, Result};
 ghost use Rattle.cycle_trace.specs.ReaderView.{Finishes, StandsFor};
 ghost use Rattle.cycle_trace.specs.SurveyorView.{AnswersTrace, SurveyorStands};
 ghost use Rattle.cycle_trace.specs.Trace.{TraceText};
@@ -34,16 +34,13 @@ pub(crate) struct TraceFile<'a> {
 }
 
 impl<'a> TraceFile<'a> {
-    pub(crate) fn new(alloc: Global, word: &'a Text) -> Result<TraceFile<'a>, Memory>
-        ensures { IfOk result (IsNew word.now) }
+    pub(crate) fn new(alloc: Global, word: &'a Text) -> TraceFile<'a>
+        ensures { IsNew word.now result }
     {
-        match TraceReader::new(alloc, Surveyor::new()) {
-            Ok(reader) => Ok(TraceFile {
-                word,
-                reader,
-                fed: 0,
-            }),
-            Err(Memory) => Err(Memory),
+        TraceFile {
+            word,
+            reader: TraceReader::new(alloc, Surveyor::new()),
+            fed: 0,
         }
     }
 }
@@ -96,7 +93,7 @@ fn found(surveyed: Surveyed) -> Result<Survey, Reply>
 }
 
 /// The reply to a text with this error.
-fn faulted(alloc: Global, word: &Text, fault: TraceFault) -> Reply
+pub(crate) fn faulted(alloc: Global, word: &Text, fault: TraceFault) -> Reply
     ensures { IsRefusedBy (refusal_of_trace word.now fault) result }
 {
     let file = Detail::Word(word);

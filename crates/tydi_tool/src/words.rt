@@ -1,5 +1,18 @@
 ghost use Rattle.std.specs.Prelude.{◌≡◌, ◌&&◌, option_map};
-ghost use Rattle.tydi_tool.specs.Words.{request_of, request_from, is_word, check_request, read_request, split_request, drive_request, sim_request, link_request};
+ghost use Rattle.tydi_tool.specs.Words.{
+  request_of,
+  request_from,
+  is_word,
+  check_request,
+  read_request,
+  split_request,
+  drive_request,
+  sim_request,
+  link_request,
+  carry_request,
+  decode_request,
+  vhdl_request,
+};
 
 use tydi_base::Text;
 
@@ -33,6 +46,15 @@ pub enum Command<'a> {
         /// The file of the plan.
         plan: &'a Text,
     },
+    /// Write the value that a trace of a port carries.
+    Decode {
+        /// The file of the project.
+        project: &'a Text,
+        /// The port, as `a::b::s.p`.
+        port: &'a Text,
+        /// The file of the trace.
+        trace: &'a Text,
+    },
     /// Write the trace of a testbench by its meaning.
     Sim {
         /// The file of the testbench.
@@ -42,6 +64,24 @@ pub enum Command<'a> {
     },
     /// Check the links of a project, and write its nets.
     Link {
+        /// The file of the project.
+        project: &'a Text,
+    },
+    /// Write the trace that arrives at the other end of a chain of nets.
+    Carry {
+        /// The file of the project.
+        project: &'a Text,
+        /// The design, as `a::t`.
+        top: &'a Text,
+        /// The leaf source, as `i.j.p`.
+        from: &'a Text,
+        /// The leaf sink, as `i.j.p`.
+        to: &'a Text,
+        /// The file of the trace.
+        trace: &'a Text,
+    },
+    /// Write the entities and architectures of a project.
+    Vhdl {
         /// The file of the project.
         project: &'a Text,
     },
@@ -64,6 +104,12 @@ pub fn words_of<'a>(words: &'a [Text]) -> Option<Command<'a>>
         sim_of(rest)
     } else if command.as_str() == "link" {
         link_of(rest)
+    } else if command.as_str() == "decode" {
+        decode_of(rest)
+    } else if command.as_str() == "carry" {
+        carry_of(rest)
+    } else if command.as_str() == "vhdl" {
+        vhdl_of(rest)
     } else {
         None
     }
@@ -114,6 +160,21 @@ fn drive_of<'a>(words: &'a [Text]) -> Option<Command<'a>>
     }
 }
 
+fn decode_of<'a>(words: &'a [Text]) -> Option<Command<'a>>
+    ensures { option_map request_from result ≡ decode_request words.now }
+{
+    match words {
+        [project, port, trace] if are_words(project, port) && is_word(trace) => {
+            Some(Command::Decode {
+                project,
+                port,
+                trace,
+            })
+        }
+        _ => None,
+    }
+}
+
 fn sim_of<'a>(words: &'a [Text]) -> Option<Command<'a>>
     ensures { option_map request_from result ≡ sim_request words.now }
 {
@@ -128,6 +189,33 @@ fn link_of<'a>(words: &'a [Text]) -> Option<Command<'a>>
 {
     match words {
         [project] if is_word(project) => Some(Command::Link { project }),
+        _ => None,
+    }
+}
+
+fn carry_of<'a>(words: &'a [Text]) -> Option<Command<'a>>
+    ensures { option_map request_from result ≡ carry_request words.now }
+{
+    match words {
+        [project, top, from, to, trace]
+            if is_word(project) && are_words(top, from) && are_words(to, trace) => {
+            Some(Command::Carry {
+                project,
+                top,
+                from,
+                to,
+                trace,
+            })
+        }
+        _ => None,
+    }
+}
+
+fn vhdl_of<'a>(words: &'a [Text]) -> Option<Command<'a>>
+    ensures { option_map request_from result ≡ vhdl_request words.now }
+{
+    match words {
+        [project] if is_word(project) => Some(Command::Vhdl { project }),
         _ => None,
     }
 }

@@ -38,3 +38,27 @@ returns-in-Link g c = record {
       (Rose (g.S.Store.faults c.args.store.now) (g.S.Store.faults c.link.new.store)) (ask_of (request_from command)) c.link.result)
       (sym c.in-Link.is) c.link.ensures.decided;
 }
+
+pub returns-in-Decode : goal.returns-in-Decode
+returns-in-Decode g c = record {
+  decided = subst (λ (command : Command). Decides
+      (g.S.Store.files c.args.store.now) (g.S.Store.started c.args.store.now) (g.S.Store.started c.decode.new.store)
+      (Rose (g.S.Store.faults c.args.store.now) (g.S.Store.faults c.decode.new.store)) (ask_of (request_from command)) c.decode.result)
+      (sym c.in-Decode.is) c.decode.ensures.decided;
+}
+
+pub returns-in-Carry : goal.returns-in-Carry
+returns-in-Carry g c = record {
+  decided = subst (λ (command : Command). Decides
+      (g.S.Store.files c.args.store.now) (g.S.Store.started c.args.store.now) (g.S.Store.started c.carry.new.store)
+      (Rose (g.S.Store.faults c.args.store.now) (g.S.Store.faults c.carry.new.store)) (ask_of (request_from command)) c.carry.result)
+      (sym c.in-Carry.is) c.carry.ensures.decided;
+}
+
+pub returns-in-Vhdl : goal.returns-in-Vhdl
+returns-in-Vhdl g c = record {
+  decided = subst (λ (command : Command). Decides
+      (g.S.Store.files c.args.store.now) (g.S.Store.started c.args.store.now) (g.S.Store.started c.vhdl.new.store)
+      (Rose (g.S.Store.faults c.args.store.now) (g.S.Store.faults c.vhdl.new.store)) (ask_of (request_from command)) c.vhdl.result)
+      (sym c.in-Vhdl.is) c.vhdl.ensures.decided;
+}

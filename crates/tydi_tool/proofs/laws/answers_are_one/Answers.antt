@@ -5,4 +5,5 @@ pub returns-clause-one : goal.returns-clause-one
 returns-clause-one c = λ request told a b p q. SaysBy-request told request a b p q
 
 pub returns-clause-some : goal.returns-clause-some
-returns-clause-some c = λ request told. SaysBy-request-some c.projects_have_one_answer.ensures.answer told request
+returns-clause-some c = λ request told.
+    SaysBy-request-some c.projects_have_one_answer.ensures.answer c.texts_have_one_outcome.ensures.some c.compatible_ports_carry.ensures.chains told request

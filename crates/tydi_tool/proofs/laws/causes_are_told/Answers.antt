@@ -32,6 +32,9 @@ returns-clause-no_carrier c = exactly rows.NoCarrier
 pub returns-clause-file_text : goal.returns-clause-file_text
 returns-clause-file_text c = exactly rows.TextFault
 
+pub returns-clause-other_header : goal.returns-clause-other_header
+returns-clause-other_header c = exactly rows.OtherHeader
+
 pub returns-clause-count_not_multiple : goal.returns-clause-count_not_multiple
 returns-clause-count_not_multiple c = exactly rows.CountNotMultiple
 
@@ -41,6 +44,12 @@ returns-clause-not_finished c = exactly rows.NotFinished
 pub returns-clause-link_fault : goal.returns-clause-link_fault
 returns-clause-link_fault c = exactly rows.NotLinked
 
+pub returns-clause-no_streamlet : goal.returns-clause-no_streamlet
+returns-clause-no_streamlet c = exactly rows.NoStreamlet
+
+pub returns-clause-no_path : goal.returns-clause-no_path
+returns-clause-no_path c = exactly rows.NoPath
+
 pub returns-clause-output_too_long : goal.returns-clause-output_too_long
 returns-clause-output_too_long c = exactly rows.OutputTooLong
 
@@ -49,6 +58,9 @@ returns-clause-offence c = exactly rows.AnOffence
 
 pub returns-clause-unfinished : goal.returns-clause-unfinished
 returns-clause-unfinished c = exactly rows.AnUnfinished
+
+pub returns-clause-disagreement : goal.returns-clause-disagreement
+returns-clause-disagreement c = exactly rows.ADisagreement
 
 pub returns-clause-text : goal.returns-clause-text
 returns-clause-text c = exactly rows.AText

@@ -1,4 +1,7 @@
-use Rattle.tydi_tool.proofs.RunLemmas.{is_done, IsAnswered-run, IsCaused-answered, IsComplete-run, ReportsRead-run, OutFront-run, OutPart-run, LeavesOut-run, Refusal-run, ErrFront-run, LeavesErr-run, StartedAtEnd-run, WritesTrace-answered, usage-run, read-run, write-run, write_line-run, memory-run}
+use Rattle.tydi_tool.proofs.RunLemmas.{is_done, IsAnswered-run, IsCaused-answered, IsComplete-run, ReportsRead-run, OutFront-run, OutPart-run}
+use Rattle.tydi_tool.proofs.RunLemmas.{LeavesOut-run, Refusal-run, ErrFront-run, LeavesErr-run, StartedAtEnd-run, WritesReadBack-answered}
+use Rattle.tydi_tool.proofs.RunLemmas.{WritesTrace-answered, WritesValue-answered, usage-run, read-run, write-run, write_line-run, memory-run}
+use Rattle.tydi_tool.proofs.RunLemmas.{WritesCarried-answered, usage-exactly}
 use Rattle.tydi_tool.proofs.running.run.Goals as goal
 
 pub returns-clause-read_fault_line : goal.returns-clause-read_fault_line
@@ -51,3 +54,17 @@ returns-clause-memory_line g c = memory-run _ _ _ _ _ _ _ _ _ _ _ _ c.run_words.
 
 pub returns-clause-driven : goal.returns-clause-driven
 returns-clause-driven g c = λ done. WritesTrace-answered _ _ _ _ _ _ _ (IsAnswered-run _ _ _ _ _ _ _ _ _ _ _ _ c.run_words.ensures (is_done _ done)) done
+
+pub returns-clause-read_back : goal.returns-clause-read_back
+returns-clause-read_back g c = λ done. WritesReadBack-answered _ _ _ _ _ _ _ (IsAnswered-run _ _ _ _ _ _ _ _ _ _ _ _ c.run_words.ensures (is_done _ done)) done
+
+pub returns-clause-decoded : goal.returns-clause-decoded
+returns-clause-decoded g c = λ done. WritesValue-answered _ _ _ _ _ _ _ (IsAnswered-run _ _ _ _ _ _ _ _ _ _ _ _ c.run_words.ensures (is_done _ done)) done
+
+pub returns-clause-carried : goal.returns-clause-carried
+returns-clause-carried g c = λ done.
+    WritesCarried-answered c.carried_traces_arrive.ensures.written _ _ _ _ _ _ _ (IsAnswered-run _ _ _ _ _ _ _ _ _ _ _ _ c.run_words.ensures (is_done _ done))
+    done
+
+pub returns-clause-usage : goal.returns-clause-usage
+returns-clause-usage g c = usage-exactly _ _ _ _ _ _ _ _ _ _ _ _ c.run_words.ensures
