@@ -27,7 +27,7 @@ $ check t t
 ! tydi: Usage
 = 2
 # a command that is not built yet
-$ decode p n::s.p t
+$ gen p n::s.p 1 2
 ! tydi: Usage
 = 2
 # no such file

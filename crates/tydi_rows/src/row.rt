@@ -5,12 +5,11 @@
 //! call gives or takes. `=` has the status, and ends the row; `again` is Done, where the text of out is then the file of the same
 //! words, which give it again.
 
-use crate::calls::{byte, cut, number, small};
 use crate::running::{Faults, Outcome, run_on, run_over};
 use std::alloc::Global;
 use std::mem;
 use std::process::Abort;
-use tydi_base::{List, Memory, Text};
+use tydi_base::{List, Memory, Text, read_decimal};
 
 pub(crate) const NO_FAULTS: Faults<'static> = Faults {
     store: &[],
@@ -80,13 +79,13 @@ impl Row {
     /// Takes what fails.
     fn take_fault(&mut self, text: &str) -> Result<(), Memory> {
         let (name, digits) = cut(text);
-        let number = small(digits);
+        let number = number(digits);
         if name == "store" {
-            self.failing_reads.push(u64::from(number))?;
+            self.failing_reads.push(number)?;
         } else if name == "out" {
-            self.failing_writes.push(u64::from(number))?;
+            self.failing_writes.push(number)?;
         } else {
-            self.most = number.saturating_sub(1);
+            self.most = (number.saturating_sub(1) % 65536) as u16;
         }
         Ok(())
     }
@@ -128,7 +127,8 @@ impl Row {
         self.end_file(rt.alloc(), "t")?;
         let files = mem::replace(&mut self.files, List::new(rt.alloc()));
         let outcome = run_over(rt.alloc(), self.words.as_slice(), files, &self.faults())?;
-        self.expect(rt, number, &outcome, byte(status));
+        let status = (self::number(status) % 256) as u8;
+        self.expect(rt, number, &outcome, status);
         Ok(())
     }
 
@@ -193,6 +193,16 @@ fn push_repeated(text: &str, bytes: &mut List<u8>) -> Result<(), Memory> {
         bytes.extend_from_slice(part.as_bytes())?;
     }
     Ok(())
+}
+
+/// The first word of a line, and what comes after the space.
+fn cut(line: &str) -> (&str, &str) {
+    line.split_once(' ').unwrap_or((line, ""))
+}
+
+/// The number that digits spell, or the greatest.
+fn number(digits: &str) -> u64 {
+    read_decimal(digits.as_bytes()).unwrap_or(u64::MAX)
 }
 
 /// The words of a line, with one space between each two. An empty line has none.

@@ -10,6 +10,7 @@ use std::alloc::Global;
 use std::process::Abort;
 use std::test::Fail;
 use tydi_base::{List, Memory};
+use tydi_tool::{answers_are_one, causes_are_told, drives_are_legal};
 
 const PACKET: &[u8] =
     b"tydi-trace 1\ncycles 2\nstream - lanes 1 dims 1 level 1 element 8 user 0 forward\n1 1 d=48 l=0 b=1\n1 1 d=69 l=1 b=1\n";
@@ -170,4 +171,12 @@ fn a_line_that_fails(rt: HostRuntime) -> Result<(), Fail> {
     let outcome = packet_outcome(rt.alloc(), &faults)?;
     expect(&rt, 0, &outcome, 4, b"", b"tydi: Re");
     Ok(())
+}
+
+/// Each law is a function that can be called.
+#[test]
+fn laws() {
+    answers_are_one();
+    causes_are_told();
+    drives_are_legal();
 }
