@@ -3,6 +3,13 @@ mod NameLemmas
 mod WireLemmas
 mod VariableLemmas
 mod WordLemmas
+mod KeptLemmas
+mod ProbeLemmas
+mod SampleLemmas
+mod TellLemmas
+mod FindLemmas
+mod SamplerLemmas
 mod DumpLemmas
 mod ParserLemmas
 mod ReaderLemmas
+pub mod LawLemmas

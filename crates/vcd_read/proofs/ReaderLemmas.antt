@@ -1,13 +1,16 @@
 -- A reader of dumps, byte by byte.
-use Rattle.std.proofs.Common.{◌≡◌, ◌∙◌, ℕ, ◌+◌, ◌≤◌, Bool, true, false, List, [], ◌∷◌, ◌++◌, length, Option, Some, None, Result, Ok, Err, if◌then◌else◌, append_assoc, refl, sym, ap, subst, arith}
+use Rattle.std.proofs.Common.{◌≡◌, ◌∙◌, ℕ, ◌+◌, ◌≤◌, Bool, true, false, List, [], ◌∷◌, ◌++◌, length, Option, Some, None, Result, Ok, Err, if◌then◌else◌}
+use Rattle.std.proofs.Common.{append_assoc, refl, sym, ap, subst, arith}
 use Rattle.std.proofs.lemmas.List.{append-nil, length-append}
 use Rattle.tydi_base.specs.Reading.{◌>>=◌}
 use Rattle.vcd_read.specs.Parser as parsers
 use Rattle.vcd_read.specs.Parser.{Takes}
 use Rattle.vcd_read.specs.Profile.{Awaited, Reached, Step, finish, finished, next, read_on}
 use Rattle.std.specs.Option.{MatchOption}
-use Rattle.vcd_read.specs.Checked.{checked, clock_found, fault_in, parts_found, times_found}
-use Rattle.vcd_read.specs.History.{Part, clock_in, time_back}
+use Rattle.vcd_read.specs.Kept.{kept_text}
+use Rattle.vcd_read.specs.Shown.{fault_in, parts_shown, shown, signals_shown, times_shown}
+use Rattle.vcd_read.specs.History.{Part, time_back}
+use Rattle.vcd_read.specs.Wanted.{Wanted}
 use Rattle.vcd_read.specs.Reader.{Fails, GoesOn, Reads, fault_of, reads}
 use Rattle.vcd_read.specs.Tokens.{DumpToken, is_blank, token_at, tokens_from}
 use Rattle.vcd_read.specs.declared.fault.VcdFault.{VcdFault}
@@ -25,7 +28,8 @@ pub bind-done : (step : Step) → (step >>= λ r. Ok (record { awaited = r.await
 bind-done (Ok r) = refl
 bind-done (Err e) = refl
 
-pub read_on-append : (awaited : Awaited) (parts : List Part) (xs ys : List DumpToken) → read_on awaited parts (xs ++ ys) ≡ (read_on awaited parts xs >>= λ r. read_on r.awaited r.parts ys)
+pub read_on-append : (awaited : Awaited) (parts : List Part) (xs ys : List DumpToken) → read_on awaited parts (xs ++ ys) ≡ (read_on awaited parts xs >>= λ r.
+    read_on r.awaited r.parts ys)
 read_on-append awaited parts [] ys = refl
 read_on-append awaited parts (token ∷ xs) ys =
     ap (λ (f : Reached → Step). next awaited parts token >>= f) (λ i r. read_on-append r.awaited r.parts xs ys i)
@@ -36,17 +40,21 @@ byte-front : (fed more : List ℕ) (byte : ℕ) → reads ((fed ++ byte ∷ []) 
 byte-front fed more byte = ap reads (append_assoc fed (byte ∷ []) more)
 
 -- the token goes on
-pub goes-on : (fed : List ℕ) (reached : Reached) (start : ℕ) (begun : List ℕ) (byte : ℕ) → is_blank byte ≡ false → GoesOn fed reached start begun → GoesOn (fed ++ byte ∷ []) reached start (begun ++ byte ∷ [])
+pub goes-on : (fed : List ℕ) (reached : Reached) (start : ℕ) (begun : List ℕ) (byte : ℕ) → is_blank byte ≡ false → GoesOn fed reached start begun
+    → GoesOn (fed ++ byte ∷ []) reached start (begun ++ byte ∷ [])
 goes-on fed reached start begun byte is goes more =
     byte-front fed more byte ∙ goes (byte ∷ more)
-    ∙ ap (λ test. read_on reached.awaited reached.parts (if test then token_at start begun ++ tokens_from (start + length begun + 1) [] more else tokens_from start (begun ++ byte ∷ []) more)) is
+    ∙ ap (λ test. read_on reached.awaited reached.parts (if test then token_at start begun ++ tokens_from (start + length begun + 1) [] more else tokens_from
+    start (begun ++ byte ∷ []) more)) is
 
 -- what a blank leads to
-after-blank : (fed : List ℕ) (reached : Reached) (start : ℕ) (begun : List ℕ) (byte : ℕ) → is_blank byte ≡ true → GoesOn fed reached start begun → (step : Step) → read_on reached.awaited reached.parts (token_at start begun) ≡ step
+after-blank : (fed : List ℕ) (reached : Reached) (start : ℕ) (begun : List ℕ) (byte : ℕ) → is_blank byte ≡ true → GoesOn fed reached start begun
+    → (step : Step) → read_on reached.awaited reached.parts (token_at start begun) ≡ step
     → (more : List ℕ) → reads ((fed ++ byte ∷ []) ++ more) ≡ (step >>= λ r. read_on r.awaited r.parts (tokens_from (start + length begun + 1) [] more))
 after-blank fed reached start begun byte is goes step ends more =
     byte-front fed more byte ∙ goes (byte ∷ more)
-    ∙ ap (λ test. read_on reached.awaited reached.parts (if test then token_at start begun ++ tokens_from (start + length begun + 1) [] more else tokens_from start (begun ++ byte ∷ []) more)) is
+    ∙ ap (λ test. read_on reached.awaited reached.parts (if test then token_at start begun ++ tokens_from (start + length begun + 1) [] more else tokens_from
+    start (begun ++ byte ∷ []) more)) is
     ∙ read_on-append reached.awaited reached.parts (token_at start begun) (tokens_from (start + length begun + 1) [] more)
     ∙ ap (λ (s : Step). s >>= λ r. read_on r.awaited r.parts (tokens_from (start + length begun + 1) [] more)) ends
 
@@ -55,9 +63,9 @@ pub fails-more : (fed : List ℕ) (byte : ℕ) (stop : Stop) → Fails fed stop 
 fails-more fed byte (stops.Syntax offset) fails = λ more. byte-front fed more byte ∙ fails (byte ∷ more)
 fails-more fed byte stops.Memory fails = fails
 
-module _ (scope : List (List ℕ)) (parser : Parser) (start : ℕ) (begun fed : List ℕ) (is : Reads scope parser start begun fed) (byte : ℕ) where
+module _ (wanted : Wanted) (parser : Parser) (start : ℕ) (begun fed : List ℕ) (is : Reads wanted parser start begun fed) (byte : ℕ) where
   -- the token that is begun goes on
-  pub reads-on : is_blank byte ≡ false → Reads scope parser start (begun ++ byte ∷ []) (fed ++ byte ∷ [])
+  pub reads-on : is_blank byte ≡ false → Reads wanted parser start (begun ++ byte ∷ []) (fed ++ byte ∷ [])
   reads-on word = record {
     reached = is.reached;
     stands = is.stands;
@@ -67,8 +75,9 @@ module _ (scope : List (List ℕ)) (parser : Parser) (start : ℕ) (begun fed : 
   }
 
   -- the token that is begun ends
-  pub reads-blank : is_blank byte ≡ true → (new : Parser) → Takes scope (Ok tt) new (read_on is.reached.awaited is.reached.parts (token_at start begun)) → new.dump.wires.block ≤ start + length begun
-      → Reads scope new (start + length begun + 1) [] (fed ++ byte ∷ [])
+  pub reads-blank : is_blank byte ≡ true → (new : Parser) → Takes wanted (Ok tt) new (read_on is.reached.awaited is.reached.parts (token_at start begun)) →
+      new.dump.wires.block ≤ start + length begun
+      → Reads wanted new (start + length begun + 1) [] (fed ++ byte ∷ [])
   reads-blank blank new takes past = record {
     reached = takes.0;
     stands = takes.1.1;
@@ -78,13 +87,15 @@ module _ (scope : List (List ℕ)) (parser : Parser) (start : ℕ) (begun fed : 
   }
 
   -- the token that is begun is against the profile
-  pub fails-blank : is_blank byte ≡ true → (stop : Stop) (new : Parser) → Takes scope (Err stop) new (read_on is.reached.awaited is.reached.parts (token_at start begun)) → Fails (fed ++ byte ∷ []) stop
+  pub fails-blank : is_blank byte ≡ true → (stop : Stop) (new : Parser) → Takes wanted (Err stop) new (read_on is.reached.awaited is.reached.parts (token_at
+      start begun)) → Fails (fed ++ byte ∷ []) stop
   fails-blank blank (stops.Syntax offset) new takes = after-blank fed is.reached start begun byte blank is.goes (Err offset) takes
   fails-blank blank stops.Memory new takes = tt
 
 -- a text that ends here
-pub reads-all : (scope : List (List ℕ)) (parser : Parser) (start : ℕ) (begun fed : List ℕ) (is : Reads scope parser start begun fed) → reads fed ≡ read_on is.reached.awaited is.reached.parts (token_at start begun)
-reads-all scope parser start begun fed is = ap reads (sym (append-nil fed)) ∙ is.goes []
+pub reads-all : (wanted : Wanted) (parser : Parser) (start : ℕ) (begun fed : List ℕ) (is : Reads wanted parser start begun fed)
+    → reads fed ≡ read_on is.reached.awaited is.reached.parts (token_at start begun)
+reads-all wanted parser start begun fed is = ap reads (sym (append-nil fed)) ∙ is.goes []
 
 -- ---- the end
 
@@ -95,49 +106,64 @@ abbrev ok-of : List Part → Result (List Part) ℕ
 ok-of parts = Ok parts
 
 -- the text may not end here
-pub finished-no : (found : Result (List Part) ℕ) (test : Bool) (parts : List Part) (size : ℕ) → found ≡ (if test then ok-of parts else err-of size) → test ≡ false → found ≡ err-of size
+pub finished-no : (found : Result (List Part) ℕ) (test : Bool) (parts : List Part) (size : ℕ) → found ≡ (if test then ok-of parts else err-of size)
+    → test ≡ false → found ≡ err-of size
 finished-no found test parts size is no_end = is ∙ ap (λ b. if b then ok-of parts else err-of size) no_end
 
 -- the text may end here
-pub finished-so : (found : Result (List Part) ℕ) (test : Bool) (parts : List Part) (size : ℕ) → found ≡ (if test then ok-of parts else err-of size) → test ≡ true → found ≡ ok-of parts
+pub finished-so : (found : Result (List Part) ℕ) (test : Bool) (parts : List Part) (size : ℕ) → found ≡ (if test then ok-of parts else err-of size)
+    → test ≡ true → found ≡ ok-of parts
 finished-so found test parts size is ends = is ∙ ap (λ b. if b then ok-of parts else err-of size) ends
 
-pub syntax-at : (scope : List (List ℕ)) (found : Result (List Part) ℕ) (size place : ℕ) → found ≡ err-of size → place ≡ size → parts_found scope found ≡ Err (faults.Syntax place)
-unfolding parts_found
-syntax-at scope found size place is same = ap (parts_found scope) (is ∙ ap err-of (sym same))
+pub syntax-at : (wanted : Wanted) (found : Result (List Part) ℕ) (size place : ℕ) → found ≡ err-of size → place ≡ size
+    → kept_text (parts_shown wanted found) ≡ Err (faults.Syntax place)
+unfolding parts_shown kept_text
+syntax-at wanted found size place is same = ap (λ (r : Result (List Part) ℕ). kept_text (parts_shown wanted r)) (is ∙ ap err-of (sym same))
 
-pub times-back : (scope : List (List ℕ)) (found : Result (List Part) ℕ) (parts : List Part) (offset : ℕ) → found ≡ ok-of parts → time_back parts ≡ Some offset → parts_found scope found ≡ Err (faults.TimeBack offset)
-unfolding parts_found times_found
-times-back scope found parts offset is back = ap (parts_found scope) is ∙ ap (λ (o : Option ℕ). times_found o (clock_in scope parts)) back
+pub times-back : (wanted : Wanted) (found : Result (List Part) ℕ) (parts : List Part) (offset : ℕ) → found ≡ ok-of parts → time_back parts ≡ Some offset
+    → kept_text (parts_shown wanted found) ≡ Err (faults.TimeBack offset)
+unfolding parts_shown times_shown kept_text
+times-back wanted found parts offset is back = ap (λ (r : Result (List Part) ℕ). kept_text (parts_shown wanted r)) is
+    ∙ ap (λ (o : Option ℕ). kept_text (times_shown wanted parts o)) back
 
-pub times-fine : (scope : List (List ℕ)) (found : Result (List Part) ℕ) (parts : List Part) → found ≡ ok-of parts → time_back parts ≡ None → parts_found scope found ≡ clock_found (clock_in scope parts)
-unfolding parts_found times_found
-times-fine scope found parts is back = ap (parts_found scope) is ∙ ap (λ (o : Option ℕ). times_found o (clock_in scope parts)) back
+pub times-fine : (wanted : Wanted) (found : Result (List Part) ℕ) (parts : List Part) → found ≡ ok-of parts → time_back parts ≡ None
+    → kept_text (parts_shown wanted found) ≡ kept_text (signals_shown wanted parts)
+unfolding parts_shown times_shown
+times-fine wanted found parts is back = ap (λ (r : Result (List Part) ℕ). kept_text (parts_shown wanted r)) is
+    ∙ ap (λ (o : Option ℕ). kept_text (times_shown wanted parts o)) back
 
 -- the token that is begun, where there is one
-pub token-step : (awaited : Awaited) (parts : List Part) (start : ℕ) (begun bytes : List ℕ) → bytes ≡ begun → (length begun ≡ 0 → ⊥) → next awaited parts (parsers.token start bytes) ≡ read_on awaited parts (token_at start begun)
+pub token-step : (awaited : Awaited) (parts : List Part) (start : ℕ) (begun bytes : List ℕ) → bytes ≡ begun → (length begun ≡ 0 → ⊥)
+    → next awaited parts (parsers.token start bytes) ≡ read_on awaited parts (token_at start begun)
 token-step awaited parts start [] bytes is some = absurd (some refl)
-token-step awaited parts start (byte ∷ more) bytes is some = ap (λ (l : List ℕ). next awaited parts (parsers.token start l)) is ∙ sym (bind-done (next awaited parts (parsers.token start (byte ∷ more))))
+token-step awaited parts start (byte ∷ more) bytes is some = ap (λ (l : List ℕ). next awaited parts (parsers.token start l)) is
+    ∙ sym (bind-done (next awaited parts (parsers.token start (byte ∷ more))))
 
 -- all tokens of a text are read
-pub end-found : (scope : List (List ℕ)) (fed : List ℕ) (reached : Reached) (size : ℕ) → reads fed ≡ Ok reached → size ≡ length fed → checked scope fed ≡ parts_found scope (finished size reached.awaited reached.parts)
-end-found scope fed reached size is same = ap (λ (s : Step). parts_found scope (finish (length fed) s)) is ∙ ap (λ n. parts_found scope (finished n reached.awaited reached.parts)) (sym same)
+pub end-found : (wanted : Wanted) (fed : List ℕ) (reached : Reached) (size : ℕ) → reads fed ≡ Ok reached → size ≡ length fed
+    → kept_text (shown wanted fed) ≡ kept_text (parts_shown wanted (finished size reached.awaited reached.parts))
+end-found wanted fed reached size is same = ap (λ (s : Step). kept_text (parts_shown wanted (finish (length fed) s))) is
+    ∙ ap (λ n. kept_text (parts_shown wanted (finished n reached.awaited reached.parts))) (sym same)
 
 -- a token of the text is against the profile
 abbrev pub EndsBy : List ℕ → Stop → Type 0
 EndsBy fed (stops.Syntax offset) = reads fed ≡ Err offset
 EndsBy fed stops.Memory = Unit {0}
 
-pub stop-told : (scope : List (List ℕ)) (fed : List ℕ) (stop : Stop) (fault : VcdFault) → fault ≡ fault_of stop → EndsBy fed stop → MatchOption (fault_in fault) (Unit {0}) (λ f. checked scope fed ≡ Err f)
-stop-told scope fed stop fault is ends = subst (λ (f : VcdFault). MatchOption (fault_in f) (Unit {0}) (λ e. checked scope fed ≡ Err e)) (sym is) (told scope fed stop ends)
+pub stop-told : (wanted : Wanted) (fed : List ℕ) (stop : Stop) (fault : VcdFault) → fault ≡ fault_of stop → EndsBy fed stop
+    → MatchOption (fault_in fault) (Unit {0}) (λ f. kept_text (shown wanted fed) ≡ Err f)
+stop-told wanted fed stop fault is ends = subst (λ (f : VcdFault). MatchOption (fault_in f) (Unit {0}) (λ e. kept_text (shown wanted fed) ≡ Err e))
+    (sym is) (told wanted fed stop ends)
   where
-    told : (scope : List (List ℕ)) (fed : List ℕ) (stop : Stop) → EndsBy fed stop → MatchOption (fault_in (fault_of stop)) (Unit {0}) (λ f. checked scope fed ≡ Err f)
-    told scope fed (stops.Syntax offset) ends = syntax-at scope (finish (length fed) (reads fed)) offset offset (ap (finish (length fed)) ends) refl
-    told scope fed stops.Memory ends = tt
+    told : (wanted : Wanted) (fed : List ℕ) (stop : Stop) → EndsBy fed stop → MatchOption (fault_in (fault_of stop)) (Unit {0})
+        (λ f. kept_text (shown wanted fed) ≡ Err f)
+    told wanted fed (stops.Syntax offset) ends = syntax-at wanted (finish (length fed) (reads fed)) offset offset (ap (finish (length fed)) ends) refl
+    told wanted fed stops.Memory ends = tt
 
-pub ends-by : (scope : List (List ℕ)) (fed : List ℕ) (stop : Stop) (new : Parser) (step : Step) → reads fed ≡ step → Takes scope (Err stop) new step → EndsBy fed stop
-ends-by scope fed (stops.Syntax offset) new step is takes = is ∙ takes
-ends-by scope fed stops.Memory new step is takes = tt
+pub ends-by : (wanted : Wanted) (fed : List ℕ) (stop : Stop) (new : Parser) (step : Step) → reads fed ≡ step → Takes wanted (Err stop) new step
+    → EndsBy fed stop
+ends-by wanted fed (stops.Syntax offset) new step is takes = is ∙ takes
+ends-by wanted fed stops.Memory new step is takes = tt
 
 pub fails-by : (fed : List ℕ) (stop : Stop) → Fails fed stop → EndsBy fed stop
 fails-by fed (stops.Syntax offset) fails = ap reads (sym (append-nil fed)) ∙ fails []

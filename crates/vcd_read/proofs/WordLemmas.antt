@@ -1,5 +1,6 @@
 -- The words of states.
-use Rattle.std.proofs.Common.{◌≡◌, ◌∙◌, ℕ, zero, suc, ◌+◌, ◌-◌, ◌≤◌, Bool, true, false, List, [], ◌∷◌, ◌++◌, length, map, replicate, Option, Some, None, option_map, if◌then◌else◌, append_assoc, refl, sym, ap, arith}
+use Rattle.std.proofs.Common.{◌≡◌, ◌∙◌, ℕ, zero, suc, ◌+◌, ◌-◌, ◌≤◌, Bool, true, false, List, [], ◌∷◌, ◌++◌, length, map, replicate, Option, Some, None}
+use Rattle.std.proofs.Common.{option_map, if◌then◌else◌, append_assoc, refl, sym, ap, arith}
 use Rattle.std.specs.List.{list_all}
 use Rattle.std.proofs.lemmas.List.{append-nil, length-append, length-replicate}
 use Rattle.tydi_base.specs.Binary.{binary_bits, binary_word, is_binary_digit}
@@ -11,7 +12,8 @@ use Rattle.vcd_read.specs.declared.state.State.{State}
 use Rattle.vcd_read.specs.declared.state.State.TheVariants as states
 
 -- a bit more
-one_more : (all : Bool) (bits : List Bool) (rest : Option (List Bool)) (bit : Bool) → (if all then Some bits else None) ≡ rest → (if all then Some (bits ++ bit ∷ []) else None) ≡ under (Some bit) rest
+one_more : (all : Bool) (bits : List Bool) (rest : Option (List Bool)) (bit : Bool) → (if all then Some bits else None) ≡ rest
+    → (if all then Some (bits ++ bit ∷ []) else None) ≡ under (Some bit) rest
 unfolding under
 one_more true bits rest bit is = ap (under (Some bit)) is
 one_more false bits rest bit is = ap (under (Some bit)) is
@@ -20,8 +22,10 @@ one_more false bits rest bit is = ap (under (Some bit)) is
 pub binary-letters : (found : List State) → binary_word (map letter_of found) ≡ word_of found
 unfolding binary_word binary_bits under bit_of
 binary-letters [] = refl
-binary-letters (states.Low ∷ more) = one_more (list_all is_binary_digit (map letter_of more)) (binary_bits (map letter_of more)) (word_of more) false (binary-letters more)
-binary-letters (states.High ∷ more) = one_more (list_all is_binary_digit (map letter_of more)) (binary_bits (map letter_of more)) (word_of more) true (binary-letters more)
+binary-letters (states.Low ∷ more) = one_more (list_all is_binary_digit (map letter_of more)) (binary_bits (map letter_of more))
+    (word_of more) false (binary-letters more)
+binary-letters (states.High ∷ more) = one_more (list_all is_binary_digit (map letter_of more)) (binary_bits (map letter_of more))
+    (word_of more) true (binary-letters more)
 binary-letters (states.Unknown ∷ more) = refl
 binary-letters (states.Floating ∷ more) = refl
 
@@ -36,7 +40,8 @@ zeros-next (suc count) = ap (λ (bits : List Bool). false ∷ bits) (zeros-next 
 above-next : (count : ℕ) (word : Option (List Bool)) → under (Some false) (above count word) ≡ above (suc count) word
 unfolding under
 above-next count None = refl
-above-next count (Some bits) = ap (λ (b : List Bool). Some b) (append_assoc bits (zero_bits count) (false ∷ []) ∙ ap (λ (b : List Bool). bits ++ b) (zeros-next count))
+above-next count (Some bits) = ap (λ (b : List Bool). Some b) (append_assoc bits (zero_bits count) (false ∷ [])
+    ∙ ap (λ (b : List Bool). bits ++ b) (zeros-next count))
 
 above-none : (word : Option (List Bool)) → word ≡ above 0 word
 above-none None = refl
@@ -70,7 +75,8 @@ pub length-letters : (found : List State) → length (map letter_of found) ≡ l
 length-letters [] = refl
 length-letters (state ∷ more) = ap suc (length-letters more)
 
-pub filled-word : (width : ℕ) (letters : List ℕ) (found : List State) → letters ≡ map letter_of found → word_of (filled width found) ≡ above (width - length letters) (binary_word letters)
+pub filled-word : (width : ℕ) (letters : List ℕ) (found : List State) → letters ≡ map letter_of found
+    → word_of (filled width found) ≡ above (width - length letters) (binary_word letters)
 filled-word width letters found is =
     filling-word (width - length found) found ∙ ap (above (width - length found)) (sym (binary-letters found) ∙ ap binary_word (sym is))
     ∙ ap (λ n. above (width - n) (binary_word letters)) (sym (ap length is ∙ length-letters found))
@@ -88,7 +94,8 @@ pub record AreRead (letters rest kept : List ℕ) : Type 0 where
   pub kept_are : kept ≡ map letter_of found
   pub all : states_of letters ≡ after found (states_of rest)
 
-pub after-next : (found : List State) (state : State) (rest : Option (List State)) → after found (onto_states (Some state) rest) ≡ after (found ++ state ∷ []) rest
+pub after-next : (found : List State) (state : State) (rest : Option (List State)) → after found (onto_states (Some state) rest) ≡ after (found ++ state ∷
+    []) rest
 unfolding onto_states
 after-next found state None = refl
 after-next found state (Some more) = ap (λ (l : List State). Some l) (sym (append_assoc found (state ∷ []) more))
@@ -107,4 +114,5 @@ word-wide [] = refl
 word-wide (state ∷ more) = under-wide (bit_of state) (word_of more) (length more) (word-wide more)
 
 pub length-filled : (width : ℕ) (found : List State) → length found ≤ width → length (filled width found) ≡ width
-length-filled width found few = length-append (replicate (width - length found) (filling found)) found ∙ ap (λ n. n + length found) (length-replicate (width - length found) (filling found)) ∙ omega arith
+length-filled width found few = length-append (replicate (width - length found) (filling found)) found
+    ∙ ap (λ n. n + length found) (length-replicate (width - length found) (filling found)) ∙ omega arith

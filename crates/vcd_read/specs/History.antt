@@ -125,7 +125,8 @@ edge clock before = if rises clock before then before_block before ∷ [] else [
 -- for each block that has ended and in which the clock rises, the parts before it
 abbrev pub edges_before : List ℕ → List Part → List (List Part)
 edges_before clock [] = []
-edges_before clock (Stamps offset time ∷ before) = if is_same_time (time_of before) time then edges_before clock before else edges_before clock before ++ edge clock before
+edges_before clock (Stamps offset time ∷ before) = if is_same_time (time_of before) time then edges_before clock before else edges_before clock before ++
+    edge clock before
 edges_before clock (part ∷ before) = edges_before clock before
 
 -- the same at the end of the text

@@ -6,7 +6,15 @@ pub mod Profile
 pub mod Numbers
 pub mod Wires
 pub mod Variables
+pub mod Wanted
+pub mod Sampled
+pub mod Shown
+pub mod Kept
+pub mod Probes
+pub mod Samples
+pub mod Finding
+pub mod Sampling
 pub mod Dump
 pub mod Parser
-pub mod Checked
 pub mod Reader
+pub mod Laws

@@ -6,7 +6,8 @@
 --   change      = section | "#"TIME | STATE CODE in one token | ("b" | "B") STATES CODE in two | ("r" | "s") ANY CODE in two
 --               | "$dumpvars" | "$dumpall" | "$dumpon" | "$dumpoff" | "$end"
 --   text        = declaration.. "$enddefinitions" "$end" change..
-use Rattle.std.specs.Prelude.{ℕ, ◌^◌, Bool, true, ◌==◌, not, nat_le, nat_lt, if◌then◌else◌, List, [], ◌∷◌, length, drop, slice_index, Option, Some, None, Result, Ok, Err}
+use Rattle.std.specs.Prelude.{ℕ, ◌^◌, Bool, true, ◌==◌, not, nat_le, nat_lt, if◌then◌else◌, List, [], ◌∷◌, length, drop, slice_index, Option, Some, None}
+use Rattle.std.specs.Prelude.{Result, Ok, Err}
 use Rattle.tydi_base.specs.Decimal.{below, decimal_of}
 use Rattle.tydi_base.specs.Reading.{◌>>=◌}
 use Rattle.vcd_read.specs.History.{Part, Opens, Closes, Declares, Ends, Stamps, Changes, has_ended, open_scopes, declared_width}
@@ -142,7 +143,8 @@ next UpscopeEnd parts token = provided (is_end token.bytes) token.offset (reach 
 next VarKind parts token = provided (not (is_end token.bytes)) token.offset (reach VarWidth parts)
 next VarWidth parts token = var_width parts token.offset (below (2 ^ 64) (decimal_of token.bytes))
 next (VarCode width) parts token =
-    provided (not (is_end token.bytes)) token.offset (provided (may_have_width (declared_width token.bytes parts) width) token.offset (reach (VarName width token.bytes) parts))
+    provided (not (is_end token.bytes)) token.offset (provided (may_have_width (declared_width token.bytes parts) width) token.offset (reach (VarName width
+    token.bytes) parts))
 next (VarName width code) parts token = provided (not (is_end token.bytes)) token.offset (reach (VarRange width code (without_range token.bytes)) parts)
 next (VarRange width code name) parts token =
     if is_end token.bytes then reach Beginning (Declares width code name ∷ parts)

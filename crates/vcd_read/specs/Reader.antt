@@ -3,6 +3,7 @@ use Rattle.std.specs.Prelude.{◌≡◌, ℕ, ◌+◌, ◌^◌, ◌<◌, ◌≤�
 use Rattle.vcd_read.specs.Parser as parsers
 use Rattle.vcd_read.specs.Profile.{Beginning, Reached, Step, read_on}
 use Rattle.vcd_read.specs.Tokens.{tokens_from, tokens_of}
+use Rattle.vcd_read.specs.Wanted.{Wanted}
 use Rattle.vcd_read.specs.declared.fault.VcdFault.{VcdFault}
 use Rattle.vcd_read.specs.declared.fault.VcdFault.TheVariants as faults
 use Rattle.vcd_read.specs.declared.parser.Parser.{Parser}
@@ -24,25 +25,25 @@ Fails fed (stops.Syntax offset) = (more : List ℕ) → reads (fed ++ more) ≡ 
 Fails fed stops.Memory = Unit {0}
 
 -- what is kept is what these bytes reach
-pub record Reads (scope : List (List ℕ)) (parser : Parser) (start : ℕ) (begun fed : List ℕ) : Type 0 where
+pub record Reads (wanted : Wanted) (parser : Parser) (start : ℕ) (begun fed : List ℕ) : Type 0 where
   pub reached : Reached
-  pub stands : parsers.StandsFor scope parser reached
+  pub stands : parsers.StandsFor wanted parser reached
   pub goes : GoesOn fed reached start begun
   pub size : start + length begun ≡ length fed
   pub past : parser.dump.wires.block ≤ start
 
 -- the facts known after these bytes
-abbrev pub Stands : List (List ℕ) → Option Stop → Parser → ℕ → (begun fed : List ℕ) → Type 0
-Stands scope None parser start begun fed = Reads scope parser start begun fed
-Stands scope (Some stop) parser start begun fed = Fails fed stop
+abbrev pub Stands : Wanted → Option Stop → Parser → ℕ → (begun fed : List ℕ) → Type 0
+Stands wanted None parser start begun fed = Reads wanted parser start begun fed
+Stands wanted (Some stop) parser start begun fed = Fails fed stop
 
 -- a reader stands for the bytes that it was fed
-abbrev pub StandsFor : List (List ℕ) → VcdReader → List ℕ → Type 0
-StandsFor scope reader fed = Stands scope reader.stop reader.parser reader.start reader.begun fed
+abbrev pub StandsFor : Wanted → VcdReader → List ℕ → Type 0
+StandsFor wanted reader fed = Stands wanted reader.stop reader.parser reader.start reader.begun fed
 
 -- some bytes were fed, and so many more may be
 abbrev pub HasRoom : VcdReader → ℕ → Type 0
-HasRoom reader more = (scope : List (List ℕ)) × ((fed : List ℕ) × (StandsFor scope reader fed × (length fed + more < 2 ^ 64)))
+HasRoom reader more = (wanted : Wanted) × ((fed : List ℕ) × (StandsFor wanted reader fed × (length fed + more < 2 ^ 64)))
 
 -- the error of a text of which no more is read
 abbrev pub fault_of : Stop → VcdFault

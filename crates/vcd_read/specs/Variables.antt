@@ -22,7 +22,8 @@ IsSignal codes numbers found None = found ≡ None
 IsSignal codes numbers found (Some place) = (number : ℕ) × ((slice_get numbers place ≡ Some number) × HasNumber codes found number)
 
 -- the signals of this scope and its clock, as they are kept
-pub record AreVariables (codes : List (List ℕ)) (scope : List (List ℕ)) (names : List (List ℕ)) (numbers : List ℕ) (clock : Option ℕ) (parts : List Part) : Type 0 where
+pub record AreVariables (codes : List (List ℕ)) (scope : List (List ℕ)) (names : List (List ℕ)) (numbers : List ℕ) (clock : Option ℕ)
+    (parts : List Part) : Type 0 where
   pub long : length numbers ≡ length names
   pub each : (name : List ℕ) → IsSignal codes numbers (signal_in scope name parts) (number_of names name)
   pub clock_is : IsNumbered codes (clock_in scope parts) clock

@@ -1,6 +1,7 @@
 -- The words of a value change dump that have a meaning, and states (IEEE 1364, value change dump files; IEEE 1164 for the states that
 -- VHDL simulators write).
-use Rattle.std.specs.Prelude.{ℕ, ◌-◌, Bool, true, false, ◌==◌, ◌&&◌, ◌||◌, nat_lt, if◌then◌else◌, List, [], ◌∷◌, ◌++◌, length, take, drop, replicate, slice_index, Option, Some, None, codes}
+use Rattle.std.specs.Prelude.{ℕ, ◌-◌, Bool, true, false, ◌==◌, ◌&&◌, ◌||◌, nat_lt, if◌then◌else◌, List, [], ◌∷◌, ◌++◌, length, take, drop, replicate}
+use Rattle.std.specs.Prelude.{slice_index, Option, Some, None, codes}
 use Rattle.std.specs.Str.{bytes_eq}
 use Rattle.vcd_read.specs.declared.keyword.Keyword.{Keyword}
 use Rattle.vcd_read.specs.declared.keyword.Keyword.TheVariants as keywords

@@ -1,19 +1,20 @@
 //! The tokens of a dump, one after another.
 
-ghost use Rattle.std.specs.Prelude.{◌≡◌, ◌≤◌, ◌<◌, ◌+◌, ◌^◌, ◌∷◌, [], ℕ, List, drop, length, map, slice_get, Some, Ok, Err, if◌then◌else◌, IfOk, IfErr, IsTrue};
-ghost use Rattle.vcd_read.specs.Dump as dumps;
-ghost use Rattle.vcd_read.specs.History.{Changes, Declares, Part, declared_width};
+ghost use Rattle.std.specs.Prelude.{◌≡◌, ◌≤◌, ◌<◌, ◌+◌, ◌^◌, ◌∷◌, [], true, drop, length, slice_get, Some, IfOk, IfErr, IsTrue};
+ghost use Rattle.cycle_trace.specs.Trace.{are_heads};
 ghost use Rattle.tydi_base.specs.Decimal.{below, decimal_of};
-ghost use Rattle.vcd_read.specs.Letters.{letter_of};
-ghost use Rattle.vcd_read.specs.Parser.{MayDeclare, StandsFor, Takes, Waits, token};
-ghost use Rattle.vcd_read.specs.Profile.{Awaited, Reached, Beginning, DefinitionsEnd, ScopeEnd, ScopeKind, ScopeName, SectionEnd, SkippedCode, UpscopeEnd, VarCode, VarEnd, VarKind, VarName, VarRange, VarWidth, VectorCode, beginning, change, command, declaration, finished, next, reach, scalar, stamp, vector};
+ghost use Rattle.vcd_read.specs.Dump.{StandsForSome};
+ghost use Rattle.vcd_read.specs.History.{Declares, declared_width};
+ghost use Rattle.vcd_read.specs.Parser.{ChangesVector, MayFinish, StandsFor, Takes, TakesFrom, TakesOpen, TakesVariable, TakesVector, Waits, token};
+ghost use Rattle.vcd_read.specs.Profile.{Reached, Beginning, DefinitionsEnd, ScopeEnd, ScopeKind, ScopeName, SectionEnd, SkippedCode, UpscopeEnd};
+ghost use Rattle.vcd_read.specs.Profile.{VarCode, VarEnd, VarKind, VarName, VarRange, VarWidth, VectorCode};
+ghost use Rattle.vcd_read.specs.Profile.{change, command, declaration, next, reach, scalar, stamp, vector};
+ghost use Rattle.vcd_read.specs.Wanted.{Wanted};
+ghost use Rattle.vcd_read.specs.Wires.{has_room, width_in};
+ghost use Rattle.vcd_read.specs.Words.{keyword_of, states_of};
+ghost use Rattle.vcd_read.specs.declared.keyword.Keyword.TheVariants as keywords;
 ghost use Rattle.vcd_read.specs.declared.parser.Stage.TheVariants as stages;
 ghost use Rattle.vcd_read.specs.declared.parser.Stop.TheVariants as stops;
-ghost use Rattle.vcd_read.specs.Words.{filled, keyword_of, mark_of, states_of};
-ghost use Rattle.vcd_read.specs.Numbers.{number_of};
-ghost use Rattle.vcd_read.specs.Wires.{has_room, width_in};
-ghost use Rattle.vcd_read.specs.declared.keyword.Keyword.TheVariants as keywords;
-ghost use Rattle.vcd_read.specs.declared.state.State.{State};
 
 use crate::dump::Dump;
 use crate::keyword::{Keyword, is_end, keyword_of};
@@ -21,6 +22,7 @@ use crate::mark::{Mark, mark_of};
 use crate::names::{is_range, without_range};
 use crate::state::State;
 use crate::words::{bit_word, read_states, vector_word};
+use physical_stream::Head;
 use std::alloc::Global;
 use tydi_base::{List, Memory, Path, read_decimal};
 
@@ -97,12 +99,14 @@ fn after_first(word: &[u8]) -> &[u8]
 
 impl Parser {
     /// Nothing is read; the signals of this scope are wanted.
-    pub(crate) fn new(alloc: Global, scope: &Path) -> Result<Parser, Memory>
-        ensures stands { IfOk result (λ parser. StandsFor scope.now parser (record { awaited = Beginning; parts = [] })) }
+    pub(crate) fn new(alloc: Global, scope: &Path, heads: List<Head>) -> Result<Parser, Memory>
+        requires { IsTrue (are_heads heads) }
+        ensures stands { IfOk result (λ parser.
+            StandsFor (record { scope = scope.now; heads = heads }) parser (record { awaited = Beginning; parts = [] })) }
         ensures block { IfOk result (λ parser. parser.dump.wires.block ≡ 0) }
     {
         Ok(Parser {
-            dump: Dump::new(alloc, scope)?,
+            dump: Dump::new(alloc, scope, heads)?,
             stage: Stage::Beginning,
             width: 0,
             code: List::new(alloc),
@@ -115,7 +119,7 @@ impl Parser {
     /// A word of a section that is skipped, or its end.
     fn section_end(&mut self, offset: u64, word: &[u8]) -> Result<(), Stop>
         requires { self.old.stage ≡ stages.SectionEnd }
-        ensures takes { (scope : List (List ℕ)) (parts : List Part) → dumps.StandsFor scope self.old.dump parts → Takes scope result self.new (next SectionEnd parts (token offset word.now)) }
+        ensures takes { TakesFrom self.old.dump result self.new (λ parts. next SectionEnd parts (token offset word.now)) }
         ensures block { self.new.dump.wires.block ≡ self.old.dump.wires.block }
     {
         if is_end(word) {
@@ -126,7 +130,7 @@ impl Parser {
 
     /// The kind of a scope.
     fn scope_kind(&mut self, offset: u64, word: &[u8]) -> Result<(), Stop>
-        ensures takes { (scope : List (List ℕ)) (parts : List Part) → dumps.StandsFor scope self.old.dump parts → Takes scope result self.new (next ScopeKind parts (token offset word.now)) }
+        ensures takes { TakesFrom self.old.dump result self.new (λ parts. next ScopeKind parts (token offset word.now)) }
         ensures block { self.new.dump.wires.block ≡ self.old.dump.wires.block }
     {
         if is_end(word) {
@@ -138,7 +142,7 @@ impl Parser {
 
     /// The name of a scope.
     fn scope_name(&mut self, alloc: Global, offset: u64, word: &[u8]) -> Result<(), Stop>
-        ensures takes { (scope : List (List ℕ)) (parts : List Part) → dumps.StandsFor scope self.old.dump parts → Takes scope result self.new (next ScopeName parts (token offset word.now)) }
+        ensures takes { TakesFrom self.old.dump result self.new (λ parts. next ScopeName parts (token offset word.now)) }
         ensures block { self.new.dump.wires.block ≡ self.old.dump.wires.block }
     {
         if is_end(word) {
@@ -151,7 +155,7 @@ impl Parser {
 
     /// The end of a scope's opening.
     fn scope_end(&mut self, alloc: Global, offset: u64, word: &[u8]) -> Result<(), Stop>
-        ensures takes { (scope : List (List ℕ)) (parts : List Part) → dumps.StandsFor scope self.old.dump parts → Takes scope result self.new (next (ScopeEnd self.old.name) parts (token offset word.now)) }
+        ensures takes { TakesFrom self.old.dump result self.new (λ parts. next (ScopeEnd self.old.name) parts (token offset word.now)) }
         ensures block { self.new.dump.wires.block ≡ self.old.dump.wires.block }
     {
         if !is_end(word) {
@@ -168,7 +172,7 @@ impl Parser {
 
     /// The end of a scope's closing.
     fn upscope_end(&mut self, offset: u64, word: &[u8]) -> Result<(), Stop>
-        ensures takes { (scope : List (List ℕ)) (parts : List Part) → dumps.StandsFor scope self.old.dump parts → Takes scope result self.new (next UpscopeEnd parts (token offset word.now)) }
+        ensures takes { TakesFrom self.old.dump result self.new (λ parts. next UpscopeEnd parts (token offset word.now)) }
         ensures block { self.new.dump.wires.block ≡ self.old.dump.wires.block }
     {
         if !is_end(word) {
@@ -181,7 +185,7 @@ impl Parser {
 
     /// The kind of a variable.
     fn var_kind(&mut self, offset: u64, word: &[u8]) -> Result<(), Stop>
-        ensures takes { (scope : List (List ℕ)) (parts : List Part) → dumps.StandsFor scope self.old.dump parts → Takes scope result self.new (next VarKind parts (token offset word.now)) }
+        ensures takes { TakesOpen self.old.dump result self.new (λ parts. next VarKind parts (token offset word.now)) }
         ensures block { self.new.dump.wires.block ≡ self.old.dump.wires.block }
     {
         if is_end(word) {
@@ -193,7 +197,7 @@ impl Parser {
 
     /// The width of a variable.
     fn var_width(&mut self, offset: u64, word: &[u8]) -> Result<(), Stop>
-        ensures takes { (scope : List (List ℕ)) (parts : List Part) → dumps.StandsFor scope self.old.dump parts → Takes scope result self.new (next VarWidth parts (token offset word.now)) }
+        ensures takes { TakesOpen self.old.dump result self.new (λ parts. next VarWidth parts (token offset word.now)) }
         ensures block { self.new.dump.wires.block ≡ self.old.dump.wires.block }
     {
         let Some(width) = read_decimal(word) else {
@@ -206,7 +210,7 @@ impl Parser {
 
     /// The code of a variable.
     fn var_code(&mut self, alloc: Global, offset: u64, word: &[u8]) -> Result<(), Stop>
-        ensures takes { (scope : List (List ℕ)) (parts : List Part) → dumps.StandsFor scope self.old.dump parts → Takes scope result self.new (next (VarCode self.old.width) parts (token offset word.now)) }
+        ensures takes { TakesOpen self.old.dump result self.new (λ parts. next (VarCode self.old.width) parts (token offset word.now)) }
         ensures block { self.new.dump.wires.block ≡ self.old.dump.wires.block }
     {
         if is_end(word) {
@@ -222,7 +226,8 @@ impl Parser {
 
     /// The name of a variable.
     fn var_name(&mut self, alloc: Global, offset: u64, word: &[u8]) -> Result<(), Stop>
-        ensures takes { (scope : List (List ℕ)) (parts : List Part) → dumps.StandsFor scope self.old.dump parts → MayDeclare self.old.width self.old.code parts → Takes scope result self.new (next (VarName self.old.width self.old.code) parts (token offset word.now)) }
+        ensures takes { TakesVariable self.old result self.new
+            (λ parts. next (VarName self.old.width self.old.code) parts (token offset word.now)) }
         ensures block { self.new.dump.wires.block ≡ self.old.dump.wires.block }
     {
         if is_end(word) {
@@ -235,8 +240,9 @@ impl Parser {
 
     /// The range of a variable, or its end.
     fn var_range(&mut self, alloc: Global, offset: u64, word: &[u8]) -> Result<(), Stop>
-        requires { (scope : List (List ℕ)) × ((parts : List Part) × dumps.StandsFor scope self.old.dump parts) }
-        ensures takes { (scope : List (List ℕ)) (parts : List Part) → dumps.StandsFor scope self.old.dump parts → MayDeclare self.old.width self.old.code parts → Takes scope result self.new (next (VarRange self.old.width self.old.code self.old.name) parts (token offset word.now)) }
+        requires { StandsForSome self.old.dump }
+        ensures takes { TakesVariable self.old result self.new
+            (λ parts. next (VarRange self.old.width self.old.code self.old.name) parts (token offset word.now)) }
         ensures block { self.new.dump.wires.block ≡ self.old.dump.wires.block }
     {
         if is_end(word) {
@@ -251,8 +257,9 @@ impl Parser {
 
     /// The end of a variable.
     fn var_end(&mut self, alloc: Global, offset: u64, word: &[u8]) -> Result<(), Stop>
-        requires { (scope : List (List ℕ)) × ((parts : List Part) × dumps.StandsFor scope self.old.dump parts) }
-        ensures takes { (scope : List (List ℕ)) (parts : List Part) → dumps.StandsFor scope self.old.dump parts → MayDeclare self.old.width self.old.code parts → Takes scope result self.new (next (VarEnd self.old.width self.old.code self.old.name) parts (token offset word.now)) }
+        requires { StandsForSome self.old.dump }
+        ensures takes { TakesVariable self.old result self.new
+            (λ parts. next (VarEnd self.old.width self.old.code self.old.name) parts (token offset word.now)) }
         ensures block { self.new.dump.wires.block ≡ self.old.dump.wires.block }
     {
         if !is_end(word) {
@@ -263,9 +270,9 @@ impl Parser {
 
     /// The variable that is begun is declared.
     fn declare(&mut self, alloc: Global) -> Result<(), Stop>
-        requires { (scope : List (List ℕ)) × ((parts : List Part) × dumps.StandsFor scope self.old.dump parts) }
-        ensures takes { (scope : List (List ℕ)) (parts : List Part) → dumps.StandsFor scope self.old.dump parts → MayDeclare self.old.width self.old.code parts
-            → Takes scope result self.new (reach Beginning (Declares self.old.width self.old.code self.old.name ∷ parts)) }
+        requires { StandsForSome self.old.dump }
+        ensures takes { TakesVariable self.old result self.new
+            (λ parts. reach Beginning (Declares self.old.width self.old.code self.old.name ∷ parts)) }
         ensures block { self.new.dump.wires.block ≡ self.old.dump.wires.block }
     {
         let (code, name) = (self.code.as_slice(), self.name.as_slice());
@@ -279,21 +286,25 @@ impl Parser {
     }
 
     /// The end of the declarations.
-    fn definitions_end(&mut self, offset: u64, word: &[u8]) -> Result<(), Stop>
-        ensures takes { (scope : List (List ℕ)) (parts : List Part) → dumps.StandsFor scope self.old.dump parts → Takes scope result self.new (next DefinitionsEnd parts (token offset word.now)) }
+    fn definitions_end(&mut self, alloc: Global, offset: u64, word: &[u8]) -> Result<(), Stop>
+        ensures takes { TakesFrom self.old.dump result self.new (λ parts. next DefinitionsEnd parts (token offset word.now)) }
         ensures block { self.new.dump.wires.block ≡ self.old.dump.wires.block }
     {
         if !is_end(word) {
             return Err(Stop::Syntax(offset));
         }
-        self.dump.end_declarations();
-        self.stage = Stage::Beginning;
-        Ok(())
+        match self.dump.end_declarations(alloc) {
+            Ok(()) => {
+                self.stage = Stage::Beginning;
+                Ok(())
+            }
+            Err(Memory) => Err(Stop::Memory),
+        }
     }
 
     /// The code of what is skipped.
     fn skipped_code(&mut self, offset: u64, word: &[u8]) -> Result<(), Stop>
-        ensures takes { (scope : List (List ℕ)) (parts : List Part) → dumps.StandsFor scope self.old.dump parts → Takes scope result self.new (next SkippedCode parts (token offset word.now)) }
+        ensures takes { TakesFrom self.old.dump result self.new (λ parts. next SkippedCode parts (token offset word.now)) }
         ensures block { self.new.dump.wires.block ≡ self.old.dump.wires.block }
     {
         self.stage = Stage::Beginning;
@@ -302,7 +313,7 @@ impl Parser {
 
     /// The token that a part among the declarations begins with, or the end of these.
     fn begin_declaration(&mut self, offset: u64, keyword: Keyword) -> Result<(), Stop>
-        ensures takes { (scope : List (List ℕ)) (parts : List Part) → dumps.StandsFor scope self.old.dump parts → Takes scope result self.new (declaration parts offset keyword) }
+        ensures takes { TakesOpen self.old.dump result self.new (λ parts. declaration parts offset keyword) }
         ensures block { self.new.dump.wires.block ≡ self.old.dump.wires.block }
     {
         match keyword {
@@ -328,7 +339,7 @@ impl Parser {
 
     /// A scope is to close.
     fn begin_upscope(&mut self, offset: u64) -> Result<(), Stop>
-        ensures takes { (scope : List (List ℕ)) (parts : List Part) → dumps.StandsFor scope self.old.dump parts → Takes scope result self.new (declaration parts offset keywords.Upscope) }
+        ensures takes { TakesFrom self.old.dump result self.new (λ parts. declaration parts offset keywords.Upscope) }
         ensures block { self.new.dump.wires.block ≡ self.old.dump.wires.block }
     {
         if !self.dump.scopes.has_open() {
@@ -340,7 +351,7 @@ impl Parser {
 
     /// The declarations are to end.
     fn begin_end(&mut self, offset: u64) -> Result<(), Stop>
-        ensures takes { (scope : List (List ℕ)) (parts : List Part) → dumps.StandsFor scope self.old.dump parts → Takes scope result self.new (declaration parts offset keywords.EndDefinitions) }
+        ensures takes { TakesFrom self.old.dump result self.new (λ parts. declaration parts offset keywords.EndDefinitions) }
         ensures block { self.new.dump.wires.block ≡ self.old.dump.wires.block }
     {
         if self.dump.scopes.has_open() {
@@ -352,7 +363,7 @@ impl Parser {
 
     /// A keyword among the changes.
     fn command(&mut self, offset: u64, keyword: Keyword) -> Result<(), Stop>
-        ensures takes { (scope : List (List ℕ)) (parts : List Part) → dumps.StandsFor scope self.old.dump parts → Takes scope result self.new (command parts offset keyword) }
+        ensures takes { TakesFrom self.old.dump result self.new (λ parts. command parts offset keyword) }
         ensures block { self.new.dump.wires.block ≡ self.old.dump.wires.block }
     {
         match keyword {
@@ -368,23 +379,29 @@ impl Parser {
     }
 
     /// A time stamp of these digits.
-    fn stamp(&mut self, offset: u64, digits: &[u8]) -> Result<(), Stop>
+    fn stamp(&mut self, alloc: Global, offset: u64, digits: &[u8]) -> Result<(), Stop>
+        requires stands { StandsForSome self.old.dump }
+        requires ended { self.old.dump.ended ≡ true }
         requires past { self.old.dump.wires.block ≤ offset }
         requires small { offset + 1 < 2 ^ 64 }
-        ensures takes { (scope : List (List ℕ)) (parts : List Part) → dumps.StandsFor scope self.old.dump parts → Takes scope result self.new (stamp parts offset (below (2 ^ 64) (decimal_of digits.now))) }
+        ensures takes { TakesFrom self.old.dump result self.new (λ parts. stamp parts offset (below (2 ^ 64) (decimal_of digits.now))) }
         ensures block { self.new.dump.wires.block ≤ offset + 1 }
     {
         let Some(time) = read_decimal(digits) else {
             return Err(Stop::Syntax(offset));
         };
-        self.dump.stamp(offset, time);
-        self.stage = Stage::Beginning;
-        Ok(())
+        match self.dump.stamp(alloc, offset, time) {
+            Ok(()) => {
+                self.stage = Stage::Beginning;
+                Ok(())
+            }
+            Err(Memory) => Err(Stop::Memory),
+        }
     }
 
     /// A vector of these letters.
     fn vector(&mut self, offset: u64, letters: &[u8]) -> Result<(), Stop>
-        ensures takes { (scope : List (List ℕ)) (parts : List Part) → dumps.StandsFor scope self.old.dump parts → Takes scope result self.new (vector parts offset (states_of letters.now)) }
+        ensures takes { TakesFrom self.old.dump result self.new (λ parts. vector parts offset (states_of letters.now)) }
         ensures block { self.new.dump.wires.block ≡ self.old.dump.wires.block }
     {
         match read_states(letters, &mut self.vector) {
@@ -396,8 +413,7 @@ impl Parser {
 
     /// The states of a vector are read. Its code is the next token.
     fn begin_vector(&mut self, offset: u64) -> Result<(), Stop>
-        ensures takes { (scope : List (List ℕ)) (parts : List Part) (states : List State) → dumps.StandsFor scope self.old.dump parts → self.old.vector ≡ map letter_of states
-            → Takes scope result self.new (vector parts offset (Some states)) }
+        ensures takes { TakesVector self.old result self.new (λ parts states. vector parts offset (Some states)) }
         ensures block { self.new.dump.wires.block ≡ self.old.dump.wires.block }
     {
         if self.vector.len() == 0 {
@@ -410,8 +426,8 @@ impl Parser {
 
     /// The change of a code of width 1.
     fn scalar(&mut self, alloc: Global, offset: u64, code: &[u8], state: State) -> Result<(), Stop>
-        requires stands { (scope : List (List ℕ)) × ((parts : List Part) × dumps.StandsFor scope self.old.dump parts) }
-        ensures takes { (scope : List (List ℕ)) (parts : List Part) → dumps.StandsFor scope self.old.dump parts → Takes scope result self.new (scalar parts offset code.now state (declared_width code.now parts)) }
+        requires stands { StandsForSome self.old.dump }
+        ensures takes { TakesFrom self.old.dump result self.new (λ parts. scalar parts offset code.now state (declared_width code.now parts)) }
         ensures block { self.new.dump.wires.block ≡ self.old.dump.wires.block }
     {
         let Some(number) = self.dump.wires.number(code) else {
@@ -430,8 +446,9 @@ impl Parser {
 
     /// The code of a vector.
     fn vector_code(&mut self, alloc: Global, offset: u64, word: &[u8]) -> Result<(), Stop>
-        requires { (scope : List (List ℕ)) × ((parts : List Part) × dumps.StandsFor scope self.old.dump parts) }
-        ensures takes { (scope : List (List ℕ)) (parts : List Part) (states : List State) → dumps.StandsFor scope self.old.dump parts → self.old.vector ≡ map letter_of states → Takes scope result self.new (next (VectorCode self.old.offset states) parts (token offset word.now)) }
+        requires { StandsForSome self.old.dump }
+        ensures takes { TakesVector self.old result self.new
+            (λ parts states. next (VectorCode self.old.offset states) parts (token offset word.now)) }
         ensures block { self.new.dump.wires.block ≡ self.old.dump.wires.block }
     {
         let Some(number) = self.dump.wires.number(word) else {
@@ -447,9 +464,7 @@ impl Parser {
     fn change_vector(&mut self, alloc: Global, number: usize) -> Result<(), Stop>
         requires room { IsTrue (has_room (width_in (slice_get self.old.dump.wires.wires number)) (length self.old.vector)) }
         requires within { number < length self.old.dump.wires.wires }
-        ensures takes { (scope : List (List ℕ)) (parts : List Part) (states : List State) (code : List ℕ) (width : ℕ) → dumps.StandsFor scope self.old.dump parts → self.old.vector ≡ map letter_of states
-            → number_of self.old.dump.wires.codes code ≡ Some number → width_in (slice_get self.old.dump.wires.wires number) ≡ Some width → declared_width code parts ≡ Some width
-            → Takes scope result self.new (reach Beginning (Changes code (filled width states) ∷ parts)) }
+        ensures takes { ChangesVector number self.old result self.new }
         ensures block { self.new.dump.wires.block ≡ self.old.dump.wires.block }
     {
         let width = self.dump.wires.width(number);
@@ -465,15 +480,16 @@ impl Parser {
     /// The part among the changes that a token begins with this mark.
     fn change(&mut self, alloc: Global, offset: u64, word: &[u8], mark: Mark) -> Result<(), Stop>
         requires some { 0 < length word.now }
-        requires stands { (scope : List (List ℕ)) × ((parts : List Part) × dumps.StandsFor scope self.old.dump parts) }
+        requires stands { StandsForSome self.old.dump }
+        requires ended { self.old.dump.ended ≡ true }
         requires past { self.old.dump.wires.block ≤ offset }
         requires small { offset + 1 < 2 ^ 64 }
-        ensures takes { (scope : List (List ℕ)) (parts : List Part) → dumps.StandsFor scope self.old.dump parts → Takes scope result self.new (change parts (token offset word.now) mark) }
+        ensures takes { TakesFrom self.old.dump result self.new (λ parts. change parts (token offset word.now) mark) }
         ensures block { self.new.dump.wires.block ≤ offset + 1 }
     {
         let rest = after_first(word);
         match mark {
-            Mark::Stamp => self.stamp(offset, rest),
+            Mark::Stamp => self.stamp(alloc, offset, rest),
             Mark::Vector => self.vector(offset, rest),
             Mark::Command => self.command(offset, keyword_of(word)),
             Mark::Skipped => self.await_token(Stage::SkippedCode),
@@ -485,10 +501,10 @@ impl Parser {
     /// The part that a token begins.
     fn begin(&mut self, alloc: Global, offset: u64, word: &[u8]) -> Result<(), Stop>
         requires some { 0 < length word.now }
-        requires stands { (scope : List (List ℕ)) × ((parts : List Part) × dumps.StandsFor scope self.old.dump parts) }
+        requires stands { StandsForSome self.old.dump }
         requires past { self.old.dump.wires.block ≤ offset }
         requires small { offset + 1 < 2 ^ 64 }
-        ensures takes { (scope : List (List ℕ)) (parts : List Part) → dumps.StandsFor scope self.old.dump parts → Takes scope result self.new (next Beginning parts (token offset word.now)) }
+        ensures takes { TakesFrom self.old.dump result self.new (λ parts. next Beginning parts (token offset word.now)) }
         ensures block { self.new.dump.wires.block ≤ offset + 1 }
     {
         if self.dump.has_ended() {
@@ -503,10 +519,11 @@ impl Parser {
     /// Takes the next token, which stands at this place.
     pub(crate) fn take(&mut self, alloc: Global, offset: u64, word: &[u8]) -> Result<(), Stop>
         requires some { 0 < length word.now }
-        requires stands { (scope : List (List ℕ)) × ((reached : Reached) × StandsFor scope self.old reached) }
+        requires stands { (wanted : Wanted) × ((reached : Reached) × StandsFor wanted self.old reached) }
         requires past { self.old.dump.wires.block ≤ offset }
         requires small { offset + 1 < 2 ^ 64 }
-        ensures takes { (scope : List (List ℕ)) (reached : Reached) → StandsFor scope self.old reached → Takes scope result self.new (next reached.awaited reached.parts (token offset word.now)) }
+        ensures takes { (wanted : Wanted) (reached : Reached) → StandsFor wanted self.old reached
+            → Takes wanted result self.new (next reached.awaited reached.parts (token offset word.now)) }
         ensures block { self.new.dump.wires.block ≤ offset + 1 }
     {
         match self.stage {
@@ -522,7 +539,7 @@ impl Parser {
             Stage::VarName => self.var_name(alloc, offset, word),
             Stage::VarRange => self.var_range(alloc, offset, word),
             Stage::VarEnd => self.var_end(alloc, offset, word),
-            Stage::DefinitionsEnd => self.definitions_end(offset, word),
+            Stage::DefinitionsEnd => self.definitions_end(alloc, offset, word),
             Stage::VectorCode => self.vector_code(alloc, offset, word),
             Stage::SkippedCode => self.skipped_code(offset, word),
         }
@@ -530,7 +547,8 @@ impl Parser {
 
     /// Whether the text may end here.
     pub(crate) fn is_finished(&self) -> bool
-        ensures { (scope : List (List ℕ)) (reached : Reached) (size : ℕ) → StandsFor scope self.now reached → finished size reached.awaited reached.parts ≡ (if result then Ok reached.parts else Err size) }
+        ensures finished { MayFinish self.now result }
+        ensures ended { result ≡ true → self.now.dump.ended ≡ true }
     {
         match self.stage {
             Stage::Beginning => self.dump.has_ended(),

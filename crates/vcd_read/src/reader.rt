@@ -2,16 +2,20 @@
 
 ghost use Rattle.std.specs.Prelude.{◌≡◌, ◌↔◌, ◌<◌, ◌≤◌, ◌+◌, ◌^◌, ◌++◌, ◌∷◌, [], ℕ, List, length, Some, None, IfOk, IsErr, IsTrue};
 ghost use Rattle.tydi_base.specs.Reading.{Gives};
-ghost use Rattle.vcd_read.specs.Checked.{checked, clock_found, fault_in, parts_found};
-ghost use Rattle.vcd_read.specs.History.{clock_in};
+ghost use Rattle.cycle_trace.specs.Trace.{are_heads};
+ghost use Rattle.vcd_read.specs.Kept.{kept_bytes, kept_text};
+ghost use Rattle.vcd_read.specs.Shown.{fault_in, parts_shown, shown};
+ghost use Rattle.vcd_read.specs.Wanted.{Wanted};
 ghost use Rattle.vcd_read.specs.Parser as parsers;
 ghost use Rattle.vcd_read.specs.Profile.{Reached, finished, read_on};
 ghost use Rattle.vcd_read.specs.Reader.{HasRoom, StandsFor, fault_of};
 ghost use Rattle.vcd_read.specs.Tokens.{is_blank, token_at};
 ghost use Rattle.vcd_read.specs.declared.parser.Stop.TheVariants as stops;
 
+use crate::dump_text::DumpText;
 use crate::fault::VcdFault;
 use crate::parser::{Parser, Stop};
+use physical_stream::Head;
 use std::alloc::Global;
 use tydi_base::{List, Memory, Path};
 
@@ -28,12 +32,14 @@ pub struct VcdReader {
 }
 
 impl VcdReader {
-    /// A reader that was fed nothing. The clock is looked for in the scope of this path. `Memory` comes where there is none for the path.
-    pub fn new(alloc: Global, scope: &Path) -> Result<VcdReader, Memory>
-        ensures { IfOk result (λ reader. StandsFor scope.now reader []) }
+    /// A reader that was fed nothing. The clock and the signals of the streams with these heads are looked for in the scope of this path.
+    /// `Memory` comes where there is none for the path.
+    pub fn new(alloc: Global, scope: &Path, heads: List<Head>) -> Result<VcdReader, Memory>
+        requires { IsTrue (are_heads heads) }
+        ensures { IfOk result (λ reader. StandsFor (record { scope = scope.now; heads = heads }) reader []) }
     {
         Ok(VcdReader {
-            parser: Parser::new(alloc, scope)?,
+            parser: Parser::new(alloc, scope, heads)?,
             start: 0,
             begun: List::new(alloc),
             stop: None,
@@ -43,7 +49,7 @@ impl VcdReader {
     /// Reads the next bytes of the text. After `Memory` every later call answers `Memory`.
     pub fn feed(&mut self, alloc: Global, piece: &[u8]) -> Result<(), Memory>
         requires { HasRoom self.old (length piece.now) }
-        ensures stands { (scope : List (List ℕ)) (fed : List ℕ) → StandsFor scope self.old fed → StandsFor scope self.new (fed ++ piece.now) }
+        ensures stands { (wanted : Wanted) (fed : List ℕ) → StandsFor wanted self.old fed → StandsFor wanted self.new (fed ++ piece.now) }
         ensures memory { IsErr result ↔ (self.new.stop ≡ Some stops.Memory) }
     {
         'bytes: for byte in piece {
@@ -66,7 +72,7 @@ impl VcdReader {
     #[inline(always)]
     fn byte(&mut self, alloc: Global, byte: u8)
         requires { HasRoom self.old 1 }
-        ensures { (scope : List (List ℕ)) (fed : List ℕ) → StandsFor scope self.old fed → StandsFor scope self.new (fed ++ byte ∷ []) }
+        ensures { (wanted : Wanted) (fed : List ℕ) → StandsFor wanted self.old fed → StandsFor wanted self.new (fed ++ byte ∷ []) }
     {
         match self.stop {
             Some(_) => {}
@@ -85,7 +91,7 @@ impl VcdReader {
     fn go_on(&mut self, byte: u8)
         requires some { self.old.stop ≡ None }
         requires word { IsTrue (is_blank byte) → ⊥ }
-        ensures { (scope : List (List ℕ)) (fed : List ℕ) → StandsFor scope self.old fed → StandsFor scope self.new (fed ++ byte ∷ []) }
+        ensures { (wanted : Wanted) (fed : List ℕ) → StandsFor wanted self.old fed → StandsFor wanted self.new (fed ++ byte ∷ []) }
     {
         match self.begun.push(byte) {
             Ok(()) => {}
@@ -98,7 +104,7 @@ impl VcdReader {
         requires some { self.old.stop ≡ None }
         requires room { HasRoom self.old 1 }
         requires blank { IsTrue (is_blank byte) }
-        ensures { (scope : List (List ℕ)) (fed : List ℕ) → StandsFor scope self.old fed → StandsFor scope self.new (fed ++ byte ∷ []) }
+        ensures { (wanted : Wanted) (fed : List ℕ) → StandsFor wanted self.old fed → StandsFor wanted self.new (fed ++ byte ∷ []) }
     {
         match self.end_token(alloc) {
             Ok(()) => {
@@ -113,8 +119,8 @@ impl VcdReader {
     fn end_token(&mut self, alloc: Global) -> Result<(), Stop>
         requires some { self.old.stop ≡ None }
         requires room { HasRoom self.old 1 }
-        ensures takes { (scope : List (List ℕ)) (reached : Reached) → parsers.StandsFor scope self.old.parser reached
-            → parsers.Takes scope result self.new.parser (read_on reached.awaited reached.parts (token_at self.old.start self.old.begun)) }
+        ensures takes { (wanted : Wanted) (reached : Reached) → parsers.StandsFor wanted self.old.parser reached
+            → parsers.Takes wanted result self.new.parser (read_on reached.awaited reached.parts (token_at self.old.start self.old.begun)) }
         ensures block { self.new.parser.dump.wires.block ≤ self.old.start + length self.old.begun }
         ensures start { self.new.start ≡ self.old.start }
         ensures begun { self.new.begun ≡ self.old.begun }
@@ -126,19 +132,10 @@ impl VcdReader {
         self.parser.take(alloc, self.start, self.begun.as_slice())
     }
 
-    /// Whether the whole text is of the profile, no time stamp of it is below the one before it, and it has a clock; or its first error.
-    pub fn finish(self, alloc: Global) -> Result<(), VcdFault>
+    /// The text of the trace that the whole text shows, none where it has over 64 MiB; or the first error, in the order of `VcdFault`.
+    pub fn finish(self, alloc: Global) -> Result<Option<DumpText>, VcdFault>
         requires { HasRoom self 1 }
-        ensures { (scope : List (List ℕ)) (fed : List ℕ) → StandsFor scope self fed → Gives fault_in (λ found. found) result (checked scope fed) }
-    {
-        let mut reader = self;
-        reader.end(alloc)
-    }
-
-    /// The same, in place.
-    fn end(&mut self, alloc: Global) -> Result<(), VcdFault>
-        requires { HasRoom self.old 1 }
-        ensures { (scope : List (List ℕ)) (fed : List ℕ) → StandsFor scope self.old fed → Gives fault_in (λ found. found) result (checked scope fed) }
+        ensures { (wanted : Wanted) (fed : List ℕ) → StandsFor wanted self fed → Gives fault_in kept_bytes result (kept_text (shown wanted fed)) }
     {
         match self.stop {
             Some(stop) => Err(fault_of(stop)),
@@ -147,39 +144,31 @@ impl VcdReader {
     }
 
     /// The same of a text no token of which is against the profile so far.
-    fn end_text(&mut self, alloc: Global) -> Result<(), VcdFault>
-        requires some { self.old.stop ≡ None }
-        requires room { HasRoom self.old 1 }
-        ensures { (scope : List (List ℕ)) (fed : List ℕ) → StandsFor scope self.old fed → Gives fault_in (λ found. found) result (checked scope fed) }
+    fn end_text(self, alloc: Global) -> Result<Option<DumpText>, VcdFault>
+        requires some { self.stop ≡ None }
+        requires room { HasRoom self 1 }
+        ensures { (wanted : Wanted) (fed : List ℕ) → StandsFor wanted self fed → Gives fault_in kept_bytes result (kept_text (shown wanted fed)) }
     {
-        match self.end_token(alloc) {
-            Ok(()) => self.judge(),
+        let mut reader = self;
+        match reader.end_token(alloc) {
+            Ok(()) => reader.judge(alloc),
             Err(stop) => Err(fault_of(stop)),
         }
     }
 
-    /// What is found of a text all tokens of which are read.
-    fn judge(&self) -> Result<(), VcdFault>
-        requires { self.now.start + length self.now.begun < 2 ^ 64 }
-        ensures { (scope : List (List ℕ)) (reached : Reached) → parsers.StandsFor scope self.now.parser reached
-            → Gives fault_in (λ found. found) result (parts_found scope (finished (self.now.start + length self.now.begun) reached.awaited reached.parts)) }
+    /// What a text shows all tokens of which are read.
+    fn judge(self, alloc: Global) -> Result<Option<DumpText>, VcdFault>
+        requires small { self.start + length self.begun < 2 ^ 64 }
+        requires stands { (wanted : Wanted) × ((reached : Reached) × parsers.StandsFor wanted self.parser reached) }
+        ensures { (wanted : Wanted) (reached : Reached) → parsers.StandsFor wanted self.parser reached
+            → Gives fault_in kept_bytes result (kept_text (parts_shown wanted (finished (self.start + length self.begun) reached.awaited reached.parts))) }
     {
         if !self.parser.is_finished() {
             return Err(VcdFault::Syntax(self.start + self.begun.len() as u64));
         }
         match self.parser.dump.times.back {
             Some(offset) => Err(VcdFault::TimeBack(offset)),
-            None => self.judge_clock(),
-        }
-    }
-
-    /// Whether there is a clock.
-    fn judge_clock(&self) -> Result<(), VcdFault>
-        ensures { (scope : List (List ℕ)) (reached : Reached) → parsers.StandsFor scope self.now.parser reached → Gives fault_in (λ found. found) result (clock_found (clock_in scope reached.parts)) }
-    {
-        match self.parser.dump.variables.clock {
-            Some(_) => Ok(()),
-            None => Err(VcdFault::NoClock),
+            None => self.parser.dump.conclude(alloc),
         }
     }
 }

@@ -41,7 +41,8 @@ impl Variables {
         number: usize,
     ) -> Result<(), Memory>
         requires { length self.old.numbers ≡ length self.old.names }
-        ensures { OnOk result ((before codes scope : List (List ℕ)) (code : List ℕ) (parts : List Part) → StandFor before scope self.old parts → KeepsNumbers before codes
+        ensures { OnOk result ((before codes scope : List (List ℕ)) (code : List ℕ) (parts : List Part) → StandFor before scope self.old parts
+            → KeepsNumbers before codes
             → is_inside scope parts ≡ true → number_of codes code ≡ Some number → StandFor codes scope self.new (Declares width code name.now ∷ parts)) }
     {
         self.add_clock(width, name, number);
@@ -74,7 +75,8 @@ impl Variables {
 
     /// The number of the code of the signal of this name.
     pub(crate) fn number(&self, name: &[u8]) -> Option<usize>
-        ensures { (codes scope : List (List ℕ)) (parts : List Part) → StandFor codes scope self.now parts → IsNumbered codes (signal_in scope name.now parts) result }
+        ensures { (codes scope : List (List ℕ)) (parts : List Part) → StandFor codes scope self.now parts
+            → IsNumbered codes (signal_in scope name.now parts) result }
     {
         let place = self.names.number(name)?;
         self.numbers.get(place).copied()

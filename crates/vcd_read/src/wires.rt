@@ -64,7 +64,8 @@ impl Wires {
         ensures number { IfOk result (λ number. number_of self.new.codes code.now ≡ Some number) }
         ensures keeps { OnOk result (KeepsNumbers self.old.codes self.new.codes) }
         ensures block { self.new.block ≡ self.old.block }
-        ensures stands { OnOk result ((parts : List Part) (name : List ℕ) → StandFor self.old parts → may_have_width (declared_width code.now parts) width ≡ true
+        ensures stands { OnOk result ((parts : List Part) (name : List ℕ) → StandFor self.old parts
+            → may_have_width (declared_width code.now parts) width ≡ true
             → StandFor self.new (Declares width code.now name ∷ parts)) }
     {
         if let Some(number) = self.codes.number(code) {
@@ -81,7 +82,8 @@ impl Wires {
         requires { self.old.block < block }
         ensures block { self.new.block ≡ block }
         ensures codes { self.new.codes ≡ self.old.codes }
-        ensures stands { (parts : List Part) (offset time : ℕ) → StandFor self.old parts → is_same_time (time_of parts) time ≡ false → StandFor self.new (Stamps offset time ∷ parts) }
+        ensures stands { (parts : List Part) (offset time : ℕ) → StandFor self.old parts → is_same_time (time_of parts) time ≡ false
+            → StandFor self.new (Stamps offset time ∷ parts) }
     {
         self.block = block;
     }
@@ -122,7 +124,7 @@ impl Wires {
     }
 
     /// Whether the code of this number has this width.
-    fn has_width(&self, number: usize, width: u64) -> bool
+    pub(crate) fn has_width(&self, number: usize, width: u64) -> bool
         ensures { result ≡ may_have_width (width_in (slice_get self.now.wires number)) width }
     {
         match self.wires.get(number) {

@@ -8,13 +8,17 @@ unfolding or_whole
 returns-then-text-left-eq-OPEN_BRACKET c =
     let text = c.args.text.now in let place = c.bytes.left - 1 in
     let next : c.bytes.left ≡ suc place = omega arith in
-    sym (ap (λ found. or_whole found text) (before_last-at 91 text place (omega arith) c.if-text-left-eq-OPEN_BRACKET.true (subst (λ n. before_last 91 (drop n text) ≡ None) next c.bytes.invariant.1)))
+    sym (ap (λ found. or_whole found text) (before_last-at 91 text place (omega arith) c.if-text-left-eq-OPEN_BRACKET.true (subst (λ n. before_last 91 (drop
+    n text) ≡ None) next c.bytes.invariant.1)))
 
 pub bytes-preserved : goal.bytes-preserved
 bytes-preserved c =
     let text = c.args.text.now in let place = c.bytes.left - 1 in
-    let next : c.bytes.left ≡ suc place = omega arith in
-    (omega arith, before_last-none 91 text place (omega arith) c.if-text-left-eq-OPEN_BRACKET.false (subst (λ n. before_last 91 (drop n text) ≡ None) next c.bytes.invariant.1))
+    let next : c.bytes.left ≡ suc place = omega arith in (
+      omega arith,
+      before_last-none 91 text place (omega arith) c.if-text-left-eq-OPEN_BRACKET.false (subst (λ n. before_last 91 (drop n text) ≡ None) next
+          c.bytes.invariant.1),
+    )
 
 pub returns : goal.returns
 unfolding or_whole

@@ -5,4 +5,5 @@ use Rattle.vcd_read.proofs.words.bit_word.Goals as goal
 
 pub returns : goal.returns
 returns c =
-    subst (λ wanted. IfOk c.from_binary.result (λ word. word ≡ wanted)) (ap (λ (letter : ℕ). binary_word (letter ∷ [])) c.letter_of.ensures ∙ binary-letters (c.args.state ∷ [])) c.from_binary.ensures
+    subst (λ wanted. IfOk c.from_binary.result (λ word. word ≡ wanted)) (ap (λ (letter : ℕ). binary_word (letter ∷ [])) c.letter_of.ensures
+    ∙ binary-letters (c.args.state ∷ [])) c.from_binary.ensures

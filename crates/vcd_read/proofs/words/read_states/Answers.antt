@@ -22,7 +22,8 @@ letters-preserved c =
     let rest = states_of (drop (place + 1) letters) in
     record {
       found = found ++ c.in-Some.state ∷ [];
-      kept_are = c.in_ok-push-in-Some.ensures.ok ∙ (λ i. c.letters.invariant.kept_are i ++ c.letter_of.ensures i ∷ []) ∙ sym (map-append letter_of found (c.in-Some.state ∷ []));
+      kept_are = c.in_ok-push-in-Some.ensures.ok ∙ (λ i. c.letters.invariant.kept_are i ++ c.letter_of.ensures i ∷ [])
+          ∙ sym (map-append letter_of found (c.in-Some.state ∷ []));
       all = c.letters.invariant.all ∙ ap (λ l. after found (states_of l)) (drop_more letters place 0 c.letters-test.true)
           ∙ ap (λ (s : Option State). after found (onto_states s rest)) (sym c.in-Some.ensures) ∙ after-next found c.in-Some.state rest;
     }

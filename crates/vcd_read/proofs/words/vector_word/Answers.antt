@@ -11,4 +11,5 @@ returns c =
     let letters = c.args.letters.now in
     IfOk-weaker c.widened.result (λ wide. wide ≡ above (c.args.width - length letters) c.in_ok-word.word)
     (λ word. (found : List State) → letters ≡ map letter_of found → word ≡ word_of (filled c.args.width found))
-    (λ wide is found letters_are. is ∙ ap (above (c.args.width - length letters)) c.in_ok-word.ensures ∙ sym (filled-word c.args.width letters found letters_are)) c.widened.ensures
+    (λ wide is found letters_are. is ∙ ap (above (c.args.width - length letters)) c.in_ok-word.ensures
+    ∙ sym (filled-word c.args.width letters found letters_are)) c.widened.ensures

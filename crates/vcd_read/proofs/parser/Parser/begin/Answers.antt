@@ -9,10 +9,16 @@ use Rattle.vcd_read.proofs.parser.Parser.begin.Goals as goal
 
 pub returns-then-has_ended-clause-takes : goal.returns-then-has_ended-clause-takes
 unfolding next beginning
-returns-then-has_ended-clause-takes c scope parts is = subst (Takes scope c.change.result c.change.new.self) (sym (ap (λ test. if test then change parts (token c.args.offset c.args.word.now) (mark_of (slice_index c.args.word.now 0)) else declaration parts c.args.offset (keyword_of c.args.word.now)) (sym is.ended_is ∙ sym c.has_ended.ensures ∙ c.if-has_ended.true)))
-    (subst (λ (m : Mark). Takes scope c.change.result c.change.new.self (change parts (token c.args.offset c.args.word.now) m)) c.mark_of-mark.ensures (c.change.ensures.takes scope parts is))
+returns-then-has_ended-clause-takes c wanted parts is = subst (Takes wanted c.change.result c.change.new.self)
+    (sym (ap (λ test. if test then change parts (token c.args.offset c.args.word.now) (mark_of (slice_index c.args.word.now 0)) else declaration parts
+    c.args.offset (keyword_of c.args.word.now)) (sym is.ended_is ∙ sym c.has_ended.ensures ∙ c.if-has_ended.true)))
+    (subst (λ (m : Mark). Takes wanted c.change.result c.change.new.self (change parts (token c.args.offset c.args.word.now) m)) c.mark_of-mark.ensures
+    (c.change.ensures.takes wanted parts is))
 
 pub returns-else-has_ended-clause-takes : goal.returns-else-has_ended-clause-takes
 unfolding next beginning
-returns-else-has_ended-clause-takes c scope parts is = subst (Takes scope c.begin_declaration.result c.begin_declaration.new.self) (sym (ap (λ test. if test then change parts (token c.args.offset c.args.word.now) (mark_of (slice_index c.args.word.now 0)) else declaration parts c.args.offset (keyword_of c.args.word.now)) (sym is.ended_is ∙ sym c.has_ended.ensures ∙ c.if-has_ended.false)))
-    (subst (λ (k : Keyword). Takes scope c.begin_declaration.result c.begin_declaration.new.self (declaration parts c.args.offset k)) c.keyword_of-keyword.ensures (c.begin_declaration.ensures.takes scope parts is))
+returns-else-has_ended-clause-takes c wanted parts is = subst (Takes wanted c.begin_declaration.result c.begin_declaration.new.self)
+    (sym (ap (λ test. if test then change parts (token c.args.offset c.args.word.now) (mark_of (slice_index c.args.word.now 0)) else declaration parts
+    c.args.offset (keyword_of c.args.word.now)) (sym is.ended_is ∙ sym c.has_ended.ensures ∙ c.if-has_ended.false)))
+    (subst (λ (k : Keyword). Takes wanted c.begin_declaration.result c.begin_declaration.new.self (declaration parts c.args.offset k))
+    c.keyword_of-keyword.ensures (c.begin_declaration.ensures.takes wanted parts is (sym is.ended_is ∙ sym c.has_ended.ensures ∙ c.if-has_ended.false)))

@@ -7,8 +7,15 @@ use Rattle.vcd_read.proofs.parser.Parser.definitions_end.Goals as goal
 
 pub returns-then-not-is_end-clause-takes : goal.returns-then-not-is_end-clause-takes
 unfolding next
-returns-then-not-is_end-clause-takes c scope parts is = refused (is_end c.args.word.now) c.args.offset _ (sym c.is_end.ensures ∙ c.if-not-is_end.true)
+returns-then-not-is_end-clause-takes c wanted parts is = refused (is_end c.args.word.now) c.args.offset _ (sym c.is_end.ensures ∙ c.if-not-is_end.true)
 
-pub returns-clause-takes : goal.returns-clause-takes
+pub returns-in-Ok-clause-takes : goal.returns-in-Ok-clause-takes
 unfolding next
-returns-clause-takes c scope parts is = (record { awaited = Beginning; parts = Ends ∷ parts }, (granted (is_end c.args.word.now) c.args.offset _ (sym c.is_end.ensures ∙ c.if-not-is_end.false), record { dump_is = c.end_declarations.ensures.stands scope parts is; awaited_is = refl }))
+returns-in-Ok-clause-takes c wanted parts is = (
+  record { awaited = Beginning; parts = Ends ∷ parts },
+  (
+    granted (is_end c.args.word.now) c.args.offset _ (sym
+        c.is_end.ensures ∙ c.if-not-is_end.false),
+    record { dump_is = c.in-Ok.ensures.stands wanted parts is; awaited_is = refl },
+  ),
+)

@@ -8,14 +8,18 @@ use Rattle.vcd_read.proofs.parser.Parser.scope_end.Goals as goal
 
 pub returns-then-not-is_end-clause-takes : goal.returns-then-not-is_end-clause-takes
 unfolding next
-returns-then-not-is_end-clause-takes c scope parts is = refused (is_end c.args.word.now) c.args.offset _ (sym c.is_end.ensures ∙ c.if-not-is_end.true)
+returns-then-not-is_end-clause-takes c wanted parts is = refused (is_end c.args.word.now) c.args.offset _ (sym c.is_end.ensures ∙ c.if-not-is_end.true)
 
 pub returns-in-Ok-clause-takes : goal.returns-in-Ok-clause-takes
 unfolding next
-returns-in-Ok-clause-takes c scope parts is = (
+returns-in-Ok-clause-takes c wanted parts is = (
   record { awaited = Beginning; parts = Opens c.args.self.now.name ∷ parts },
   (
     granted (is_end c.args.word.now) c.args.offset _ (sym c.is_end.ensures ∙ c.if-not-is_end.false),
-    record { dump_is = subst (λ (n : List ℕ). dumps.StandsFor scope c.open_scope.new.self (Opens n ∷ parts)) c.as_slice.ensures (c.in-Ok.ensures.stands scope parts is); awaited_is = refl },
+    record {
+      dump_is = subst (λ (n : List ℕ). dumps.StandsFor wanted c.open_scope.new.self (Opens n ∷ parts)) c.as_slice.ensures (c.in-Ok.ensures.stands
+          wanted parts is);
+      awaited_is = refl;
+    },
   ),
 )

@@ -6,8 +6,15 @@ use Rattle.vcd_read.proofs.parser.Parser.scope_name.Goals as goal
 
 pub returns-then-is_end-clause-takes : goal.returns-then-is_end-clause-takes
 unfolding next
-returns-then-is_end-clause-takes c scope parts is = refused (not (is_end c.args.word.now)) c.args.offset _ (ap not (sym c.is_end.ensures ∙ c.if-is_end.true))
+returns-then-is_end-clause-takes c wanted parts is = refused (not (is_end c.args.word.now)) c.args.offset _ (ap not (sym c.is_end.ensures ∙ c.if-is_end.true))
 
 pub returns-clause-takes : goal.returns-clause-takes
 unfolding next
-returns-clause-takes c scope parts is = (record { awaited = ScopeEnd c.args.word.now; parts = parts }, (granted (not (is_end c.args.word.now)) c.args.offset _ (ap not (sym c.is_end.ensures ∙ c.if-is_end.false)), record { dump_is = is; awaited_is = ap ScopeEnd (sym c.in_ok-self.ensures.ok) }))
+returns-clause-takes c wanted parts is = (
+  record { awaited = ScopeEnd c.args.word.now; parts = parts },
+  (
+    granted (not (is_end c.args.word.now)) c.args.offset
+        _ (ap not (sym c.is_end.ensures ∙ c.if-is_end.false)),
+    record { dump_is = is; awaited_is = ap ScopeEnd (sym c.in_ok-self.ensures.ok) },
+  ),
+)

@@ -8,9 +8,11 @@ use Rattle.vcd_read.proofs.parser.Parser.var_end.Goals as goal
 
 pub returns-then-not-is_end-clause-takes : goal.returns-then-not-is_end-clause-takes
 unfolding next
-returns-then-not-is_end-clause-takes c scope parts is may = refused (is_end c.args.word.now) c.args.offset _ (sym c.is_end.ensures ∙ c.if-not-is_end.true)
+returns-then-not-is_end-clause-takes c wanted parts is may = refused (is_end c.args.word.now) c.args.offset _ (sym c.is_end.ensures ∙ c.if-not-is_end.true)
 
 pub returns-clause-takes : goal.returns-clause-takes
 unfolding next
-returns-clause-takes c scope parts is may =
-    subst (Takes scope c.declare.result c.declare.new.self) (sym (granted (is_end c.args.word.now) c.args.offset (reach Beginning (Declares c.args.self.now.width c.args.self.now.code c.args.self.now.name ∷ parts)) (sym c.is_end.ensures ∙ c.if-not-is_end.false))) (c.declare.ensures.takes scope parts is may)
+returns-clause-takes c wanted parts is may =
+    subst (Takes wanted c.declare.result c.declare.new.self) (sym (granted (is_end c.args.word.now) c.args.offset (reach Beginning (Declares
+    c.args.self.now.width c.args.self.now.code c.args.self.now.name ∷ parts)) (sym c.is_end.ensures
+    ∙ c.if-not-is_end.false))) (c.declare.ensures.takes wanted parts is may)

@@ -13,5 +13,6 @@ returns c = on_ok_weaker c.add_name.result (λ has before codes scope code parts
     let name_is = subst (λ (n : List ℕ). HasName (number_of mid.names n) mid.names mid.numbers new n number) c.bare_name.ensures has in
     let names_are = subst (λ (ns : List (List ℕ)). HasName (number_of ns bare) ns mid.numbers new bare number) c.add_clock.ensures.names name_is in
     let numbers_are = subst (λ (ns : List ℕ). HasName (number_of old.names bare) old.names ns new bare number) c.add_clock.ensures.numbers names_are in
-    declare-inside before codes keeps scope c.args.width code c.args.name.now parts within number at old new (c.add_name.ensures.clock ∙ c.add_clock.ensures.clock) numbers_are are)
+    declare-inside before codes keeps scope c.args.width code c.args.name.now parts within number at old new (c.add_name.ensures.clock
+    ∙ c.add_clock.ensures.clock) numbers_are are)
     c.add_name.ensures.name

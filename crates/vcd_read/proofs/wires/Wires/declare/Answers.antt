@@ -18,7 +18,9 @@ returns-clause-keeps c = subst (KeepsNumbers c.args.self.now.codes) (sym c.in_ok
 pub returns-clause-stands : goal.returns-clause-stands
 returns-clause-stands c parts name are may =
     let old = c.args.self.now in
-    let wires : c.push-2.new.self ≡ old.wires ++ record { width = c.args.width; block = 0; earlier = None; current = None } ∷ [] = c.in_ok-push-2.ensures.ok ∙ ap (λ (w : Wire). old.wires ++ w ∷ []) c.new.ensures in
-    subst (λ (codes : List (List ℕ)). AreWires codes c.push-2.new.self old.block (Declares c.args.width c.args.code.now name ∷ parts)) (sym c.in_ok-push.ensures)
+    let wires : c.push-2.new.self ≡ old.wires ++ record { width = c.args.width; block = 0; earlier = None; current = None } ∷ [] = c.in_ok-push-2.ensures.ok
+    ∙ ap (λ (w : Wire). old.wires ++ w ∷ []) c.new.ensures in
+    subst (λ (codes : List (List ℕ)). AreWires codes c.push-2.new.self old.block (Declares c.args.width c.args.code.now name ∷ parts))
+    (sym c.in_ok-push.ensures)
     (subst (λ (ws : List Wire). AreWires (old.codes ++ c.args.code.now ∷ []) ws old.block (Declares c.args.width c.args.code.now name ∷ parts)) (sym wires)
     (declare-new old.codes old.wires old.block c.args.width parts c.args.code.now name are may (sym c.in_default.ensures)))
