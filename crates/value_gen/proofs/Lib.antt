@@ -1,4 +1,5 @@
 mod Weights
 mod MadeLemmas
+mod RoomLemmas
 pub mod FitLemmas
 mod Examples

@@ -1,5 +1,5 @@
 -- What draws make, step by step.
-use Rattle.std.proofs.Common.{◌≡◌, ◌∙◌, ℕ, zero, suc, ◌+◌, ◌-◌, ◌*◌, ◌/◌, ◌%◌, ◌^◌, ◌<◌, Bool, true, false, cond, ltb, List, [], ◌∷◌, ◌++◌, length, get_or, Option, Some, None, Result, sym, ap, subst, arith}
+use Rattle.std.proofs.Common.{◌≡◌, ◌∙◌, ℕ, zero, suc, ◌+◌, ◌-◌, ◌*◌, ◌/◌, ◌%◌, ◌^◌, ◌<◌, Bool, true, false, cond, ltb, List, [], ◌∷◌, ◌++◌, length, get_or, Option, Some, None, sym, ap, subst, arith}
 use Rattle.std.proofs.lemmas.Bool.{ltb-true}
 use Rattle.std.proofs.lemmas.Bool.Decides.{nat_tests}
 use native.Mathlib.Nat.{mod-lt}
@@ -11,7 +11,7 @@ use Rattle.logical_types.specs.Tree as types
 use Rattle.logical_types.proofs.PlainLemmas.{number_of_parts-plain}
 use Rattle.logical_value.specs.declared.value.Value.{Value}
 use Rattle.logical_value.specs.declared.value.Value.TheVariants as values
-use Rattle.value_gen.specs.Draws.{Drawn, Makes, bits_from, draw_after, made_by}
+use Rattle.value_gen.specs.Draws.{Drawn, bits_from, draw_after, made_by}
 use Rattle.value_gen.specs.Made.{element, selected, variant}
 
 pub drawn-small : (last : ℕ) → draw_after last < 65536
@@ -57,12 +57,12 @@ selected-so parts number one last value boxed final within is made held =
     ap (made_by (values.Union number)) (variant-found parts number one last within is ∙ made)
     ∙ ap (λ (v : Value). record { made = values.Union number v; last = final }) (sym held)
 
-pub union-so : {E : Type 0} (parts : List Part) (number draw wide last next : ℕ) (result : Result Value E) (final : ℕ) → wide ≡ draw
-    → number ≡ wide / 256 % length parts → draw ≡ draw_after last
-    → next ≡ draw → Makes (selected number (plain_parts parts) next) result final → Makes (element (types.union (plain_parts parts)) last) result final
-union-so parts number draw wide last next result final same is drawn after made =
+-- what holds of the variant that is drawn holds of the Union
+pub union-so : (P : Drawn Value → Type 0) (parts : List Part) (number draw wide last next : ℕ) → wide ≡ draw → number ≡ wide / 256 % length parts → draw ≡ draw_after last
+    → next ≡ draw → P (selected number (plain_parts parts) next) → P (element (types.union (plain_parts parts)) last)
+union-so P parts number draw wide last next same is drawn after holds =
     let many = number_of_parts-plain parts in
     let number_is : number ≡ draw_after last / 256 % number_of_parts (plain_parts parts) =
     is ∙ ap (λ (n : ℕ). n / 256 % length parts) (same ∙ drawn) ∙ ap (λ (n : ℕ). draw_after last / 256 % n) (sym many) in
-    subst (λ (n : ℕ). Makes (selected n (plain_parts parts) (draw_after last)) result final) number_is
-    (subst (λ (n : ℕ). Makes (selected number (plain_parts parts) n) result final) (after ∙ drawn) made)
+    subst (λ (n : ℕ). P (selected n (plain_parts parts) (draw_after last))) number_is
+    (subst (λ (n : ℕ). P (selected number (plain_parts parts) n)) (after ∙ drawn) holds)
