@@ -67,12 +67,15 @@ abbrev pub sets_inside : List PlainStreamlet → List ImplNets → ℕ → Plain
 sets_inside streamlets impls number one =
     flat_map (sets_of_net (map component_of streamlets) number (instances_inside one.body)) (nets_of impls number)
 
+-- each architecture of streamlets with these nets has the assignments of its nets
+abbrev pub AreAssignedOnce : List PlainStreamlet → Nets → Type 0
+AreAssignedOnce streamlets nets = (number : ℕ) (one : PlainStreamlet) → slice_get streamlets number ≡ Some one
+    → AreAssignments (map component_of streamlets) number (instances_inside one.body) (nets_of nets.impls number)
+    (sets_inside streamlets nets.impls number one)
+
 -- the law of assignments in each architecture of a project
 abbrev pub EachSignalIsAssignedOnce : Type 0
-EachSignalIsAssignedOnce = (project : PlainProject) (nets : Nets) → IsDesigned project nets
-    → (number : ℕ) (one : PlainStreamlet) → slice_get project.streamlets number ≡ Some one
-    → AreAssignments (map component_of project.streamlets) number (instances_inside one.body) (nets_of nets.impls number)
-    (sets_inside project.streamlets nets.impls number one)
+EachSignalIsAssignedOnce = (project : PlainProject) (nets : Nets) → IsDesigned project nets → AreAssignedOnce project.streamlets nets
 
 -- ---- the streams of a net
 
@@ -82,14 +85,17 @@ pub record AreDriven (source sink : List PortStream) (channels : List Channel) :
   pub of_sink : length channels ≡ length sink
   pub may : All (λ (channel : Channel). MayDrive channel.sending.stream.params channel.receiving.stream.params) channels
 
--- so it is with the nets that the check of links gives
-abbrev pub CheckedNetsAreDriven : Type 0
-CheckedNetsAreDriven = (streamlets : List PlainStreamlet) (nets : Nets) → AreNets streamlets nets
-    → (number : ℕ) (one : PlainStreamlet) → slice_get streamlets number ≡ Some one
+-- so it is with each of these nets of streamlets
+abbrev pub AreNetsDriven : List PlainStreamlet → Nets → Type 0
+AreNetsDriven streamlets nets = (number : ℕ) (one : PlainStreamlet) → slice_get streamlets number ≡ Some one
     → (net : Net) → Contains (nets_of nets.impls number) net
     → AreDriven (streams_at (map component_of streamlets) number (instances_inside one.body) net.source)
     (streams_at (map component_of streamlets) number (instances_inside one.body) net.sink)
     (channels_in (map component_of streamlets) number (instances_inside one.body) net)
+
+-- and with all nets that the check of links gives
+abbrev pub CheckedNetsAreDriven : Type 0
+CheckedNetsAreDriven = (streamlets : List PlainStreamlet) (nets : Nets) → AreNets streamlets nets → AreNetsDriven streamlets nets
 
 -- ---- what arrives
 
@@ -111,11 +117,14 @@ trace_at heads ends steps = record { cycles = length steps; heads = heads; rows 
 
 -- under the assignments of an architecture, the trace at the receiving ends of a net is the one that arrives where that at the sending ends
 -- is carried there
-abbrev pub CheckedNetsCarry : Type 0
-CheckedNetsCarry = (streamlets : List PlainStreamlet) (nets : Nets) → AreNets streamlets nets
-    → (number : ℕ) (one : PlainStreamlet) → slice_get streamlets number ≡ Some one
+abbrev pub DoNetsCarry : List PlainStreamlet → Nets → Type 0
+DoNetsCarry streamlets nets = (number : ℕ) (one : PlainStreamlet) → slice_get streamlets number ≡ Some one
     → (net : Net) → Contains (nets_of nets.impls number) net
     → (steps : List Words) → All (λ (words : Words). All (IsKept words) (sets_inside streamlets nets.impls number one)) steps
     → (from to : List Head)
     → trace_at to (receiving_ends (channels_in (map component_of streamlets) number (instances_inside one.body) net)) steps
     ≡ carried to (trace_at from (sending_ends (channels_in (map component_of streamlets) number (instances_inside one.body) net)) steps)
+
+-- so it is with the nets that the check of links gives
+abbrev pub CheckedNetsCarry : Type 0
+CheckedNetsCarry = (streamlets : List PlainStreamlet) (nets : Nets) → AreNets streamlets nets → DoNetsCarry streamlets nets
