@@ -40,20 +40,19 @@ use Rattle.tydi_tool.specs.Laws.{ReadsOnce, AsksOnce}
 
 -- ---- whatever a command asks for
 
-SaysOfBytes-one : {X : Type 0} (Reads : List ℕ → Result X (List ℕ) → Type 0) (next : X → Ask) (told : Files) (bytes : List ℕ) (a b : Answer) → ReadsOnce Reads →
-    ((x : X) → Reads bytes (Ok x) → SaysBy (Some told) (next x) a → SaysBy (Some told) (next x) b → a ≡ b) →
-    SaysOfBytes Reads (λ x. SaysBy (Some told) (next x) a) bytes a → SaysOfBytes Reads (λ x. SaysBy (Some told) (next x) b) bytes b → a ≡ b
-SaysOfBytes-one {X} Reads next told bytes a b once rest (inl p) (inl q) =
+pub SaysOfBytes-one : {X : Type 0} (Reads : List ℕ → Result X (List ℕ) → Type 0) (Rest : X → Answer → Type 0) (bytes : List ℕ) (a b : Answer) → ReadsOnce Reads →
+    ((x : X) → Reads bytes (Ok x) → Rest x a → Rest x b → a ≡ b) → SaysOfBytes Reads (λ x. Rest x a) bytes a → SaysOfBytes Reads (λ x. Rest x b) bytes b → a ≡ b
+SaysOfBytes-one {X} Reads Rest bytes a b once rest (inl p) (inl q) =
     p.1.1 ∙ ap answers.Refused (once.lines bytes p.0 q.0 p.1.0 q.1.0) ∙ sym q.1.1
-SaysOfBytes-one {X} Reads next told bytes a b once rest (inl p) (inr q) = absurd (once.apart bytes q.0 p.0 q.1.0 p.1.0)
-SaysOfBytes-one {X} Reads next told bytes a b once rest (inr p) (inl q) = absurd (once.apart bytes p.0 q.0 p.1.0 q.1.0)
-SaysOfBytes-one {X} Reads next told bytes a b once rest (inr p) (inr q) =
-    rest p.0 p.1.0 p.1.1 (subst (λ (x : X). SaysBy (Some told) (next x) b) (once.same bytes q.0 p.0 q.1.0 p.1.0) q.1.1)
+SaysOfBytes-one {X} Reads Rest bytes a b once rest (inl p) (inr q) = absurd (once.apart bytes q.0 p.0 q.1.0 p.1.0)
+SaysOfBytes-one {X} Reads Rest bytes a b once rest (inr p) (inl q) = absurd (once.apart bytes p.0 q.0 p.1.0 q.1.0)
+SaysOfBytes-one {X} Reads Rest bytes a b once rest (inr p) (inr q) =
+    rest p.0 p.1.0 p.1.1 (subst (λ (x : X). Rest x b) (once.same bytes q.0 p.0 q.1.0 p.1.0) q.1.1)
 
 SaysOfFile-one : {X : Type 0} (word : List ℕ) (Reads : List ℕ → Result X (List ℕ) → Type 0) (next : X → Ask) (told : Files) (found : Result (List ℕ) Lack) (a b : Answer) → ReadsOnce Reads →
     ((bytes : List ℕ) (x : X) → Reads bytes (Ok x) → SaysBy (Some told) (next x) a → SaysBy (Some told) (next x) b → a ≡ b) →
     SaysOfFile Reads (λ x. SaysBy (Some told) (next x) a) word found a → SaysOfFile Reads (λ x. SaysBy (Some told) (next x) b) word found b → a ≡ b
-SaysOfFile-one {X} word Reads next told (Ok bytes) a b once rest p q = SaysOfBytes-one Reads next told bytes a b once (rest bytes) p q
+SaysOfFile-one {X} word Reads next told (Ok bytes) a b once rest p q = SaysOfBytes-one Reads (λ x c. SaysBy (Some told) (next x) c) bytes a b once (rest bytes) p q
 SaysOfFile-one {X} word Reads next told (Err lack) a b once rest p q = p ∙ sym q
 
 pub SaysBy-one : (told : Files) (ask : Ask) (a b : Answer) → AsksOnce ask → SaysBy (Some told) ask a → SaysBy (Some told) ask b → a ≡ b

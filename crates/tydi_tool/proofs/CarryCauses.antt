@@ -26,7 +26,7 @@ use Rattle.tydi_tool.specs.Outcome.{output_answer}
 use Rattle.tydi_tool.specs.Projects.{ReadsProject}
 use Rattle.tydi_tool.specs.Reading.{ReadsResult, RefusesBy}
 use Rattle.tydi_tool.specs.Refusals.{refusal_line, refusal_of_trace}
-use Rattle.tydi_tool.specs.Words.{Request, Carry, Check, Decode, Drive, Link, Read, Sim, Split, Vhdl, project_file, trace_file}
+use Rattle.tydi_tool.specs.Words.{Request, Carry, Check, Decode, Drive, Link, Read, Sim, Split, Vhdl, Bench, Testbench, project_file, trace_file}
 use Rattle.tydi_tool.proofs.ArrivalLemmas.{cycles-read, read-cycles}
 use Rattle.tydi_tool.proofs.CauseLines.{by_line, line_of, link_text, one_word, trace_text, two_words}
 use Rattle.tydi_tool.proofs.CauseSteps.{Told, gives_text, reaches-read, refuses_project, says-read, says-refused, told-file}
@@ -106,7 +106,7 @@ module _ (known : Files) (project top from to trace : List ℕ) (a : Answer) whe
         rows.NameClash,
         inl (record {
           path = clash.path;
-          clashes = inr (record { words = of_carry words trace; named = refl; read = found.0; project = has; top = number; top_is = named; clash = clash.clash });
+          clashes = inr (inl (record { words = of_carry words trace; named = refl; read = found.0; project = has; top = number; top_is = named; clash = clash.clash }));
           said = said ∙ ap answers.Refused (clash.is ∙ one_word (codes "tydi: ") (codes "NameClash") (codes " ") (path_text clash.path) (codes "\n"));
         }),
       )
@@ -125,7 +125,7 @@ module _ (known : Files) (project top from to trace : List ℕ) (a : Answer) whe
           rows.TextFault,
           record {
             line = line;
-            faulty = inr (inr (inr (inr (inr (inr (record {
+            faulty = inr (inr (inr (inr (inr (inr (inl (record {
               words = of_carry words trace;
               named = refl;
               heads = heads;
@@ -135,7 +135,7 @@ module _ (known : Files) (project top from to trace : List ℕ) (a : Answer) whe
               fault = fault;
               reads = is;
               told = sym (trace_text trace fault) ∙ line_of TraceText (refusal_of_trace trace fault) line refused;
-            }))))));
+            })))))));
             said = said;
           },
         )
@@ -187,6 +187,8 @@ from_carried_words known (Vhdl project) words a named said = absurd cc
 from_carried_words known (Split project port) words a named said = absurd cc
 from_carried_words known (Drive project port value plan) words a named said = absurd cc
 from_carried_words known (Decode project port trace) words a named said = absurd cc
+from_carried_words known (Bench project port value plan) words a named said = absurd cc
+from_carried_words known (Testbench project test) words a named said = absurd cc
 from_carried_words known (Carry project top from to trace) words a named said =
     subst (λ (w : CarryWords). SaysBy (Some known) (carry_ask w.design w.trace) a) (sym
     (same_carry (of_carry (of_design project top from to) trace) words named)) said

@@ -3,7 +3,6 @@ use Rattle.std.proofs.Common.{◌≡◌, ℕ, ◌<◌, ◌≤◌, ◌⊎◌, ◌
 use Rattle.std.proofs.Common.{Ok, Err, codes, decimal, refl, sym, ap, ◌∙◌, subst}
 use Rattle.std.specs.Str.Lossy.{utf8_valid_len}
 use Rattle.tydi_base.specs.Path.{path_text}
-use Rattle.tydi_base.specs.Reading.{◌>>=◌}
 use Rattle.tydi_io.specs.Store.{Files}
 use Rattle.physical_stream.specs.First.{Offence, IsFirst}
 use Rattle.cycle_trace.specs.Trace.{TraceText, streams_of}
@@ -24,6 +23,7 @@ use Rattle.logical_value.specs.declared.value.PortValue.{PortValue}
 use Rattle.plan_text.specs.declared.fault.PlanFault.{PlanFault}
 use Rattle.plan_text.specs.declared.plan.Plan.{Plan}
 use Rattle.handshake.specs.Rows.{StreamRun}
+use Rattle.port_bench.specs.Benches.{bench_text_of}
 use Rattle.port_drive.specs.Drives as driving
 use Rattle.port_drive.specs.Drives.{Undriven, drive_of}
 use Rattle.port_drive.specs.Laws as driven_ports
@@ -40,10 +40,10 @@ use Rattle.tydi_tool.specs.Causes.{driven_in, port_in, project_of, resolved_of, 
 use Rattle.tydi_tool.specs.Causes.{TooLongCause, NotUtf8Cause, LexerCause, ParserCause, ResolverCause, NoPortCause, NameClashCause, NoCarrierCause}
 use Rattle.tydi_tool.specs.Causes.{TextFaultCause, CountNotMultipleCause, NotFinishedCause, LinkFaultCause, CheckedOffence, CheckedUnfinished, OffenceCause}
 use Rattle.tydi_tool.specs.Causes.{UnfinishedCause, DecodeWords, decoded_in, link_line, ChecksLinks, PortClashes, SourceClashes, DesignClashCause}
-use Rattle.tydi_tool.specs.Causes.{at_port}
+use Rattle.tydi_tool.specs.Causes.{at_port, IsUndriven, PortUncarried, TestClashes, TestUncarried}
 use Rattle.tydi_tool.specs.Commands.{ask_of, Says, check_ask, outcome_ask, carried_ask, link_ask, planned_ask, port_ask, run_ask, sim_ask, of_design}
 use Rattle.tydi_tool.specs.Commands.{vhdl_ask}
-use Rattle.tydi_tool.specs.Drives.{TellsDriven, carried, path_of, refused_by, refusal_of_driving}
+use Rattle.tydi_tool.specs.Drives.{TellsBench, TellsDriven, TellsMade, carried, path_of, refusal_of_driving}
 use Rattle.tydi_tool.specs.Files.{NoFile, TooLong}
 use Rattle.tydi_tool.specs.Lines.{legal_text}
 use Rattle.tydi_tool.specs.Outcome.{output_answer, output_limit, output_too_long_line}
@@ -54,6 +54,8 @@ use Rattle.tydi_tool.specs.Reports.{Reports, path_of_stream}
 use Rattle.tydi_tool.specs.Texts.{ReadsPlan, ReadsPlanned}
 use Rattle.tydi_tool.specs.Traces.{ReadsReading, ReadsTrace}
 use Rattle.tydi_tool.specs.Trees.{ReadsCoded, ReadsTokens, ReadsTree, refusal_of_parsing}
+use Rattle.tydi_tool.specs.Tests.{TellsTest}
+use Rattle.tydi_tool.specs.Words as requests
 use Rattle.tydi_tool.specs.Words.{Request, Check, Decode, Drive, Link, Read, Sim, Split, bench_file, project_file, text_file, trace_file, Carry, Vhdl}
 use Rattle.tydi_tool.proofs.AnswerLemmas.{not_read}
 use Rattle.link_check.specs.Checked.{linked}
@@ -78,11 +80,14 @@ use Rattle.tydi_tool.proofs.BenchLemmas.{ReadsBench-read, ReadsRun-read, bench-r
 use Rattle.tydi_tool.proofs.CauseLines.{bench_text, by_line, caused_row, lexer_text, line_of, link_text, one_word, parser_text, plan_text, resolver_text, run_text, same_some, three_words, trace_text, two_words, value_text}
 use Rattle.tydi_tool.proofs.CauseDecodes.{decodes, says-decoded_offence, says-decoded_unfinished, says-disagreement, says-other_header}
 use Rattle.tydi_tool.proofs.CauseDecodes.{says-port_trace_fault, says-value_text, told-decoded}
-use Rattle.tydi_tool.proofs.CauseSteps.{Told, ends_line, over_test, reaches-read, refuses_project, reports_end, refuses_tree, says-found, says-plan}
+use Rattle.tydi_tool.proofs.CauseSteps.{Told, ends_line, plan-refused, over_test, reaches-read, refuses_project, reports_end, refuses_tree, says-found, says-plan}
 use Rattle.tydi_tool.proofs.CauseSteps.{says-planned, says-port, says-read, says-refused, says-uncarried, says-value, says_lack, test_over, test_within}
 use Rattle.tydi_tool.proofs.CauseSteps.{told-carried, told-file, told-planned, told-port, within_test, gives_text}
 use Rattle.tydi_tool.proofs.CarryCauses.{of_carry, says-unread, says_carried_fault, says_carried_text, says_no_path, says_no_streamlet, says_other_header}
 use Rattle.tydi_tool.proofs.CarryCauses.{says_source_clash, says_unlinked, told_carry}
+use Rattle.tydi_tool.proofs.DriveLemmas.{Made}
+use Rattle.tydi_tool.proofs.MadeCauses.{tells-made, tells-unmade, told-made}
+use Rattle.tydi_tool.proofs.TestCauses.{bench_by, of_test, says_no_test, says_test_clash, says_test_plan, says_test_reason, says_test_uncarried, says_test_value, says_testbench_text, told_testbench}
 use Rattle.tydi_tool.proofs.FileLemmas.{file_of-long, file_of-missing}
 
 -- the words of a port of a project, and those of a port that is driven
@@ -177,40 +182,15 @@ reports_trace known trace bytes a survey file reads said = by (trace_of bytes) r
     by (Err fault) is refused = absurd (not_read (refusal_of_trace trace fault) survey refused)
 
 -- a value and a plan drive a port, or do not
-drives_port : (known : Files) (request : Request) (words : DriveWords) (split : PlainSplit) (value : PortValue) (plan : Plan) (a : Answer) → driven_in request ≡ Some words → HasDrive known words split value plan
-    → ((text : List ℕ) → drive_text split (plain_port value) plan ≡ Ok text → IsTextOf known request text) → TellsDriven split value plan a → Told known request a
-drives_port known request words split value plan a named all text says = by (drive_of split (plain_port value) plan.streams) refl says
-  where
-    has_reason : (reason : Undriven) → drive_of split (plain_port value) plan.streams ≡ Err reason → HasReason known request split reason
-    has_reason reason is = record { words = words; named = named; value = value; plan = plan; all = all; is = is }
+drives_port : (known : Files) (request : Request) (words : DriveWords) (split : PlainSplit) (value : PortValue) (plan : Plan) (write : List StreamRun → List ℕ) (a : Answer) → driven_in request ≡ Some words
+    → HasDrive known words split value plan → ((text : List ℕ) → Made split (plain_port value) plan write ≡ Ok text → IsTextOf known request text) → TellsMade split (Made split (plain_port value) plan write) a
+    → Told known request a
+drives_port known request words split value plan write a named all text says =
+    told-made split value plan write a known request (λ reason is. inl (record { words = words; named = named; value = value; plan = plan; all = all; is = is })) text says
 
-    by : (driven : Result (List StreamRun) Undriven) → drive_of split (plain_port value) plan.streams ≡ driven
-        → TellsOf (refused_by split (driven >>= λ runs. Ok (written_text (driven_ports.trace_of split plan.cycles runs)))) (λ t b. b ≡ output_answer t) a → Told known request a
-    by (Ok runs) is says =
-        let made : drive_text split (plain_port value) plan ≡ Ok (written_text (driven_ports.trace_of split plan.cycles runs)) =
-        ap (λ (r : Result (List StreamRun) Undriven). r >>= λ some. Ok (written_text (driven_ports.trace_of split plan.cycles some))) is in
-        gives_text known request (written_text (driven_ports.trace_of split plan.cycles runs)) a (text (written_text (driven_ports.trace_of split plan.cycles runs)) made) says
-    by (Err (driving.CountNotMultiple stream count lanes)) is says = (
-      rows.CountNotMultiple,
-      record {
-        split = split;
-        stream = stream;
-        count = count;
-        lanes = lanes;
-        reason = has_reason (driving.CountNotMultiple stream count lanes) is;
-        said = says ∙ ap answers.Refused (three_words (codes "tydi: ") (codes "CountNotMultiple") (codes " ") (path_text (path_of split stream)) (decimal count) (decimal lanes) (codes "\n"));
-      },
-    )
-    by (Err (driving.NotFinished stream left)) is says = (
-      rows.NotFinished,
-      record {
-        split = split;
-        stream = stream;
-        left = left;
-        reason = has_reason (driving.NotFinished stream left) is;
-        said = says ∙ ap answers.Refused (two_words (codes "tydi: ") (codes "NotFinished") (codes " ") (path_text (path_of split stream)) (decimal left) (codes "\n"));
-      },
-    )
+-- the text of the trace that the runs of a port make
+abbrev trace_by : PlainSplit → Plan → List StreamRun → List ℕ
+trace_by split plan runs = written_text (driven_ports.trace_of split plan.cycles runs)
 
 -- the text of a bench is refused
 refuses_bench : (known : Files) (bench run bytes line : List ℕ) (a : Answer) → HasBytes known bench 67108864 bytes → ReadsBench bench bytes (Err line) → a ≡ answers.Refused line → Told known (Sim bench run) a
@@ -270,21 +250,27 @@ split_end split = Ends (λ a. a ≡ output_answer (split_text split))
 abbrev driven_next : (value plan : List ℕ) → PlainSplit → Ask
 driven_next value plan split = planned_ask value plan split (TellsDriven split)
 
+abbrev benched_next : (value plan : List ℕ) → PlainSplit → Ask
+benched_next value plan split = planned_ask value plan split (TellsBench split)
+
 abbrev port_next : Request → PlainSplit → Ask
 port_next (Split project port) split = split_end split
 port_next (Drive project port value plan) split = goes_on (carried split) (λ done. driven_next value plan split)
 port_next (Decode project port trace) split = goes_on (carried split) (λ done. outcome_ask trace split)
+port_next (requests.Bench project port value plan) split = goes_on (carried split) (λ done. benched_next value plan split)
 port_next request split = Ends (λ a. ⊥)
 
 -- with the split of a port that is carried
 abbrev carried_next : Request → PlainSplit → Ask
 carried_next (Drive project port value plan) split = driven_next value plan split
 carried_next (Decode project port trace) split = outcome_ask trace split
+carried_next (requests.Bench project port value plan) split = benched_next value plan split
 carried_next request split = Ends (λ a. ⊥)
 
 -- with a value and a plan of its port
 abbrev driven_end : Request → PlainSplit → PortValue → Plan → Answer → Type 0
 driven_end (Drive project port value plan) split read planned a = TellsDriven split read planned a
+driven_end (requests.Bench project port value plan) split read planned a = TellsBench split read planned a
 driven_end request split read planned a = ⊥
 
 -- a bench under a run
@@ -390,7 +376,7 @@ told known (Split project port) a says =
 told known (Drive project port value plan) a says =
     told-carried known (of_project project port) (driven_next value plan) (Drive project port value plan) a refl refl refl refl (inl refl)
     (λ split at said. told-planned known (of_drive project port value plan) TellsDriven (Drive project port value plan) a refl split at (λ other reached. reached)
-    (λ read planned all tells. drives_port known (Drive project port value plan) (of_drive project port value plan) split read planned a refl all
+    (λ read planned all tells. drives_port known (Drive project port value plan) (of_drive project port value plan) split read planned (trace_by split planned) a refl all
     (λ text is. record { split = split; value = read; plan = planned; all = all; is = is }) tells) said) says
 told known (Decode project port trace) a says =
     told-carried known (of_project project port) (outcome_ask trace) (Decode project port trace) a refl refl refl refl (inl refl)
@@ -400,6 +386,12 @@ told known (Sim bench run) a says = told_sim known bench run a says
 told known (Link project) a says = told_link known project a says
 told known (Carry project top from to trace) a says = told_carry known project top from to trace a says
 told known (Vhdl project) a says = told_vhdl known project a says
+told known (requests.Bench project port value plan) a says =
+    told-carried known (of_project project port) (benched_next value plan) (requests.Bench project port value plan) a refl refl refl refl (inl refl)
+    (λ split at said. told-planned known (of_drive project port value plan) TellsBench (requests.Bench project port value plan) a refl split at (λ other reached. reached)
+    (λ read planned all tells. drives_port known (requests.Bench project port value plan) (of_drive project port value plan) split read planned (bench_by split) a refl all
+    (λ text is. record { split = split; value = read; plan = planned; all = all; is = is }) tells) said) says
+told known (requests.Testbench project test) a says = told_testbench known project test a says
 
 -- ---- a cause gives its answer
 
@@ -427,12 +419,15 @@ from_port known (Sim bench run) words a named said = absurd cc
 from_port known (Link project) words a named said = absurd cc
 from_port known (Carry project top from to trace) words a named said = absurd cc
 from_port known (Vhdl project) words a named said = absurd cc
+from_port known (requests.Testbench project test) words a named said = absurd cc
 from_port known (Split project port) words a named said =
     subst (λ (w : PortWords). SaysBy (Some known) (port_ask w.project w.port split_end) a) (sym (same_words (of_project project port) words named)) said
 from_port known (Drive project port value plan) words a named said =
     subst (λ (w : PortWords). SaysBy (Some known) (carried_ask w.project w.port (driven_next value plan)) a) (sym (same_words (of_project project port) words named)) said
 from_port known (Decode project port trace) words a named said =
     subst (λ (w : PortWords). SaysBy (Some known) (carried_ask w.project w.port (outcome_ask trace)) a) (sym (same_words (of_project project port) words named)) said
+from_port known (requests.Bench project port value plan) words a named said =
+    subst (λ (w : PortWords). SaysBy (Some known) (carried_ask w.project w.port (benched_next value plan)) a) (sym (same_words (of_project project port) words named)) said
 
 -- the same of a port that has to be carried
 from_carried : (known : Files) (request : Request) (words : PortWords) (a : Answer) → carried_in request ≡ Some words → SaysBy (Some known) (carried_ask words.project words.port (carried_next request)) a
@@ -443,11 +438,14 @@ from_carried known (Sim bench run) words a named said = absurd cc
 from_carried known (Link project) words a named said = absurd cc
 from_carried known (Carry project top from to trace) words a named said = absurd cc
 from_carried known (Vhdl project) words a named said = absurd cc
+from_carried known (requests.Testbench project test) words a named said = absurd cc
 from_carried known (Split project port) words a named said = absurd cc
 from_carried known (Drive project port value plan) words a named said =
     subst (λ (w : PortWords). SaysBy (Some known) (carried_ask w.project w.port (driven_next value plan)) a) (sym (same_words (of_project project port) words named)) said
 from_carried known (Decode project port trace) words a named said =
     subst (λ (w : PortWords). SaysBy (Some known) (carried_ask w.project w.port (outcome_ask trace)) a) (sym (same_words (of_project project port) words named)) said
+from_carried known (requests.Bench project port value plan) words a named said =
+    subst (λ (w : PortWords). SaysBy (Some known) (carried_ask w.project w.port (benched_next value plan)) a) (sym (same_words (of_project project port) words named)) said
 
 -- the same of a port that is driven
 abbrev drives_by : Request → DriveWords → Ask
@@ -460,10 +458,13 @@ from_driven known (Sim bench run) words a named said = absurd cc
 from_driven known (Link project) words a named said = absurd cc
 from_driven known (Carry project top from to trace) words a named said = absurd cc
 from_driven known (Vhdl project) words a named said = absurd cc
+from_driven known (requests.Testbench project test) words a named said = absurd cc
 from_driven known (Split project port) words a named said = absurd cc
 from_driven known (Decode project port trace) words a named said = absurd cc
 from_driven known (Drive project port value plan) words a named said =
     subst (λ (w : DriveWords). SaysBy (Some known) (drives_by (Drive project port value plan) w) a) (sym (same_driven (of_drive project port value plan) words named)) said
+from_driven known (requests.Bench project port value plan) words a named said =
+    subst (λ (w : DriveWords). SaysBy (Some known) (drives_by (requests.Bench project port value plan) w) a) (sym (same_driven (of_drive project port value plan) words named)) said
 
 -- the same of a port that is decoded
 from_decoded : (known : Files) (request : Request) (words : DecodeWords) (a : Answer) → decoded_in request ≡ Some words → SaysBy (Some known) (decodes known words) a → SaysBy (Some known) (ask_of request) a
@@ -472,6 +473,8 @@ from_decoded known (Read project) words a named said = absurd cc
 from_decoded known (Sim bench run) words a named said = absurd cc
 from_decoded known (Link project) words a named said = absurd cc
 from_decoded known (Vhdl project) words a named said = absurd cc
+from_decoded known (requests.Bench project port value plan) words a named said = absurd cc
+from_decoded known (requests.Testbench project test) words a named said = absurd cc
 from_decoded known (Split project port) words a named said = absurd cc
 from_decoded known (Drive project port value plan) words a named said = absurd cc
 from_decoded known (Carry project top from to trace) words a named said = absurd cc
@@ -527,6 +530,15 @@ says_project known (Vhdl name) word bytes line a project refused said =
     let same = same_name name word project.word_is in
     says-refused known (project_file name) (ReadsProject name) (λ read. Ends (TellsDesign name read)) a bytes line
     (subst (λ (w : List ℕ). HasBytes known w 4194304 bytes) (sym same) project.file) (subst (λ (w : List ℕ). ReadsProject w bytes (Err line)) (sym same) refused) said
+says_project known (requests.Bench name port value plan) word bytes line a project refused said =
+    let same = same_name name word project.word_is in
+    from_port known (requests.Bench name port value plan) (of_project name port) a refl
+    (refused_in_port known (of_project name port) (port_next (requests.Bench name port value plan)) bytes line a
+    (subst (λ (w : List ℕ). HasBytes known w 4194304 bytes) (sym same) project.file) (subst (λ (w : List ℕ). ReadsProject w bytes (Err line)) (sym same) refused) said)
+says_project known (requests.Testbench name test) word bytes line a project refused said =
+    let same = same_name name word project.word_is in
+    says-refused known (project_file name) (ReadsProject name) (λ read. Ends (TellsTest read test)) a bytes line
+    (subst (λ (w : List ℕ). HasBytes known w 4194304 bytes) (sym same) project.file) (subst (λ (w : List ℕ). ReadsProject w bytes (Err line)) (sym same) refused) said
 
 -- the text of a command's project is refused
 says_tree : (known : Files) (request : Request) (word bytes line : List ℕ) (a : Answer) → HasText known (project_of request) 4194304 word bytes → ReadsTree word bytes (Err line) → a ≡ answers.Refused line
@@ -549,6 +561,10 @@ says_tree known (Carry name top from to trace) word bytes line a project refused
     says_project known (Carry name top from to trace) word bytes line a (record { word_is = project.word_is; file = project.file }) (inl refused) said
 says_tree known (Vhdl name) word bytes line a project refused said =
     says_project known (Vhdl name) word bytes line a (record { word_is = project.word_is; file = project.file }) (inl refused) said
+says_tree known (requests.Bench name port value plan) word bytes line a project refused said =
+    says_project known (requests.Bench name port value plan) word bytes line a (record { word_is = project.word_is; file = project.file }) (inl refused) said
+says_tree known (requests.Testbench name test) word bytes line a project refused said =
+    says_project known (requests.Testbench name test) word bytes line a (record { word_is = project.word_is; file = project.file }) (inl refused) said
 
 says_not_utf8 : (known : Files) (request : Request) (a : Answer) → NotUtf8Cause known request a → SaysBy (Some known) (ask_of request) a
 says_not_utf8 known request a cause =
@@ -601,15 +617,24 @@ says_port_clash known request path a cause said =
 says_name_clash : (known : Files) (request : Request) (a : Answer) → NameClashCause known request a → SaysBy (Some known) (ask_of request) a
 says_name_clash known request a cause = by cause.clashes
   where
-    by : PortClashes known request cause.path ⊎ SourceClashes known request cause.path → SaysBy (Some known) (ask_of request) a
+    by : PortClashes known request cause.path ⊎ (SourceClashes known request cause.path ⊎ TestClashes known request cause.path) → SaysBy (Some known) (ask_of request) a
     by (inl port) = says_port_clash known request cause.path a port cause.said
-    by (inr source) = says_source_clash known request cause.path a source cause.said
+    by (inr (inl source)) = says_source_clash known request cause.path a source cause.said
+    by (inr (inr test)) = says_test_clash known request a cause.path test cause.said
+
+says_port_uncarried : (known : Files) (request : Request) (path : List (List ℕ)) (a : Answer) → PortUncarried known request path
+    → a ≡ answers.Refused (codes "tydi: NoCarrier " ++ path_text path ++ codes "\n") → SaysBy (Some known) (ask_of request) a
+says_port_uncarried known request path a cause said =
+    from_carried known request cause.words a cause.named
+    (says-uncarried known cause.words (carried_next request) a cause.split (Some path) cause.split_is cause.uncarried
+    (said ∙ ap answers.Refused (sym (one_word (codes "tydi: ") (codes "NoCarrier") (codes " ") (path_text path) (codes "\n")))))
 
 says_no_carrier : (known : Files) (request : Request) (a : Answer) → NoCarrierCause known request a → SaysBy (Some known) (ask_of request) a
-says_no_carrier known request a cause =
-    from_carried known request cause.words a cause.named
-    (says-uncarried known cause.words (carried_next request) a cause.split (Some cause.path) cause.split_is cause.uncarried
-    (cause.said ∙ ap answers.Refused (sym (one_word (codes "tydi: ") (codes "NoCarrier") (codes " ") (path_text cause.path) (codes "\n")))))
+says_no_carrier known request a cause = by cause.uncarried
+  where
+    by : PortUncarried known request cause.path ⊎ TestUncarried known request cause.path → SaysBy (Some known) (ask_of request) a
+    by (inl port) = says_port_uncarried known request cause.path a port cause.said
+    by (inr test) = says_test_uncarried known request a cause.path test cause.said
 
 -- a text that has no reading
 says_trace_fault : (known : Files) (request : Request) (line : List ℕ) (a : Answer) → HasTraceFault known request line → a ≡ answers.Refused line → SaysBy (Some known) (ask_of request) a
@@ -618,6 +643,8 @@ says_trace_fault known (Sim bench run) line a has said = absurd (no_word has.wor
 says_trace_fault known (Link name) line a has said = absurd (no_word has.word has.trace.word_is)
 says_trace_fault known (Carry name top from to trace) line a has said = absurd (no_word has.word has.trace.word_is)
 says_trace_fault known (Vhdl name) line a has said = absurd (no_word has.word has.trace.word_is)
+says_trace_fault known (requests.Bench name port value plan) line a has said = absurd (no_word has.word has.trace.word_is)
+says_trace_fault known (requests.Testbench name test) line a has said = absurd (no_word has.word has.trace.word_is)
 says_trace_fault known (Split name port) line a has said = absurd (no_word has.word has.trace.word_is)
 says_trace_fault known (Drive name port value plan) line a has said = absurd (no_word has.word has.trace.word_is)
 says_trace_fault known (Decode name port trace) line a has said = absurd (no_word has.word has.trace.word_is)
@@ -639,11 +666,8 @@ says_value_fault known request line a has said =
 says_plan_fault : (known : Files) (request : Request) (line : List ℕ) (a : Answer) → HasPlanFault known request line → a ≡ answers.Refused line → SaysBy (Some known) (ask_of request) a
 says_plan_fault known request line a has said =
     from_driven known request has.words a has.named
-    (says-plan known has.words (driven_end request) a has.split has.at has.value has.value_is has.bytes line has.file refused said)
-  where
-    refused : ReadsPlan has.words.plan has.split has.bytes (Err line)
-    refused = subst (λ (read : Result Plan PlanFault). ReadsPlanned has.words.plan read (Err line)) (sym has.reads)
-        (by_line Plan (refusal_of_plan has.words.plan has.fault) line (plan_text has.words.plan has.fault ∙ has.told))
+    (says-plan known has.words (driven_end request) a has.split has.at has.value has.value_is has.bytes line has.file
+    (plan-refused has.words.plan has.split has.bytes line has.fault has.reads has.told) said)
 
 -- a bench and a run
 same_simulated : (one other : SimWords) → ◌≡◌ {A = Option SimWords} (Some one) (Some other) → one ≡ other
@@ -658,6 +682,8 @@ from_simulated known (Link project) words a named said = absurd cc
 from_simulated known (Decode project port trace) words a named said = absurd cc
 from_simulated known (Carry project top from to trace) words a named said = absurd cc
 from_simulated known (Vhdl project) words a named said = absurd cc
+from_simulated known (requests.Bench project port value plan) words a named said = absurd cc
+from_simulated known (requests.Testbench project test) words a named said = absurd cc
 from_simulated known (Sim bench run) words a named said =
     subst (λ (w : SimWords). SaysBy (Some known) (sim_ask w.bench w.run) a) (sym (same_simulated (record { bench = bench; run = run }) words named)) said
 
@@ -666,7 +692,7 @@ says-benched : (known : Files) (bench run : List ℕ) (a : Answer) (read : Bench
 says-benched known bench run a read has said =
     says-read known (bench_file bench) (ReadsBench bench) (run_ask run) a has.bytes read has.file (ReadsBench-read bench has.bytes read has.reads) said
 
-says-simulated : (known : Files) (bench run : List ℕ) (a : Answer) (read : Bench) (made : SimRun) → HasBench known bench read → HasRun known read run made → a ≡ output_answer (trace_text_of read made)
+pub says-simulated : (known : Files) (bench run : List ℕ) (a : Answer) (read : Bench) (made : SimRun) → HasBench known bench read → HasRun known read run made → a ≡ output_answer (trace_text_of read made)
     → SaysBy (Some known) (sim_ask bench run) a
 says-simulated known bench run a read made has has_run said =
     says-benched known bench run a read has
@@ -699,20 +725,16 @@ says_text_fault known request line a (inr (inr (inl has))) said = says_plan_faul
 says_text_fault known request line a (inr (inr (inr (inl has)))) said = says_bench_fault known request line a has said
 says_text_fault known request line a (inr (inr (inr (inr (inl has))))) said = says_run_fault known request line a has said
 says_text_fault known request line a (inr (inr (inr (inr (inr (inl has)))))) said = from_decoded known request has.words a has.named (says-port_trace_fault known has.words request line a has refl said)
-says_text_fault known request line a (inr (inr (inr (inr (inr (inr has)))))) said = says_carried_fault known request line a has said
+says_text_fault known request line a (inr (inr (inr (inr (inr (inr (inl has))))))) said = says_carried_fault known request line a has said
+says_text_fault known request line a (inr (inr (inr (inr (inr (inr (inr (inl has)))))))) said = says_test_value known request a line has said
+says_text_fault known request line a (inr (inr (inr (inr (inr (inr (inr (inr has)))))))) said = says_test_plan known request a line has said
 
 -- a port that is not driven
-says_reason : (known : Files) (request : Request) (split : PlainSplit) (reason : Undriven) (a : Answer) → HasReason known request split reason → a ≡ answers.Refused (refusal_line (refusal_of_driving split reason))
-    → SaysBy (Some known) (ask_of request) a
-says_reason known request split reason a has said =
+says_file_reason : (known : Files) (request : Request) (split : PlainSplit) (reason : Undriven) (a : Answer) → HasReason known request split reason
+    → a ≡ answers.Refused (refusal_line (refusal_of_driving split reason)) → SaysBy (Some known) (ask_of request) a
+says_file_reason known request split reason a has said =
     from_driven known request has.words a has.named (says-planned known has.words (driven_end request) a split has.value has.plan has.all (ends request has.named))
   where
-    none : drive_text split (plain_port has.value) has.plan ≡ Err reason
-    none = ap (λ (r : Result (List StreamRun) Undriven). r >>= λ some. Ok (written_text (driven_ports.trace_of split has.plan.cycles some))) has.is
-
-    tells : TellsDriven split has.value has.plan a
-    tells = subst (λ (r : Result (List ℕ) Undriven). TellsOf (refused_by split r) (λ t b. b ≡ output_answer t) a) (sym none) said
-
     ends : (asked : Request) → driven_in asked ≡ Some has.words → driven_end asked split has.value has.plan a
     ends (Check trace) named = absurd cc
     ends (Read project) named = absurd cc
@@ -722,7 +744,14 @@ says_reason known request split reason a has said =
     ends (Vhdl project) named = absurd cc
     ends (Split project port) named = absurd cc
     ends (Decode project port trace) named = absurd cc
-    ends (Drive project port value plan) named = tells
+    ends (requests.Testbench project test) named = absurd cc
+    ends (Drive project port value plan) named = tells-unmade split has.value has.plan (trace_by split has.plan) a reason has.is said
+    ends (requests.Bench project port value plan) named = tells-unmade split has.value has.plan (bench_by split) a reason has.is said
+
+says_reason : (known : Files) (request : Request) (split : PlainSplit) (reason : Undriven) (a : Answer) → IsUndriven known request split reason → a ≡ answers.Refused (refusal_line (refusal_of_driving split reason))
+    → SaysBy (Some known) (ask_of request) a
+says_reason known request split reason a (inl has) said = says_file_reason known request split reason a has said
+says_reason known request split reason a (inr has) said = says_test_reason known request a split reason has said
 
 says_count : (known : Files) (request : Request) (a : Answer) → CountNotMultipleCause known request a → SaysBy (Some known) (ask_of request) a
 says_count known request a cause =
@@ -760,6 +789,8 @@ says_design_clash known (Read name) a cause = absurd (no_word cause.word cause.n
 says_design_clash known (Sim bench run) a cause = absurd (no_word cause.word cause.named)
 says_design_clash known (Split name port) a cause = absurd (no_word cause.word cause.named)
 says_design_clash known (Drive name port value plan) a cause = absurd (no_word cause.word cause.named)
+says_design_clash known (requests.Bench name port value plan) a cause = absurd (no_word cause.word cause.named)
+says_design_clash known (requests.Testbench name test) a cause = absurd (no_word cause.word cause.named)
 says_design_clash known (Link name) a cause = absurd (no_word cause.word cause.named)
 says_design_clash known (Decode name port trace) a cause = absurd (no_word cause.word cause.named)
 says_design_clash known (Carry name top from to trace) a cause = absurd (no_word cause.word cause.named)
@@ -779,6 +810,8 @@ says_link_fault known (Read name) a cause = absurd cause.checks
 says_link_fault known (Sim bench run) a cause = absurd cause.checks
 says_link_fault known (Split name port) a cause = absurd cause.checks
 says_link_fault known (Drive name port value plan) a cause = absurd cause.checks
+says_link_fault known (requests.Bench name port value plan) a cause = absurd cause.checks
+says_link_fault known (requests.Testbench name test) a cause = absurd cause.checks
 says_link_fault known (Decode name port trace) a cause = absurd cause.checks
 says_link_fault known (Carry name top from to trace) a cause =
     let same = cause.checks.0 in
@@ -820,6 +853,8 @@ checked_offence known (Drive name port value plan) a cause = absurd (no_word cau
 checked_offence known (Decode name port trace) a cause = absurd (no_word cause.word cause.trace.word_is)
 checked_offence known (Carry name top from to trace) a cause = absurd (no_word cause.word cause.trace.word_is)
 checked_offence known (Vhdl name) a cause = absurd (no_word cause.word cause.trace.word_is)
+checked_offence known (requests.Bench name port value plan) a cause = absurd (no_word cause.word cause.trace.word_is)
+checked_offence known (requests.Testbench name test) a cause = absurd (no_word cause.word cause.trace.word_is)
 checked_offence known (Check trace) a cause =
     let t = cause.read in
     says_surveyed known trace cause.bytes t (survey_of (Some cause.first) (first_unfinished 0 (streams_of t)) (counts_of (streams_of t))) a
@@ -835,6 +870,8 @@ checked_unfinished known (Drive name port value plan) a cause = absurd (no_word 
 checked_unfinished known (Decode name port trace) a cause = absurd (no_word cause.word cause.trace.word_is)
 checked_unfinished known (Carry name top from to trace) a cause = absurd (no_word cause.word cause.trace.word_is)
 checked_unfinished known (Vhdl name) a cause = absurd (no_word cause.word cause.trace.word_is)
+checked_unfinished known (requests.Bench name port value plan) a cause = absurd (no_word cause.word cause.trace.word_is)
+checked_unfinished known (requests.Testbench name test) a cause = absurd (no_word cause.word cause.trace.word_is)
 checked_unfinished known (Check trace) a cause =
     let t = cause.read in
     says_surveyed known trace cause.bytes t (survey_of None (Some cause.left) (counts_of (streams_of t))) a
@@ -863,13 +900,17 @@ says_text known (Split name port) text a is said =
     says-port known (of_project name port) split_end a is.split is.split_is (said ∙ ap output_answer is.is)
 says_text known (Drive name port value plan) text a is said =
     says-planned known (of_drive name port value plan) TellsDriven a is.split is.value is.plan is.all
-    (subst (λ (r : Result (List ℕ) Undriven). TellsOf (refused_by is.split r) (λ t b. b ≡ output_answer t) a) (sym is.is) said)
+    (tells-made is.split (drive_text is.split (plain_port is.value) is.plan) text a is.is said)
 says_text known (Decode name port trace) text a is said = says-value_text known (of_decode name port trace) text a is said
 says_text known (Sim bench run) text a is said =
     says-simulated known bench run a is.bench is.run is.bench_is is.run_is (said ∙ ap output_answer is.is)
 says_text known (Link name) text a is said = says_linked known name is.bytes a is.read (Ok is.nets) is.file is.reads is.nets_are (said ∙ ap output_answer is.is)
 says_text known (Carry name top from to trace) text a is said = says_carried_text known (of_carry (of_design name top from to) trace) text a is said
 says_text known (Vhdl name) text a is said = says_wired known name is.bytes a is.read (Ok is.nets) is.file is.reads is.apart is.nets_are (said ∙ ap output_answer is.is)
+says_text known (requests.Bench name port value plan) text a is said =
+    says-planned known (of_drive name port value plan) TellsBench a is.split is.value is.plan is.all
+    (tells-made is.split (bench_text_of is.split (plain_port is.value) is.plan) text a is.is said)
+says_text known (requests.Testbench name test) text a is said = says_testbench_text known (of_test name test) text a is said
 
 answer_over : (text : List ℕ) → 67108864 < length text → output_answer text ≡ answers.Refused (codes "tydi: OutputTooLong\n")
 answer_over text long = ap (λ (b : Bool). cond b (answers.Refused output_too_long_line) (answers.Done text)) (over_test output_limit (length text) long)
@@ -901,6 +942,7 @@ comes rows.AnOffence known request a cause = says_offence known request a cause
 comes rows.AnUnfinished known request a cause = says_unfinished known request a cause
 comes rows.ADisagreement known request a cause = from_decoded known request cause.words a cause.named (says-disagreement known request a cause)
 comes rows.AText known request a cause = says_text known request cause.text a cause.is (cause.said ∙ sym (answer_within cause.text cause.within))
+comes rows.NoTest known request a cause = says_no_test known request a cause
 
 -- ---- the laws
 

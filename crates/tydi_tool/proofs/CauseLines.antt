@@ -288,7 +288,9 @@ text_row known request line (inr (inr (inl plan))) = plan_row plan.words.plan li
 text_row known request line (inr (inr (inr (inl bench)))) = bench_row bench.words.bench line bench.fault bench.told
 text_row known request line (inr (inr (inr (inr (inl run))))) = run_row run.words.run line run.fault run.told
 text_row known request line (inr (inr (inr (inr (inr (inl trace)))))) = trace_row trace.words.trace line trace.fault trace.told
-text_row known request line (inr (inr (inr (inr (inr (inr trace)))))) = trace_row trace.words.trace line trace.fault trace.told
+text_row known request line (inr (inr (inr (inr (inr (inr (inl trace))))))) = trace_row trace.words.trace line trace.fault trace.told
+text_row known request line (inr (inr (inr (inr (inr (inr (inr (inl value)))))))) = value_row (value.words.test ++ codes " value") line value.fault value.told
+text_row known request line (inr (inr (inr (inr (inr (inr (inr (inr plan)))))))) = plan_row (plan.words.test ++ codes " plan") line plan.fault plan.told
 
 link_row : (word line : List ℕ) (fault : LinkFault) → link_line word fault ≡ Some line → row_of (answers.Refused line) ≡ Some rows.NotLinked
 link_row word line (linking.UnknownEnd place) told = row_by rows.NotLinked _ line told refl
@@ -330,3 +332,4 @@ caused_row rows.AnUnfinished known request a (inl cause) = row_as a _ rows.AnUnf
 caused_row rows.AnUnfinished known request a (inr cause) = row_as a _ rows.AnUnfinished cause.said (unfinished_row (path_of cause.split cause.left.stream) cause.left.end cause.line cause.told)
 caused_row rows.ADisagreement known request a cause = row_as a _ rows.ADisagreement cause.said refl
 caused_row rows.AText known request a cause = row_as a _ rows.AText cause.said refl
+caused_row rows.NoTest known request a cause = row_as a _ rows.NoTest cause.said refl

@@ -25,7 +25,7 @@ use Rattle.physical_stream.specs.declared.end.End.TheVariants as ends
 use Rattle.tydi_tool.specs.Ask.{Ask, Ends, Asks, SaysBy, SaysOfFile, goes_on}
 use Rattle.tydi_tool.specs.Causes as rows
 use Rattle.tydi_tool.specs.Causes.{Row, Reaches, HasBytes, PortWords, DriveWords, HasText, HasPort, HasSplit, HasCarried, HasValue, HasPlan, HasDrive}
-use Rattle.tydi_tool.specs.Causes.{CausedBy, carried_in, driven_in, port_in, project_of, resolved_of, unfinished_line, IsTextOf}
+use Rattle.tydi_tool.specs.Causes.{CausedBy, carried_in, driven_in, plan_line, port_in, project_of, resolved_of, unfinished_line, IsTextOf}
 use Rattle.tydi_tool.specs.Commands.{ask_of, carried_ask, plan_ask, planned_ask, port_ask}
 use Rattle.tydi_tool.specs.Drives.{carried, carried_unless}
 use Rattle.tydi_tool.specs.Files.{Lack, NoFile, TooLong, bytes_within, file_of, lack_line}
@@ -37,9 +37,9 @@ use Rattle.tydi_tool.specs.Reports.{ReportsEnd}
 use Rattle.tydi_tool.specs.Texts.{ReadsPlan, ReadsPlanned, ReadsValue}
 use Rattle.tydi_tool.specs.Trees.{ReadsCoded, ReadsTokens, ReadsTree, refusal_of_parsing}
 use Rattle.tydi_tool.specs.Words.{Request, FileWord, project_file, text_file}
-use Rattle.tydi_tool.proofs.CauseLines.{line_of, lexer_text, one_word, parser_text, plan_text, resolver_text, same_some, two_words, value_text}
+use Rattle.tydi_tool.proofs.CauseLines.{by_line, line_of, lexer_text, one_word, parser_text, plan_text, resolver_text, same_some, two_words, value_text}
 use Rattle.tydi_tool.proofs.FileLemmas.{file_of-there}
-use Rattle.tydi_tool.proofs.AnswerLemmas.{not_read}
+use Rattle.tydi_tool.proofs.TextLemmas.{plan-read}
 
 -- ---- tests and results
 
@@ -338,12 +338,8 @@ module _ (known : Files) (words : PortWords) (next : PlainSplit → Ask) where
       by split has (Some path) is said = (
         rows.NoCarrier,
         record {
-          words = words;
-          named = needed;
-          split = split;
-          split_is = has;
           path = path;
-          uncarried = is;
+          uncarried = inl (record { words = words; named = needed; split = split; split_is = has; uncarried = is });
           said = said ∙ ap answers.Refused (one_word (codes "tydi: ") (codes "NoCarrier") (codes " ") (path_text path) (codes "\n"));
         },
       )
@@ -364,8 +360,21 @@ module _ (known : Files) (words : PortWords) (next : PlainSplit → Ask) where
 
 -- ---- the steps that read a value and a plan
 
-same_plan : (plan read : Plan) → ◌≡◌ {A = Result Plan (List ℕ)} (Ok read) (Ok plan) → read ≡ plan
-same_plan plan read is = cc
+-- the first error of the text of a plan that is refused
+pub plan-fault : (word : List ℕ) (split : PlainSplit) (bytes line : List ℕ) → ReadsPlan word split bytes (Err line)
+    → (fault : PlanFault) × ((texts.plan_of split.streams bytes ≡ Err fault) × (plan_line word fault ≡ Some line))
+plan-fault word split bytes line refused = by (texts.plan_of split.streams bytes) refl refused
+  where
+    by : (read : Result Plan PlanFault) → texts.plan_of split.streams bytes ≡ read → ReadsPlanned word read (Err line)
+        → (fault : PlanFault) × ((texts.plan_of split.streams bytes ≡ Err fault) × (plan_line word fault ≡ Some line))
+    by (Ok plan) is refused = absurd cc
+    by (Err fault) is refused = (fault, (is, sym (plan_text word fault) ∙ line_of Plan (refusal_of_plan word fault) line refused))
+
+-- a text with that error is refused
+pub plan-refused : (word : List ℕ) (split : PlainSplit) (bytes line : List ℕ) (fault : PlanFault) → texts.plan_of split.streams bytes ≡ Err fault → plan_line word fault ≡ Some line
+    → ReadsPlan word split bytes (Err line)
+plan-refused word split bytes line fault is told =
+    subst (λ (read : Result Plan PlanFault). ReadsPlanned word read (Err line)) (sym is) (by_line Plan (refusal_of_plan word fault) line (plan_text word fault ∙ told))
 
 module _ (known : Files) (words : DriveWords) (Tells : PlainSplit → PortValue → Plan → Answer → Type 0) where
   -- how a command goes on with the split of a port that it drives
@@ -402,11 +411,8 @@ module _ (known : Files) (words : DriveWords) (Tells : PlainSplit → PortValue 
     -- the text of the plan is refused
     refuses_plan : (split : PlainSplit) → HasCarried known words.at split → (value : PortValue) → HasValue known split words.value value → (bytes line : List ℕ) → HasBytes known words.plan 16777216 bytes
         → ReadsPlan words.plan split bytes (Err line) → a ≡ answers.Refused line → Told known request a
-    refuses_plan split at value has bytes line file refused said = by (texts.plan_of split.streams bytes) refl refused
-      where
-        by : (read : Result Plan PlanFault) → texts.plan_of split.streams bytes ≡ read → ReadsPlanned words.plan read (Err line) → Told known request a
-        by (Ok plan) is refused = absurd cc
-        by (Err fault) is refused = (
+    refuses_plan split at value has bytes line file refused said =
+        let fault = plan-fault words.plan split bytes line refused in (
           rows.TextFault,
           record {
             line = line;
@@ -419,21 +425,13 @@ module _ (known : Files) (words : DriveWords) (Tells : PlainSplit → PortValue 
               value_is = has;
               bytes = bytes;
               file = file;
-              fault = fault;
-              reads = is;
-              told = sym (plan_text words.plan fault) ∙ line_of Plan (refusal_of_plan words.plan fault) line refused;
+              fault = fault.0;
+              reads = fault.1.0;
+              told = fault.1.1;
             })));
             said = said;
           },
         )
-
-    -- the plan of a text that is read
-    plan_read : (split : PlainSplit) (bytes : List ℕ) (plan : Plan) → ReadsPlan words.plan split bytes (Ok plan) → texts.plan_of split.streams bytes ≡ Ok plan
-    plan_read split bytes plan read = by (texts.plan_of split.streams bytes) refl read
-      where
-        by : (reading : Result Plan PlanFault) → texts.plan_of split.streams bytes ≡ reading → ReadsPlanned words.plan reading (Ok plan) → texts.plan_of split.streams bytes ≡ Ok plan
-        by (Ok other) is read = is ∙ ap Ok (sym (same_plan other plan read))
-        by (Err fault) is read = absurd (not_read (refusal_of_plan words.plan fault) plan read)
 
     -- a value and a plan that are read, and what the end says of them
     pub told-planned : (split : PlainSplit) → HasCarried known words.at split → ((other : FileWord) → Reaches known other drives → Reaches known other (ask_of request))
@@ -456,7 +454,7 @@ module _ (known : Files) (words : DriveWords) (Tells : PlainSplit → PortValue 
             (reaches-read known (text_file words.value) (ReadsValue words.value split) after_value a (text_file words.plan) bytes value file read (inl refl))))
             (refuses_plan split at value has)
             (λ plan_bytes plan plan_file plan_is tells. rest value plan
-            (record { at = at; value_is = has; plan_is = record { bytes = plan_bytes; file = plan_file; reads = plan_read split plan_bytes plan plan_is } }) tells) said
+            (record { at = at; value_is = has; plan_is = record { bytes = plan_bytes; file = plan_file; reads = plan-read words.plan split plan_bytes plan plan_is } }) tells) said
 
   -- the value is refused
   pub says-value : (a : Answer) (split : PlainSplit) → HasCarried known words.at split → (bytes line : List ℕ) → HasBytes known words.value 16777216 bytes → ReadsValue words.value split bytes (Err line)

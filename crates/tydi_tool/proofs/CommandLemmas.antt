@@ -8,23 +8,27 @@ use Rattle.til_parser.specs.Canonical.{canonical}
 use Rattle.tydi_tool.specs.declared.answer.Answer.{Answer}
 use Rattle.tydi_tool.specs.Ask.{Ends, SaysBy}
 use Rattle.tydi_tool.specs.Commands.{ask_of, outcome_ask, planned_ask, of_design}
-use Rattle.tydi_tool.specs.Drives.{TellsDriven}
+use Rattle.tydi_tool.specs.Drives.{TellsBench, TellsDriven}
 use Rattle.tydi_tool.specs.Laws.{AsksAlways, AsksOnce, HasSome}
 use Rattle.tydi_tool.specs.Outcome.{output_answer}
 use Rattle.split_text.specs.Text.{split_text}
-use Rattle.tydi_tool.specs.Words.{Request, Check, Decode, Drive, Link, Read, Sim, Split, Carry, Vhdl}
+use Rattle.tydi_tool.specs.Words.{Request, Check, Decode, Drive, Link, Read, Sim, Split, Carry, Vhdl, Bench, Testbench}
 use Rattle.bench_run.specs.Traces.{trace_text_of}
 use Rattle.tydi_tool.proofs.BenchLemmas.{ReadsBench-once, ReadsBench-some, ReadsRun-once, ReadsRun-some}
 use Rattle.tydi_tool.proofs.AnswerLemmas.{ReadsTrace-once, ReadsTree-once, Reports-one, SaysBy-one}
 use Rattle.tydi_tool.proofs.ReadingLemmas.{IsFoundAmong-read}
 use Rattle.tydi_tool.proofs.DecodeLemmas.{HasOutcomes, outcome-always, outcome-once}
 use Rattle.tydi_tool.proofs.EntityLemmas.{design-one, design-some}
-use Rattle.tydi_tool.proofs.DriveLemmas.{driven-one, driven-some, planned-always, planned-once}
+use Rattle.logical_value.specs.Tree.{plain_port}
+use Rattle.port_bench.specs.Benches.{bench_text_of}
+use Rattle.port_drive.specs.Text.{drive_text}
+use Rattle.tydi_tool.proofs.DriveLemmas.{made-one, made-some, planned-always, planned-once}
+use Rattle.tydi_tool.proofs.TestAnswers.{test-one, test-some}
 use Rattle.link_check.specs.CarryLaws.{ChainsKeepTypes}
 use Rattle.tydi_tool.proofs.ArrivalLemmas.{ReadsCycles-once, ReadsCycles-some, arrived-one, arrived-some}
 use Rattle.tydi_tool.proofs.DesignLemmas.{ReadsDesign-once, ReadsDesign-some}
 use Rattle.tydi_tool.proofs.LinkLemmas.{linked-one, linked-some}
-use Rattle.tydi_tool.proofs.ProjectLemmas.{ReadsProject-once, ReadsProject-some}
+use Rattle.tydi_tool.proofs.ProjectLemmas.{ReadsProject-once, ReadsProject-some, ReadsProject-sound}
 use Rattle.tydi_tool.proofs.StepLemmas.{carried-always, carried-once, port-always, port-once}
 use Rattle.tydi_tool.proofs.SomeLemmas.{ReadsCoded-some, ReadsReading-some, Reports-some, SaysBy-some}
 
@@ -33,7 +37,7 @@ asks_once (Check trace) = (ReadsTrace-once trace, λ bytes survey reads a b p q.
 asks_once (Read project) = (ReadsTree-once project, λ bytes ast reads a b p q. p ∙ sym q)
 asks_once (Split project port) = port-once project port (λ split. Ends (λ a. a ≡ output_answer (split_text split))) (λ split is a b p q. p ∙ sym q)
 asks_once (Drive project port value plan) =
-    carried-once project port (λ split. planned_ask value plan split (TellsDriven split)) (λ split can. planned-once value plan split (TellsDriven split) (driven-one split))
+    carried-once project port (λ split. planned_ask value plan split (TellsDriven split)) (λ split can. planned-once value plan split (TellsDriven split) (λ v p a b x y. made-one split (drive_text split (plain_port v) p) a b x y))
 asks_once (Decode project port trace) = carried-once project port (outcome_ask trace) (outcome-once trace)
 asks_once (Sim bench run) = (ReadsBench-once bench, λ bytes read reads. (ReadsRun-once run read, λ run_bytes made said a b p q. p ∙ sym q))
 asks_once (Link project) = (ReadsProject-once project, λ bytes read reads. linked-one project read)
@@ -46,6 +50,9 @@ asks_once (Carry project top from to trace) = (
   ),
 )
 asks_once (Vhdl project) = (ReadsProject-once project, λ bytes read reads. design-one project read)
+asks_once (Bench project port value plan) =
+    carried-once project port (λ split. planned_ask value plan split (TellsBench split)) (λ split can. planned-once value plan split (TellsBench split) (λ v p a b x y. made-one split (bench_text_of split (plain_port v) p) a b x y))
+asks_once (Testbench project test) = (ReadsProject-once project, λ bytes read reads. test-one read test)
 
 -- one answer
 pub SaysBy-request : (told : Files) (request : Request) (a b : Answer) → SaysBy (Some told) (ask_of request) a → SaysBy (Some told) (ask_of request) b → a ≡ b
@@ -59,7 +66,7 @@ asks_always checks outcomes chains (Check trace) = (
 asks_always checks outcomes chains (Read project) = (λ bytes. ReadsCoded-some project bytes (is_utf8 bytes) refl, λ bytes ast reads none. none (output_answer (canonical ast)) refl)
 asks_always checks outcomes chains (Split project port) = port-always project port (λ split. Ends (λ a. a ≡ output_answer (split_text split))) (λ split is none. none (output_answer (split_text split)) refl)
 asks_always checks outcomes chains (Drive project port value plan) =
-    carried-always project port (λ split. planned_ask value plan split (TellsDriven split)) (λ split can. planned-always value plan split (TellsDriven split) (driven-some split))
+    carried-always project port (λ split. planned_ask value plan split (TellsDriven split)) (λ split can. planned-always value plan split (TellsDriven split) (λ v p. made-some split (drive_text split (plain_port v) p)))
 asks_always checks outcomes chains (Decode project port trace) = carried-always project port (outcome_ask trace) (outcome-always outcomes trace)
 asks_always checks outcomes chains (Sim bench run) = (
   λ bytes. ReadsBench-some bench bytes,
@@ -75,6 +82,9 @@ asks_always checks outcomes chains (Carry project top from to trace) = (
   ),
 )
 asks_always checks outcomes chains (Vhdl project) = (ReadsProject-some project, λ bytes read reads. design-some checks project read)
+asks_always checks outcomes chains (Bench project port value plan) =
+    carried-always project port (λ split. planned_ask value plan split (TellsBench split)) (λ split can. planned-always value plan split (TellsBench split) (λ v p. made-some split (bench_text_of split (plain_port v) p)))
+asks_always checks outcomes chains (Testbench project test) = (ReadsProject-some project, λ bytes read reads. test-some read test (ReadsProject-sound project bytes read reads))
 
 -- some answer
 pub SaysBy-request-some : AnswersAreOfTheProject → HasOutcomes → ChainsKeepTypes → (told : Files) (request : Request) → HasSome Answer (SaysBy (Some told) (ask_of request))

@@ -1,4 +1,4 @@
--- The files of a command that ends with a value and a plan, and the answer of `drive`.
+-- The files of a command that ends with a value and a plan, and the answers of `drive` and of `bench`.
 use Rattle.std.proofs.Common.{◌≡◌, ℕ, suc, ◌+◌, ◌<◌, ◌≤◌, ◌⊎◌, Bool, true, false, cond, ◌==◌, List, [], ◌∷◌, length, Option, Some, None, IfSome, option_map, Result, Ok, Err, refl, sym, ap, ◌∙◌, subst, arith}
 use Rattle.std.specs.Prelude.{MatchOption}
 use Rattle.tydi_base.specs.Reading.{◌>>=◌}
@@ -11,8 +11,6 @@ use Rattle.physical_stream.specs.Params.{Parameters}
 use Rattle.physical_stream.specs.declared.item.Item.{Item}
 use Rattle.port_drive.specs.Drives.{CountNotMultiple, NotFinished, Undriven, drive_of, finished_from, is_multiple, items_on, left_of, planned_run, run_unless, runs_from, runs_of}
 use Rattle.port_drive.specs.Faults.{reason_in}
-use Rattle.port_drive.specs.Text.{drive_text, written_text}
-use Rattle.port_drive.specs.Laws.{trace_of}
 use Rattle.port_drive.specs.declared.fault.DriveFault.{DriveFault}
 use Rattle.type_split.specs.Carried.{uncarried_of}
 use Rattle.type_split.specs.Streams.{PlainSplit}
@@ -23,7 +21,7 @@ use Rattle.tydi_tool.specs.declared.answer.Reply.{Reply}
 use Rattle.tydi_tool.specs.declared.answer.Reply.TheVariants as replies
 use Rattle.tydi_tool.specs.Ask.{AsksFor, Judges, TellsOf}
 use Rattle.tydi_tool.specs.Commands.{planned_ask}
-use Rattle.tydi_tool.specs.Drives.{TellsDriven, carried, carried_unless, driven_text, refusal_of_driving, refused_by, stream_of}
+use Rattle.tydi_tool.specs.Drives.{TellsMade, carried, carried_unless, refusal_of_driving, refused_by, stream_of}
 use Rattle.tydi_tool.specs.Laws.{AsksAlways, AsksOnce, HasSome}
 use Rattle.tydi_tool.specs.Outcome.{output_answer}
 use Rattle.tydi_tool.specs.Reading.{IsRefusedBy, refusal_in}
@@ -54,11 +52,12 @@ module _ (value plan : List ℕ) (split : PlainSplit) (Tells : PortValue → Pla
   pub planned-for : AsksFor (text_file value ∷ text_file plan ∷ []) (planned_ask value plan split Tells)
   planned-for = (refl, λ v. (refl, λ p. tt))
 
-pub driven-one : (split : PlainSplit) (value : PortValue) (plan : Plan) (a b : Answer) → TellsDriven split value plan a → TellsDriven split value plan b → a ≡ b
-driven-one split value plan a b p q = tells-one (driven_text split value plan) (λ text c. c ≡ output_answer text) a b (λ text x y. x ∙ sym y) p q
+module _ (split : PlainSplit) (made : Result (List ℕ) Undriven) where
+  pub made-one : (a b : Answer) → TellsMade split made a → TellsMade split made b → a ≡ b
+  made-one a b p q = tells-one (refused_by split made) (λ text c. c ≡ output_answer text) a b (λ text x y. x ∙ sym y) p q
 
-pub driven-some : (split : PlainSplit) (value : PortValue) (plan : Plan) → HasSome Answer (TellsDriven split value plan)
-driven-some split value plan = tells-some (driven_text split value plan) (λ text c. c ≡ output_answer text) (λ text none. none (output_answer text) refl)
+  pub made-some : HasSome Answer (TellsMade split made)
+  made-some = tells-some (refused_by split made) (λ text c. c ≡ output_answer text) (λ text none. none (output_answer text) refl)
 
 -- ---- the streams that reasons name
 
@@ -133,44 +132,45 @@ drive-within split value plans reason is = by (runs_of split value plans) refl i
     by (Err r) made rest =
         let one = runs-within split value 0 split.streams plans r made in let same = ap stream_of (same_reason {A = List StreamRun} r reason rest) in omega (arith, one, same)
 
-text-within : (split : PlainSplit) (value : List (List Tree)) (plan : Plan) (reason : Undriven) → drive_text split value plan ≡ Err reason → stream_of reason < length split.streams
-text-within split value plan reason is = by (drive_of split value plan.streams) refl is
-  where
-    by : (made : Result (List StreamRun) Undriven) → drive_of split value plan.streams ≡ made → (made >>= λ runs. Ok (written_text (trace_of split plan.cycles runs))) ≡ Err reason
-        → stream_of reason < length split.streams
-    by (Ok runs) made rest = absurd (no_reason (written_text (trace_of split plan.cycles runs)) reason rest)
-    by (Err r) made rest =
-        let one = drive-within split value plan.streams r made in let same = ap stream_of (same_reason {A = List ℕ} r reason rest) in omega (arith, one, same)
+-- so does that of a text that the runs make
+module _ (split : PlainSplit) (value : List (List Tree)) (plan : Plan) (write : List StreamRun → List ℕ) where
+  -- the text, or the reason why the port is not driven
+  abbrev pub Made : Result (List ℕ) Undriven
+  Made = drive_of split value plan.streams >>= λ runs. Ok (write runs)
 
-pub undriven-within : (split : PlainSplit) (value : List (List Tree)) (plan : Plan) (fault : DriveFault) → MatchOption (reason_in fault) (Unit {0}) (λ r. drive_text split value plan ≡ Err r)
-    → IfSome (reason_in fault) (λ reason. stream_of reason < length split.streams)
-undriven-within split value plan fault told = by (reason_in fault) told
-  where
-    by : (reason : Option Undriven) → MatchOption reason (Unit {0}) (λ r. drive_text split value plan ≡ Err r) → IfSome reason (λ r. stream_of r < length split.streams)
-    by (Some r) told = text-within split value plan r told
-    by None told = tt
+  made-within : (reason : Undriven) → Made ≡ Err reason → stream_of reason < length split.streams
+  made-within reason is = by (drive_of split value plan.streams) refl is
+    where
+      by : (made : Result (List StreamRun) Undriven) → drive_of split value plan.streams ≡ made → (made >>= λ runs. Ok (write runs)) ≡ Err reason → stream_of reason < length split.streams
+      by (Ok runs) made rest = absurd (no_reason (write runs) reason rest)
+      by (Err r) made rest =
+          let one = drive-within split value plan.streams r made in let same = ap stream_of (same_reason {A = List ℕ} r reason rest) in omega (arith, one, same)
 
--- ---- the answer of `drive`
+  pub undriven-within : (fault : DriveFault) → MatchOption (reason_in fault) (Unit {0}) (λ r. Made ≡ Err r) → IfSome (reason_in fault) (λ reason. stream_of reason < length split.streams)
+  undriven-within fault told = by (reason_in fault) told
+    where
+      by : (reason : Option Undriven) → MatchOption reason (Unit {0}) (λ r. Made ≡ Err r) → IfSome reason (λ r. stream_of r < length split.streams)
+      by (Some r) told = made-within r told
+      by None told = tt
 
-pub driven-told : (split : PlainSplit) (value : PortValue) (plan : Plan) (text : List ℕ) (reply : Reply) → drive_text split (plain_port value) plan ≡ Ok text
-    → (reply ≡ replies.Says (output_answer text)) ⊎ (reply ≡ replies.Memory) → Judges (TellsDriven split value plan) reply
-driven-told split value plan text reply is said =
-    Judges-told (driven_text split value plan) (λ t a. a ≡ output_answer t) text reply (ap (refused_by split) is) (Judges-either (output_answer text) reply said)
+-- ---- the answers of `drive` and of `bench`
 
-pub driven-refused : (split : PlainSplit) (value : PortValue) (plan : Plan) (fault : DriveFault) (reply : Reply)
-    → MatchOption (reason_in fault) (Unit {0}) (λ r. drive_text split (plain_port value) plan ≡ Err r)
-    → IsRefusedBy (option_map (refusal_of_driving split) (reason_in fault)) reply → Judges (TellsDriven split value plan) reply
-driven-refused split value plan fault reply told refused = by (reason_in fault) told refused
-  where
-    told-refusal : (refusal : Refusal) → driven_text split value plan ≡ Err refusal → IsRefusedBy (Some refusal) reply → Judges (TellsDriven split value plan) reply
-    told-refusal refusal is refused =
-        Judges-refused (driven_text split value plan) (λ t a. a ≡ output_answer t) reply
-        (subst (λ (w : Result (List ℕ) Refusal). IsRefusedBy (refusal_in w) reply) (sym is) refused)
+module _ (split : PlainSplit) (made : Result (List ℕ) Undriven) (reply : Reply) where
+  pub made-told : (text : List ℕ) → made ≡ Ok text → (reply ≡ replies.Says (output_answer text)) ⊎ (reply ≡ replies.Memory) → Judges (TellsMade split made) reply
+  made-told text is said =
+      Judges-told (refused_by split made) (λ t a. a ≡ output_answer t) text reply (ap (refused_by split) is) (Judges-either (output_answer text) reply said)
 
-    by : (reason : Option Undriven) → MatchOption reason (Unit {0}) (λ r. drive_text split (plain_port value) plan ≡ Err r) → IsRefusedBy (option_map (refusal_of_driving split) reason) reply
-        → Judges (TellsDriven split value plan) reply
-    by (Some r) told refused = told-refusal (refusal_of_driving split r) (ap (refused_by split) told) refused
-    by None told memory = subst (Judges (TellsDriven split value plan)) (sym memory) tt
+  pub made-refused : (fault : DriveFault) → MatchOption (reason_in fault) (Unit {0}) (λ r. made ≡ Err r) → IsRefusedBy (option_map (refusal_of_driving split) (reason_in fault)) reply
+      → Judges (TellsMade split made) reply
+  made-refused fault told refused = by (reason_in fault) told refused
+    where
+      told-refusal : (refusal : Refusal) → refused_by split made ≡ Err refusal → IsRefusedBy (Some refusal) reply → Judges (TellsMade split made) reply
+      told-refusal refusal is refused =
+          Judges-refused (refused_by split made) (λ t a. a ≡ output_answer t) reply (subst (λ (w : Result (List ℕ) Refusal). IsRefusedBy (refusal_in w) reply) (sym is) refused)
+
+      by : (reason : Option Undriven) → MatchOption reason (Unit {0}) (λ r. made ≡ Err r) → IsRefusedBy (option_map (refusal_of_driving split) reason) reply → Judges (TellsMade split made) reply
+      by (Some r) told refused = told-refusal (refusal_of_driving split r) (ap (refused_by split) told) refused
+      by None told memory = subst (Judges (TellsMade split made)) (sym memory) tt
 
 -- ---- nodes that are not carried
 

@@ -1,9 +1,9 @@
 -- The bytes that are found of a file.
-use Rattle.std.proofs.Common.{◌≡◌, ℕ, ◌<◌, ◌≤◌, ◌+◌, List, length, min, Option, None, Some, MatchOption, option_map, refl, sym, ap, ◌∙◌, subst, arith, Ok, Err, Bool, true, false, cond, nat_lt}
+use Rattle.std.proofs.Common.{◌≡◌, ℕ, ◌<◌, ◌≤◌, ◌+◌, List, length, min, Option, None, Some, MatchOption, option_map, refl, sym, ap, ◌∙◌, subst, arith, Result, Ok, Err, Bool, true, false, cond, nat_lt}
 use Rattle.std.proofs.lemmas.Bool.Decides.{nat_tests}
 use Rattle.tydi_io.specs.Store.{Files}
 use Rattle.tydi_tool.specs.Words.{FileWord}
-use Rattle.tydi_tool.specs.Files.{NoFile, TooLong, bytes_within, file_of, pulled_out, GivenWithin, IsGiven}
+use Rattle.tydi_tool.specs.Files.{Lack, NoFile, TooLong, bytes_within, file_of, pulled_out, GivenWithin, IsFound, IsGiven}
 
 pub file_of-there : (known : Files) (file : FileWord) (bytes : List ℕ) → known file.word ≡ Some bytes → length bytes ≤ file.limit → file_of known file ≡ Ok bytes
 file_of-there known file bytes named within =
@@ -47,3 +47,22 @@ IsGiven-pulled_out known file started e = by_file (known file.word) refl
           limited = omega arith;
           place = e ∙ ap (λ (found : Option (List ℕ)). option_map (λ all. (file.word, min (length all) (file.limit + 1))) found) is;
         })
+
+-- the bytes that are found of a file are within its limit
+pub found-within : (told : Option Files) (file : FileWord) (bytes : List ℕ) → IsFound told file (Ok bytes) → length bytes ≤ file.limit
+found-within None file bytes found = found
+found-within (Some known) file bytes found = by_file (known file.word) found
+  where
+    same : (one other : List ℕ) → ◌≡◌ {A = Result (List ℕ) Lack} (Ok one) (Ok other) → one ≡ other
+    same one other e = cc
+
+    not_over : (limit n : ℕ) → nat_lt limit n ≡ false → n ≤ limit
+    not_over limit n h = grind (arith, nat_tests)
+
+    by_length : (all : List ℕ) (long : Bool) → nat_lt file.limit (length all) ≡ long → ◌≡◌ {A = Result (List ℕ) Lack} (cond long (Err TooLong) (Ok all)) (Ok bytes) → length bytes ≤ file.limit
+    by_length all true long is = absurd cc
+    by_length all false short is = subst (λ (l : List ℕ). length l ≤ file.limit) (same all bytes is) (not_over file.limit (length all) short)
+
+    by_file : (stored : Option (List ℕ)) → bytes_within file.limit stored ≡ Ok bytes → length bytes ≤ file.limit
+    by_file None is = absurd cc
+    by_file (Some all) is = by_length all (nat_lt file.limit (length all)) refl is

@@ -45,7 +45,7 @@ use Rattle.tydi_tool.proofs.AnswerLemmas.{not_read, same_ok}
 
 -- ---- lists of things that are such
 
-each-append : {A : Type 0} (Is : A → Type 0) (xs ys : List A) → EachIs Is xs → EachIs Is ys → EachIs Is (xs ++ ys)
+pub each-append : {A : Type 0} (Is : A → Type 0) (xs ys : List A) → EachIs Is xs → EachIs Is ys → EachIs Is (xs ++ ys)
 each-append Is [] ys front back = back
 each-append Is (x ∷ xs) ys front back = (front.0, each-append Is xs ys front.1 back)
 
@@ -55,7 +55,7 @@ each-at Is [] (suc number) other each is = is
 each-at Is (x ∷ xs) zero other each is = each.0
 each-at Is (x ∷ xs) (suc number) other each is = each-at Is xs number other each.1 is
 
-each-inside : {A : Type 0} (Is : A → Type 0) (xs : List A) (x : A) → EachIs Is xs → Contains xs x → Is x
+pub each-inside : {A : Type 0} (Is : A → Type 0) (xs : List A) (x : A) → EachIs Is xs → Contains xs x → Is x
 each-inside {A} Is xs x each there = by xs there.0 each there.1 there.2
   where
     by : (rest : List A) (number : ℕ) → EachIs Is rest → number < length rest → get_or rest number x ≡ x → Is x
@@ -83,10 +83,10 @@ module _ (meaning : List AstName → Ltype) (meant : (names : List AstName) → 
 -- ---- the types that declarations mean
 
 -- a declaration of such a kind
-abbrev IsDeclared : Declaration → Type 0
+abbrev pub IsDeclared : Declaration → Type 0
 IsDeclared one = IsKind one.kind
 
-declared-at : (all : List Declaration) (number : ℕ) → EachIs IsDeclared all → IsDeclared (declaration all number)
+pub declared-at : (all : List Declaration) (number : ℕ) → EachIs IsDeclared all → IsDeclared (declaration all number)
 declared-at all number each = each-at IsDeclared all number (record { space = []; name = record { name = []; place = nowhere }; kind = decls.Interface [] }) each tt
 
 by-kind : (meaning : List (List ℕ) → List AstName → Ltype) → ((space : List (List ℕ)) (names : List AstName) → IsTypeInForm (meaning space names)) → (space : List (List ℕ)) (name : AstName) (kind : AstKind) → IsKind kind
@@ -111,13 +111,13 @@ module _ (all : List Declaration) (each : EachIs IsDeclared all) where
 
   -- ---- the ports of streamlets
 
-  -- a port whose type is written in form
+  -- a port that is written in form
   abbrev IsWritten : PortOf → Type 0
-  IsWritten one = IsType (plain one.port.ltype)
+  IsWritten one = IsPort one.port
 
   ports-written : (space : List (List ℕ)) (listed : List AstPort) → EachIs IsPort listed → EachIs IsWritten (map (λ (port : AstPort). record { space = space; port = port }) listed)
   ports-written space [] is = tt
-  ports-written space (port ∷ listed) is = (is.0.ltype, ports-written space listed is.1)
+  ports-written space (port ∷ listed) is = (is.0, ports-written space listed is.1)
 
   own-written : (space : List (List ℕ)) (name : AstName) (kind : AstKind) → IsKind kind → EachIs IsWritten (ports_in (record { space = space; name = name; kind = kind }))
   own-written space name (decls.Alias ltype) is = tt
@@ -139,13 +139,28 @@ module _ (all : List Declaration) (each : EachIs IsDeclared all) where
   all-written space name (decls.Impl target body) is = tt
   all-written space name (decls.Test target port value plan) is = tt
 
-  -- the type of each port of the streamlet of a number
-  streamlet-form : (number : ℕ) (port : PlainPort) → Contains (streamlet_from all number).ports port → IsTypeInForm port.ltype
-  streamlet-form number port there =
+  -- a port of a project is one that is written in form
+  pub record IsFormed (port : PlainPort) : Type 0 where
+    pub one : PortOf
+    pub written : IsWritten one
+    pub same : port_from all one ≡ port
+
+  -- so is each port of the streamlet of a number
+  pub streamlet-written : (number : ℕ) (port : PlainPort) → Contains (streamlet_from all number).ports port → IsFormed port
+  streamlet-written number port there =
       let it : Declaration = declaration all number in
       let one = Contains-mapped (port_from all) (ports_of all it) port there in
-      subst (λ (p : PlainPort). IsTypeInForm p.ltype) one.same
-      (type-form one.one.space (plain one.one.port.ltype) (each-inside IsWritten (ports_of all it) one.one (all-written it.space it.name it.kind (declared-at all number each)) one.inside))
+      record {
+        one = one.one;
+        written = each-inside IsWritten (ports_of all it) one.one (all-written it.space it.name it.kind (declared-at all number each)) one.inside;
+        same = one.same;
+      }
+
+  -- its type is in form
+  streamlet-form : (number : ℕ) (port : PlainPort) → Contains (streamlet_from all number).ports port → IsTypeInForm port.ltype
+  streamlet-form number port there =
+      let written = streamlet-written number port there in
+      subst (λ (p : PlainPort). IsTypeInForm p.ltype) written.same (type-form written.one.space (plain written.one.port.ltype) written.written.ltype)
 
 -- ---- the types of ports are Streams
 
@@ -228,7 +243,7 @@ decls-declared : (space : List (List ℕ)) (listed : List AstDecl) → EachIs (D
 decls-declared space [] is = tt
 decls-declared space (decl ∷ listed) is = (is.0.kind, decls-declared space listed is.1)
 
-all-declared : (namespaces : List AstNamespace) → EachIs IsNamespace namespaces → EachIs IsDeclared (flat_map declared_in namespaces)
+pub all-declared : (namespaces : List AstNamespace) → EachIs IsNamespace namespaces → EachIs IsDeclared (flat_map declared_in namespaces)
 all-declared [] is = tt
 all-declared (namespace ∷ more) is =
     each-append IsDeclared (declared_in namespace) (flat_map declared_in more) (decls-declared (names_of namespace.path) namespace.decls is.0.decls) (all-declared more is.1)
@@ -245,7 +260,7 @@ pub record IsPortFormed (ltype : Ltype) : Type 0 where
 abbrev pub AreFormed : PlainProject → Type 0
 AreFormed project = (streamlet : PlainStreamlet) (port : PlainPort) → Contains project.streamlets streamlet → Contains streamlet.ports port → IsPortFormed port.ltype
 
-project-formed : (ast : Ast) → IsSound ast → EachIs IsNamespace ast.namespaces → AreFormed (project_of ast)
+pub project-formed : (ast : Ast) → IsSound ast → EachIs IsNamespace ast.namespaces → AreFormed (project_of ast)
 project-formed ast sound each streamlet port there inside =
     let all = declarations ast in
     let at = Contains-mapped (streamlet_from all) (streamlet_numbers all) streamlet there in
@@ -273,7 +288,7 @@ found-formed (streamlet ∷ more) path port formed is =
 
 -- ---- the text of a project
 
-tree-of : (word bytes : List ℕ) (ast : Ast) → ReadsTree word bytes (Ok ast) → IsTreeOf bytes ast
+pub tree-of : (word bytes : List ℕ) (ast : Ast) → ReadsTree word bytes (Ok ast) → IsTreeOf bytes ast
 tree-of word bytes ast reads = by (is_utf8 bytes) refl reads
   where
     by_tokens : (lexed : Result (List Token) LexFault) → is_utf8 bytes ≡ true → tokens_of bytes ≡ lexed → ReadsTokens word bytes lexed (Ok ast) → IsTreeOf bytes ast

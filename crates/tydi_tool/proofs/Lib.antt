@@ -20,6 +20,7 @@ pub mod FileLemmas
 pub mod FormLemmas
 pub mod LinkLemmas
 pub mod LoadingLemmas
+pub mod NameLemmas
 pub mod PlanFaults
 pub mod PortLemmas
 pub mod ProjectLemmas
@@ -32,4 +33,10 @@ pub mod StartedLemmas
 pub mod StepLemmas
 pub mod TextLemmas
 pub mod TraceFileLemmas
+pub mod WiringLawLemmas
 mod BenchLemmas
+pub mod TestLemmas
+pub mod TestAnswers
+pub mod TestCauses
+pub mod MadeCauses
+pub mod BenchLawLemmas

@@ -7,8 +7,8 @@ use Rattle.tydi_tool.specs.declared.answer.Reply.{Reply}
 use Rattle.tydi_tool.specs.declared.answer.Reply.TheVariants as replies
 use Rattle.tydi_tool.specs.declared.status.Status.{Status}
 use Rattle.tydi_tool.specs.declared.status.Status.TheVariants as statuses
-use Rattle.tydi_tool.specs.Drives.{TellsDriven}
-use Rattle.tydi_tool.specs.Words.{Request, Check, Decode, Drive, Link, Read, Sim, Split, FileWord, file_words, text_file, trace_file, Carry, Vhdl}
+use Rattle.tydi_tool.specs.Drives.{TellsBench, TellsDriven}
+use Rattle.tydi_tool.specs.Words.{Request, Check, Decode, Drive, Link, Read, Sim, Split, FileWord, file_words, text_file, trace_file, Carry, Vhdl, Bench, Testbench}
 use Rattle.split_text.specs.Text.{split_text}
 use Rattle.tydi_tool.specs.Outcome.{out_of_answer, output_answer, out_of, err_of, status_of, status_of_answer, usage_line, memory_line, write_fault_line}
 use Rattle.tydi_tool.specs.Delivery.{Adds, AddsFront, AddsPart, TakesLine, IsLined, IsCut, IsWritten, OutFails, OutWants, Delivers}
@@ -16,7 +16,7 @@ use Rattle.tydi_tool.specs.Ask.{AsksFor, AsksSome, Decides, Ends}
 use Rattle.tydi_tool.specs.Commands.{ask_of, Says, outcome_ask, planned_ask}
 use Rattle.tydi_tool.specs.Started.{IsPulledOut, IsGivenOne, NamesStarted, StartsWithin, Leaves}
 use Rattle.tydi_tool.specs.Run.{Runs, EndsAsked, EndsUnasked, EndsInAnswer, IsAnswered, IsComplete, IsCaused, ReportsRead, OutFront, OutPart, IsRefusal}
-use Rattle.tydi_tool.specs.Run.{IsLine, ErrFront, LeavesOut, LeavesErr, StartedAtEnd, UsageExactly, WritesReadBack, WritesTrace, WritesValue, WritesCarried}
+use Rattle.tydi_tool.specs.Run.{IsLine, ErrFront, LeavesOut, LeavesErr, StartedAtEnd, UsageExactly, WritesReadBack, WritesTrace, WritesValue, WritesCarried, WritesWired, WritesLines}
 use Rattle.tydi_tool.proofs.CauseLemmas.{told}
 use Rattle.tydi_tool.proofs.CauseLines.{one_word}
 use Rattle.tydi_tool.proofs.DecodeLemmas.{outcome-for}
@@ -24,8 +24,10 @@ use Rattle.tydi_tool.proofs.DecodeLawLemmas.{driven-read_back, written-carried}
 use Rattle.tydi_tool.proofs.DriveLawLemmas.{written-driven}
 use Rattle.tydi_tool.proofs.DriveLemmas.{planned-for}
 use Rattle.tydi_tool.specs.DecodeLaw.{IsReadBack, WritesDecoded, decode_words}
+use Rattle.tydi_tool.specs.BenchLaw.{WritesBench, WritesTestbench, WrittenBenchesDrive, WrittenTestbenchesDrive, test_words}
 use Rattle.tydi_tool.specs.CarryLaw.{WritesArrived, WrittenTracesArrive, carry_words}
 use Rattle.tydi_tool.specs.DriveLaw.{WritesDriven, drive_words}
+use Rattle.tydi_tool.specs.WiringLaw.{WritesDesign, WrittenDesignsAreWired}
 use Rattle.tydi_tool.proofs.CommandLemmas.{SaysBy-request}
 use Rattle.tydi_tool.proofs.AskLemmas.{SaysBy-decided}
 use Rattle.tydi_tool.proofs.DeliveryLemmas.{AddsFront-all, AddsFront-part, AddsPart-some}
@@ -45,6 +47,9 @@ asks_for (Sim bench run) = (refl, λ read. (refl, λ made. tt))
 asks_for (Link project) = (refl, λ x. tt)
 asks_for (Carry project top from to trace) = (refl, λ heads. (refl, λ t. tt))
 asks_for (Vhdl project) = (refl, λ x. tt)
+asks_for (Bench project port value plan) =
+    carried-for project port (text_file value ∷ text_file plan ∷ []) (λ split. planned_ask value plan split (TellsBench split)) (λ split. planned-for value plan split (TellsBench split))
+asks_for (Testbench project test) = (refl, λ x. tt)
 
 asks_some : (request : Request) → AsksSome (ask_of request)
 asks_some (Check trace) = tt
@@ -56,6 +61,8 @@ asks_some (Sim bench run) = tt
 asks_some (Link project) = tt
 asks_some (Carry project top from to trace) = tt
 asks_some (Vhdl project) = tt
+asks_some (Bench project port value plan) = tt
+asks_some (Testbench project test) = tt
 
 -- ---- a run of a command
 
@@ -315,6 +322,8 @@ WritesTrace-answered (Some known) (Some (Sim bench run)) status out_old out_new 
 WritesTrace-answered (Some known) (Some (Link project)) status out_old out_new err_old err_new a done = tt
 WritesTrace-answered (Some known) (Some (Carry project top from to trace)) status out_old out_new err_old err_new a done = tt
 WritesTrace-answered (Some known) (Some (Vhdl project)) status out_old out_new err_old err_new a done = tt
+WritesTrace-answered (Some known) (Some (Bench project port value plan)) status out_old out_new err_old err_new a done = tt
+WritesTrace-answered (Some known) (Some (Testbench project test)) status out_old out_new err_old err_new a done = tt
 WritesTrace-answered (Some known) (Some (Drive project port value plan)) status out_old out_new err_old err_new a done =
     written_text (Drive project port value plan) known (WritesDriven known (drive_words project port value plan)) (λ text says. (written-driven known project port value plan text says).1)
     status out_old out_new err_old err_new a done
@@ -331,6 +340,8 @@ WritesReadBack-answered (Some known) (Some (Decode project port trace)) status o
 WritesReadBack-answered (Some known) (Some (Sim bench run)) status out_old out_new err_old err_new a done = tt
 WritesReadBack-answered (Some known) (Some (Link project)) status out_old out_new err_old err_new a done = tt
 WritesReadBack-answered (Some known) (Some (Vhdl project)) status out_old out_new err_old err_new a done = tt
+WritesReadBack-answered (Some known) (Some (Bench project port value plan)) status out_old out_new err_old err_new a done = tt
+WritesReadBack-answered (Some known) (Some (Testbench project test)) status out_old out_new err_old err_new a done = tt
 WritesReadBack-answered (Some known) (Some (Carry project top from to trace)) status out_old out_new err_old err_new a done = tt
 WritesReadBack-answered (Some known) (Some (Drive project port value plan)) status out_old out_new err_old err_new a done =
     written_text (Drive project port value plan) known (IsReadBack known (drive_words project port value plan)) (λ text says. driven-read_back known project port value plan text says)
@@ -348,6 +359,8 @@ WritesValue-answered (Some known) (Some (Drive project port value plan)) status 
 WritesValue-answered (Some known) (Some (Sim bench run)) status out_old out_new err_old err_new a done = tt
 WritesValue-answered (Some known) (Some (Link project)) status out_old out_new err_old err_new a done = tt
 WritesValue-answered (Some known) (Some (Vhdl project)) status out_old out_new err_old err_new a done = tt
+WritesValue-answered (Some known) (Some (Bench project port value plan)) status out_old out_new err_old err_new a done = tt
+WritesValue-answered (Some known) (Some (Testbench project test)) status out_old out_new err_old err_new a done = tt
 WritesValue-answered (Some known) (Some (Carry project top from to trace)) status out_old out_new err_old err_new a done = tt
 WritesValue-answered (Some known) (Some (Decode project port trace)) status out_old out_new err_old err_new a done =
     written_text (Decode project port trace) known (WritesDecoded known (decode_words project port trace)) (λ text says. (written-carried known project port trace text says).1)
@@ -365,6 +378,8 @@ WritesCarried-answered arrive (Some known) (Some (Read project)) status out_old 
 WritesCarried-answered arrive (Some known) (Some (Split project port)) status out_old out_new err_old err_new a done = tt
 WritesCarried-answered arrive (Some known) (Some (Drive project port value plan)) status out_old out_new err_old err_new a done = tt
 WritesCarried-answered arrive (Some known) (Some (Vhdl project)) status out_old out_new err_old err_new a done = tt
+WritesCarried-answered arrive (Some known) (Some (Bench project port value plan)) status out_old out_new err_old err_new a done = tt
+WritesCarried-answered arrive (Some known) (Some (Testbench project test)) status out_old out_new err_old err_new a done = tt
 WritesCarried-answered arrive (Some known) (Some (Decode project port trace)) status out_old out_new err_old err_new a done = tt
 WritesCarried-answered arrive (Some known) (Some (Sim bench run)) status out_old out_new err_old err_new a done = tt
 WritesCarried-answered arrive (Some known) (Some (Link project)) status out_old out_new err_old err_new a done = tt
@@ -377,6 +392,38 @@ WritesCarried-answered arrive (Some known) (Some (Carry project top from to trac
     by (answers.Done text) says ends out = (text, ((arrive known project top from to trace text says).1, out))
     by (answers.Verdict line) says ends out = absurd cc
     by (answers.Refused line) says ends out = absurd cc
+
+-- where a project is written in VHDL, out has the text of its entities and architectures
+pub WritesWired-answered : WrittenDesignsAreWired → (files : Option Files) (request : Option Request) (status : Status)
+    (out_old out_new err_old err_new : Option (List ℕ)) →
+    IsAnswered files request status out_old out_new err_old err_new → status ≡ statuses.Done
+    → IfSome files (λ known. WritesWired known request out_old out_new)
+WritesWired-answered wired None request status out_old out_new err_old err_new a done = tt
+WritesWired-answered wired (Some known) (Some (Vhdl project)) status out_old out_new err_old err_new a done =
+    written_text (Vhdl project) known (WritesDesign known project) (λ text says. (wired known project text says).1)
+    status out_old out_new err_old err_new a done
+WritesWired-answered wired (Some known) request status out_old out_new err_old err_new a done = tt
+
+-- where a testbench is made, out has its text
+pub WritesLines-answered : WrittenBenchesDrive → WrittenTestbenchesDrive → (files : Option Files) (request : Option Request) (status : Status) (out_old out_new err_old err_new : Option (List ℕ)) →
+    IsAnswered files request status out_old out_new err_old err_new → status ≡ statuses.Done → IfSome files (λ known. WritesLines known request out_old out_new)
+WritesLines-answered bench test None request status out_old out_new err_old err_new a done = tt
+WritesLines-answered bench test (Some known) None status out_old out_new err_old err_new a done = tt
+WritesLines-answered bench test (Some known) (Some (Check trace)) status out_old out_new err_old err_new a done = tt
+WritesLines-answered bench test (Some known) (Some (Read project)) status out_old out_new err_old err_new a done = tt
+WritesLines-answered bench test (Some known) (Some (Split project port)) status out_old out_new err_old err_new a done = tt
+WritesLines-answered bench test (Some known) (Some (Drive project port value plan)) status out_old out_new err_old err_new a done = tt
+WritesLines-answered bench test (Some known) (Some (Decode project port trace)) status out_old out_new err_old err_new a done = tt
+WritesLines-answered bench test (Some known) (Some (Sim bench_word run)) status out_old out_new err_old err_new a done = tt
+WritesLines-answered bench test (Some known) (Some (Link project)) status out_old out_new err_old err_new a done = tt
+WritesLines-answered bench test (Some known) (Some (Carry project top from to trace)) status out_old out_new err_old err_new a done = tt
+WritesLines-answered bench test (Some known) (Some (Vhdl project)) status out_old out_new err_old err_new a done = tt
+WritesLines-answered bench test (Some known) (Some (Bench project port value plan)) status out_old out_new err_old err_new a done =
+    written_text (Bench project port value plan) known (WritesBench known (drive_words project port value plan)) (λ text says. (bench known project port value plan text says).1)
+    status out_old out_new err_old err_new a done
+WritesLines-answered bench test (Some known) (Some (Testbench project word)) status out_old out_new err_old err_new a done =
+    written_text (Testbench project word) known (WritesTestbench known (test_words project word)) (λ text says. (test known project word text says).1)
+    status out_old out_new err_old err_new a done
 
 -- where the answer is a refusal, nothing goes to out
 no_out : (a : Answer) → IsRefusal a → out_of_answer a ≡ []

@@ -237,3 +237,13 @@ pub asked-plan : (told : Option Files) (file : FileWord) (word : List ℕ) (spli
     → IsAsked told file (ReadsPlan word split) old new rose result → IfOk result (FitsPort split.streams)
 asked-plan told file word split old new rose (Ok plan) asked = plan_of-fits split.streams asked.0 plan (plan-read word split asked.0 plan asked.1.1.0)
 asked-plan told file word split old new rose (Err reply) asked = tt
+
+-- so does what a reader gives
+pub read-value-fits : (word : List ℕ) (split : PlainSplit) (bytes : List ℕ) (result : Result PortValue Reply) → ReadsAs (ReadsValue word split bytes) result
+    → IfOk result (λ value. fits_split split (plain_port value) ≡ true)
+read-value-fits word split bytes (Ok value) reads = read_values_fit split bytes value reads
+read-value-fits word split bytes (Err reply) reads = tt
+
+pub read-plan-fits : (word : List ℕ) (split : PlainSplit) (bytes : List ℕ) (result : Result Plan Reply) → ReadsAs (ReadsPlan word split bytes) result → IfOk result (FitsPort split.streams)
+read-plan-fits word split bytes (Ok plan) reads = plan_of-fits split.streams bytes plan (plan-read word split bytes plan reads)
+read-plan-fits word split bytes (Err reply) reads = tt

@@ -31,6 +31,7 @@ use Rattle.logical_types.specs.declared.fault.TypeFault.{TypeFault}
 use Rattle.logical_types.specs.declared.fault.TypeFault.TheVariants as typing
 use Rattle.til_resolve.specs.Faults.{IsToldOf}
 use Rattle.til_resolve.specs.PlainProject.{PlainPort, PlainProject}
+use Rattle.til_resolve.specs.declared.project.Test.{Test}
 use Rattle.til_resolve.specs.declared.fault.ResolveFault.{ResolveFault}
 use Rattle.til_resolve.specs.declared.fault.ResolveFault.TheVariants as resolving
 use Rattle.type_split.specs.Carried.{uncarried_of}
@@ -41,6 +42,7 @@ use Rattle.plan_text.specs.Text.{plan_of}
 use Rattle.plan_text.specs.declared.fault.PlanFault.{PlanFault}
 use Rattle.plan_text.specs.declared.fault.PlanFault.TheVariants as planning
 use Rattle.plan_text.specs.declared.plan.Plan.{Plan}
+use Rattle.port_bench.specs.Benches.{bench_text_of}
 use Rattle.port_drive.specs.Drives as driving
 use Rattle.port_drive.specs.Drives.{Undriven, drive_of, heads_of}
 use Rattle.port_drive.specs.Text.{drive_text}
@@ -82,6 +84,8 @@ use Rattle.link_check.specs.declared.difference.Why.TheVariants as whys
 use Rattle.link_check.specs.declared.fault.LinkFault.{LinkFault}
 use Rattle.link_check.specs.declared.fault.LinkFault.TheVariants as linking
 use Rattle.link_check.specs.declared.nets.Nets.{Nets}
+use Rattle.tydi_tool.specs.Tests.{test_named, tested_port}
+use Rattle.tydi_tool.specs.Words as requests
 use Rattle.tydi_tool.specs.Words.{Request, Check, Decode, Drive, Link, Read, Sim, Split, FileWord, Carry, Vhdl}
 use Rattle.link_check.specs.Carry.{FirstOther, carried}
 use Rattle.link_check.specs.declared.end_heads.EndHeads.{EndHeads}
@@ -116,6 +120,7 @@ pub data Row : Type 0 where
   AnUnfinished : Row
   ADisagreement : Row
   AText : Row
+  NoTest : Row
 
 -- the row of each name of a fault
 abbrev pub rows_of_faults : List (List ℕ × Row)
@@ -127,7 +132,7 @@ rows_of_faults =
     ∷ (codes "DeclaredTwice", ResolverFault) ∷ (codes "UnknownName", ResolverFault) ∷ (codes "WrongKind", ResolverFault)
     ∷ (codes "CyclicType", ResolverFault) ∷ (codes "TypeTooLarge", ResolverFault) ∷ (codes "BadType", ResolverFault)
     ∷ (codes "PortNotStream", ResolverFault) ∷ (codes "CyclicInstance", ResolverFault)
-    ∷ (codes "NoStreamlet", NoStreamlet) ∷ (codes "NoPath", NoPath)
+    ∷ (codes "NoStreamlet", NoStreamlet) ∷ (codes "NoPath", NoPath) ∷ (codes "NoTest", NoTest)
     ∷ (codes "NoPort", NoPort) ∷ (codes "NameClash", NameClash) ∷ (codes "NoCarrier", NoCarrier)
     ∷ (codes "BadHeader", TextFault) ∷ (codes "TooManyCycles", TextFault) ∷ (codes "BadRow", TextFault)
     ∷ (codes "WrongSignals", TextFault) ∷ (codes "RowsMissing", TextFault) ∷ (codes "RowsLeft", TextFault)
@@ -187,6 +192,8 @@ project_of (Sim bench run) = None
 project_of (Link project) = Some project
 project_of (Carry project top from to trace) = Some project
 project_of (Vhdl project) = Some project
+project_of (requests.Bench project port value plan) = Some project
+project_of (requests.Testbench project test) = Some project
 
 -- the project that a command resolves
 abbrev pub resolved_of : Request → Option (List ℕ)
@@ -199,6 +206,8 @@ resolved_of (Sim bench run) = None
 resolved_of (Link project) = Some project
 resolved_of (Carry project top from to trace) = Some project
 resolved_of (Vhdl project) = Some project
+resolved_of (requests.Bench project port value plan) = Some project
+resolved_of (requests.Testbench project test) = Some project
 
 -- the trace that a command reads before it reads anything else
 abbrev pub trace_in : Request → Option (List ℕ)
@@ -215,12 +224,14 @@ abbrev pub port_in : Request → Option PortWords
 port_in (Split project port) = Some (record { project = project; port = port })
 port_in (Drive project port value plan) = Some (record { project = project; port = port })
 port_in (Decode project port trace) = Some (record { project = project; port = port })
+port_in (requests.Bench project port value plan) = Some (record { project = project; port = port })
 port_in request = None
 
 -- the port that a command begins with, each of whose nodes has to be carried
 abbrev pub carried_in : Request → Option PortWords
 carried_in (Drive project port value plan) = Some (record { project = project; port = port })
 carried_in (Decode project port trace) = Some (record { project = project; port = port })
+carried_in (requests.Bench project port value plan) = Some (record { project = project; port = port })
 carried_in request = None
 
 -- a port of a project, a value of it and a plan of its streams
@@ -232,6 +243,7 @@ pub record DriveWords : Type 0 where
 -- the port that a command drives, with the files of the value and the plan
 abbrev pub driven_in : Request → Option DriveWords
 driven_in (Drive project port value plan) = Some (record { at = record { project = project; port = port }; value = value; plan = plan })
+driven_in (requests.Bench project port value plan) = Some (record { at = record { project = project; port = port }; value = value; plan = plan })
 driven_in request = None
 
 -- a port of a project, and a trace of it
@@ -282,6 +294,16 @@ ChecksLinks request word read = ⊥
 abbrev pub designed_in : Request → Option (List ℕ)
 designed_in (Vhdl project) = Some project
 designed_in request = None
+
+-- a declared test of a project
+pub record TestWords : Type 0 where
+  pub project : List ℕ
+  pub test : List ℕ
+
+-- the declared test that a command makes the testbench of
+abbrev pub tested_in : Request → Option TestWords
+tested_in (requests.Testbench project test) = Some (record { project = project; test = test })
+tested_in request = None
 
 -- a text of at most so many bytes that a command reads by this word
 pub record HasText (known : Files) (named : Option (List ℕ)) (limit : ℕ) (word bytes : List ℕ) : Type 0 where
@@ -370,6 +392,34 @@ pub record HasRead (known : Files) (word : List ℕ) (read : PlainProject) : Typ
   pub bytes : List ℕ
   pub file : HasBytes known word 4194304 bytes
   pub reads : ReadsProject word bytes (Ok read)
+
+-- the project is there and is read, and has this test, which drives a port of this type
+pub record HasTest (known : Files) (words : TestWords) (test : Test) (ltype : Ltype) : Type 0 where
+  pub read : PlainProject
+  pub project : HasRead known words.project read
+  pub named : test_named read words.test ≡ Some test
+  pub found : PlainPort
+  pub drives : tested_port read test ≡ Some found
+  pub type_is : ltype ≡ found.ltype
+
+-- no two physical streams of that port clash: this is its split
+pub record HasTestSplit (known : Files) (words : TestWords) (test : Test) (split : PlainSplit) : Type 0 where
+  pub ltype : Ltype
+  pub port : HasTest known words test ltype
+  pub apart : clash_of ltype ≡ None
+  pub is : split ≡ split_of ltype
+
+-- the same, and each node of it is carried
+pub record HasTestCarried (known : Files) (words : TestWords) (test : Test) (split : PlainSplit) : Type 0 where
+  pub split_is : HasTestSplit known words test split
+  pub carried : uncarried_of split ≡ None
+
+-- all that the testbench of a declared test needs is there: the texts of its value and of its plan are these
+pub record HasTestDrive (known : Files) (words : TestWords) (split : PlainSplit) (value : PortValue) (plan : Plan) : Type 0 where
+  pub test : Test
+  pub at : HasTestCarried known words test split
+  pub value_is : IsValue split test.value value
+  pub plan_is : plan_of split.streams test.plan ≡ Ok plan
 
 -- and these are the heads of a trace between the two leaf ports
 pub record HasDesign (known : Files) (words : DesignWords) (heads : EndHeads) : Type 0 where
@@ -598,10 +648,19 @@ pub record SourceClashes (known : Files) (request : Request) (path : List (List 
   pub top_is : top_at read.streamlets words.design.top ≡ Some top
   pub clash : HasClash read.streamlets (leaf_at top words.design.from) path
 
+-- two physical streams of the port that a declared test drives clash on this path
+pub record TestClashes (known : Files) (request : Request) (path : List (List ℕ)) : Type 0 where
+  pub words : TestWords
+  pub named : tested_in request ≡ Some words
+  pub test : Test
+  pub ltype : Ltype
+  pub port : HasTest known words test ltype
+  pub clash : clash_of ltype ≡ Some path
+
 -- two physical streams of the port clash on this path
 pub record NameClashCause (known : Files) (request : Request) (a : Answer) : Type 0 where
   pub path : List (List ℕ)
-  pub clashes : PortClashes known request path ⊎ SourceClashes known request path
+  pub clashes : PortClashes known request path ⊎ (SourceClashes known request path ⊎ TestClashes known request path)
   pub said : a ≡ answers.Refused (codes "tydi: NameClash " ++ path_text path ++ codes "\n")
 
 -- two physical streams of some port of the project clash on this path, and it is the first such port
@@ -620,15 +679,37 @@ pub record DesignClashCause (known : Files) (request : Request) (a : Answer) : T
 abbrev pub ClashCause : Files → Request → Answer → Type 0
 ClashCause known request a = NameClashCause known request a ⊎ DesignClashCause known request a
 
--- a node of the port is not carried, and the first such one has this path
-pub record NoCarrierCause (known : Files) (request : Request) (a : Answer) : Type 0 where
+-- a node of the port that a command begins with is not carried, and the first such one has this path
+pub record PortUncarried (known : Files) (request : Request) (path : List (List ℕ)) : Type 0 where
   pub words : PortWords
   pub named : carried_in request ≡ Some words
   pub split : PlainSplit
   pub split_is : HasSplit known words split
-  pub path : List (List ℕ)
   pub uncarried : uncarried_of split ≡ Some path
+
+-- the same of the port that a declared test drives
+pub record TestUncarried (known : Files) (request : Request) (path : List (List ℕ)) : Type 0 where
+  pub words : TestWords
+  pub named : tested_in request ≡ Some words
+  pub test : Test
+  pub split : PlainSplit
+  pub split_is : HasTestSplit known words test split
+  pub uncarried : uncarried_of split ≡ Some path
+
+-- a node of the port is not carried, and the first such one has this path
+pub record NoCarrierCause (known : Files) (request : Request) (a : Answer) : Type 0 where
+  pub path : List (List ℕ)
+  pub uncarried : PortUncarried known request path ⊎ TestUncarried known request path
   pub said : a ≡ answers.Refused (codes "tydi: NoCarrier " ++ path_text path ++ codes "\n")
+
+-- no test of the project has the path that the word spells, if it spells one
+pub record NoTestCause (known : Files) (request : Request) (a : Answer) : Type 0 where
+  pub words : TestWords
+  pub named : tested_in request ≡ Some words
+  pub read : PlainProject
+  pub project : HasRead known words.project read
+  pub none : test_named read words.test ≡ None
+  pub said : a ≡ answers.Refused (codes "tydi: NoTest " ++ words.test ++ codes "\n")
 
 -- the text of the trace has no reading, with this line
 pub record HasTraceFault (known : Files) (request : Request) (line : List ℕ) : Type 0 where
@@ -711,6 +792,30 @@ pub record HasCarriedFault (known : Files) (request : Request) (line : List ℕ)
   pub reads : trace_of bytes ≡ Err fault
   pub told : trace_line words.trace fault ≡ Some line
 
+-- the text of the value that a declared test holds has no reading as one of its port, with this line; its place is inside that text
+pub record HasTestValueFault (known : Files) (request : Request) (line : List ℕ) : Type 0 where
+  pub words : TestWords
+  pub named : tested_in request ≡ Some words
+  pub test : Test
+  pub split : PlainSplit
+  pub at : HasTestCarried known words test split
+  pub fault : ValueFault
+  pub reads : IsFaulty split test.value fault
+  pub told : value_line (words.test ++ codes " value") fault ≡ Some line
+
+-- the value is read, and the text of the plan that a declared test holds has no reading, with this line; its place is inside that text
+pub record HasTestPlanFault (known : Files) (request : Request) (line : List ℕ) : Type 0 where
+  pub words : TestWords
+  pub named : tested_in request ≡ Some words
+  pub test : Test
+  pub split : PlainSplit
+  pub at : HasTestCarried known words test split
+  pub value : PortValue
+  pub value_is : IsValue split test.value value
+  pub fault : PlanFault
+  pub reads : plan_of split.streams test.plan ≡ Err fault
+  pub told : plan_line (words.test ++ codes " plan") fault ≡ Some line
+
 -- an error of one of these texts, with this line
 abbrev pub HasTextFault : Files → Request → List ℕ → Type 0
 HasTextFault known request line =
@@ -720,15 +825,17 @@ HasTextFault known request line =
     ⊎ (HasBenchFault known request line
     ⊎ (HasRunFault known request line
     ⊎ (HasPortTraceFault known request line
-    ⊎ HasCarriedFault known request line)))))
+    ⊎ (HasCarriedFault known request line
+    ⊎ (HasTestValueFault known request line
+    ⊎ HasTestPlanFault known request line)))))))
 
--- the text of a trace, a value, a plan, a bench or a run has no reading
+-- the text of a trace, a value, a plan, a bench or a run has no reading, be it a file's or a declared test's
 pub record TextFaultCause (known : Files) (request : Request) (a : Answer) : Type 0 where
   pub line : List ℕ
   pub faulty : HasTextFault known request line
   pub said : a ≡ answers.Refused line
 
--- the value and the plan do not drive the port, for this reason
+-- the value and the plan of two files do not drive the port, for this reason
 pub record HasReason (known : Files) (request : Request) (split : PlainSplit) (reason : Undriven) : Type 0 where
   pub words : DriveWords
   pub named : driven_in request ≡ Some words
@@ -737,13 +844,26 @@ pub record HasReason (known : Files) (request : Request) (split : PlainSplit) (r
   pub all : HasDrive known words split value plan
   pub is : drive_of split (plain_port value) plan.streams ≡ Err reason
 
+-- the same of the value and the plan that a declared test holds
+pub record HasTestReason (known : Files) (request : Request) (split : PlainSplit) (reason : Undriven) : Type 0 where
+  pub words : TestWords
+  pub named : tested_in request ≡ Some words
+  pub value : PortValue
+  pub plan : Plan
+  pub all : HasTestDrive known words split value plan
+  pub is : drive_of split (plain_port value) plan.streams ≡ Err reason
+
+-- the value and the plan do not drive the port, for this reason
+abbrev pub IsUndriven : Files → Request → PlainSplit → Undriven → Type 0
+IsUndriven known request split reason = HasReason known request split reason ⊎ HasTestReason known request split reason
+
 -- the lanes of a stream do not divide its elements, and this is the first such stream
 pub record CountNotMultipleCause (known : Files) (request : Request) (a : Answer) : Type 0 where
   pub split : PlainSplit
   pub stream : ℕ
   pub count : ℕ
   pub lanes : ℕ
-  pub reason : HasReason known request split (driving.CountNotMultiple stream count lanes)
+  pub reason : IsUndriven known request split (driving.CountNotMultiple stream count lanes)
   pub said : a ≡ answers.Refused (codes "tydi: CountNotMultiple " ++ path_text (path_of split stream) ++ codes " " ++ decimal count ++ codes " " ++ decimal lanes ++ codes "\n")
 
 -- the run of a stream leaves so many transfers after the cycles of the plan, and this is the first such stream
@@ -751,7 +871,7 @@ pub record NotFinishedCause (known : Files) (request : Request) (a : Answer) : T
   pub split : PlainSplit
   pub stream : ℕ
   pub left : ℕ
-  pub reason : HasReason known request split (driving.NotFinished stream left)
+  pub reason : IsUndriven known request split (driving.NotFinished stream left)
   pub said : a ≡ answers.Refused (codes "tydi: NotFinished " ++ path_text (path_of split stream) ++ codes " " ++ decimal left ++ codes "\n")
 
 -- the project is read, and its links have this error first
@@ -974,6 +1094,22 @@ pub record IsVhdlText (known : Files) (project text : List ℕ) : Type 0 where
   pub nets_are : linked read.streamlets ≡ Ok nets
   pub is : text ≡ design_text (architectures read.streamlets nets.impls)
 
+-- the value and the plan drive the port, and this is the text of the testbench that drives it
+pub record IsBenchText (known : Files) (words : DriveWords) (text : List ℕ) : Type 0 where
+  pub split : PlainSplit
+  pub value : PortValue
+  pub plan : Plan
+  pub all : HasDrive known words split value plan
+  pub is : bench_text_of split (plain_port value) plan ≡ Ok text
+
+-- the value and the plan of the test drive its port, and this is the text of the testbench that drives it
+pub record IsTestbenchText (known : Files) (words : TestWords) (text : List ℕ) : Type 0 where
+  pub split : PlainSplit
+  pub value : PortValue
+  pub plan : Plan
+  pub all : HasTestDrive known words split value plan
+  pub is : bench_text_of split (plain_port value) plan ≡ Ok text
+
 -- the text that a command makes of the files
 abbrev pub IsTextOf : Files → Request → List ℕ → Type 0
 IsTextOf known (Check trace) text = IsLegalText known trace text
@@ -986,6 +1122,8 @@ IsTextOf known (Link project) text = IsLinkText known project text
 IsTextOf known (Carry project top from to trace) text =
     IsCarriedText known (record { design = record { project = project; top = top; from = from; to = to }; trace = trace }) text
 IsTextOf known (Vhdl project) text = IsVhdlText known project text
+IsTextOf known (requests.Bench project port value plan) text = IsBenchText known (record { at = record { project = project; port = port }; value = value; plan = plan }) text
+IsTextOf known (requests.Testbench project test) text = IsTestbenchText known (record { project = project; test = test }) text
 
 -- the text is over 64 MiB
 pub record OutputTooLongCause (known : Files) (request : Request) (a : Answer) : Type 0 where
@@ -1023,6 +1161,7 @@ CausedBy AnOffence known request a = OffenceCause known request a
 CausedBy AnUnfinished known request a = UnfinishedCause known request a
 CausedBy ADisagreement known request a = DisagreeCause known request a
 CausedBy AText known request a = TextCause known request a
+CausedBy NoTest known request a = NoTestCause known request a
 
 -- ---- the laws
 

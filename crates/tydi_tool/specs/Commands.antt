@@ -8,6 +8,7 @@ use Rattle.til_resolve.specs.PlainProject.{PlainProject}
 use Rattle.type_split.specs.Streams.{PlainSplit}
 use Rattle.split_text.specs.Text.{split_text}
 use Rattle.tydi_tool.specs.declared.answer.Answer.{Answer}
+use Rattle.tydi_tool.specs.declared.driven_text.DrivenText.{DrivenText}
 use Rattle.tydi_tool.specs.declared.traces.Survey.{Survey}
 use Rattle.logical_value.specs.declared.value.PortValue.{PortValue}
 use Rattle.plan_text.specs.declared.plan.Plan.{Plan}
@@ -16,11 +17,12 @@ use Rattle.vhdl_meaning.specs.declared.run.SimRun.{SimRun}
 use Rattle.bench_run.specs.Traces.{trace_text_of}
 use Rattle.trace_decode.specs.Outcome.{Outcome}
 use Rattle.tydi_tool.specs.Decodes.{ReadsOutcome, TellsOutcome}
-use Rattle.tydi_tool.specs.Drives.{TellsDriven, carried}
+use Rattle.tydi_tool.specs.Drives.{TellsBench, TellsDriven, TellsText, carried}
 use Rattle.tydi_tool.specs.Texts.{ReadsPlan, ReadsValue}
 use Rattle.tydi_tool.specs.Benches.{ReadsBench, ReadsRun}
 use Rattle.tydi_tool.specs.Entities.{TellsDesign}
 use Rattle.tydi_tool.specs.Links.{TellsLinked}
+use Rattle.tydi_tool.specs.Words as requests
 use Rattle.tydi_tool.specs.Words.{Request, Check, Decode, Drive, Link, Read, Sim, Split, bench_file, trace_file, project_file, text_file, Carry, Vhdl}
 use Rattle.cycle_trace.specs.Trace.{TraceText}
 use Rattle.link_check.specs.declared.end_heads.EndHeads.{EndHeads}
@@ -31,6 +33,7 @@ use Rattle.tydi_tool.specs.Ports.{split_at}
 use Rattle.tydi_tool.specs.Projects.{ReadsProject}
 use Rattle.tydi_tool.specs.Reports.{Reports}
 use Rattle.tydi_tool.specs.Traces.{ReadsTrace}
+use Rattle.tydi_tool.specs.Tests.{TellsTest}
 use Rattle.tydi_tool.specs.Trees.{ReadsTree}
 use Rattle.tydi_tool.specs.Ask.{Ask, Ends, Asks, SaysBy, goes_on}
 
@@ -65,6 +68,10 @@ plan_ask plan split Tells = Asks (text_file plan) Plan (ReadsPlan plan split) (�
 -- a command that ends with a value and then a plan of a port
 abbrev pub planned_ask : (value plan : List ℕ) → PlainSplit → (PortValue → Plan → Answer → Type 0) → Ask
 planned_ask value plan split Tells = Asks (text_file value) PortValue (ReadsValue value split) (λ read. plan_ask plan split (Tells read))
+
+-- a command that ends with this text of a port that is driven
+abbrev pub driven_ask : DrivenText → (project port value plan : List ℕ) → Ask
+driven_ask text project port value plan = carried_ask project port (λ split. planned_ask value plan split (TellsText text split))
 
 -- `drive PROJECT PORT VALUE PLAN`: the trace that drives the port
 abbrev pub drive_ask : (project port value plan : List ℕ) → Ask
@@ -107,6 +114,14 @@ of_design project top from to = record { project = project; top = top; from = fr
 abbrev pub vhdl_ask : List ℕ → Ask
 vhdl_ask project = project_ask project (λ read. Ends (TellsDesign project read))
 
+-- `bench PROJECT PORT VALUE PLAN`: the testbench that drives the port
+abbrev pub bench_ask : (project port value plan : List ℕ) → Ask
+bench_ask project port value plan = carried_ask project port (λ split. planned_ask value plan split (TellsBench split))
+
+-- `testbench PROJECT TEST`: the testbench of a declared test
+abbrev pub testbench_ask : (project test : List ℕ) → Ask
+testbench_ask project test = project_ask project (λ read. Ends (TellsTest read test))
+
 abbrev pub ask_of : Request → Ask
 ask_of (Check trace) = check_ask trace
 ask_of (Read project) = read_ask project
@@ -117,6 +132,8 @@ ask_of (Sim bench run) = sim_ask bench run
 ask_of (Link project) = link_ask project
 ask_of (Carry project top from to trace) = carry_ask (of_design project top from to) trace
 ask_of (Vhdl project) = vhdl_ask project
+ask_of (requests.Bench project port value plan) = bench_ask project port value plan
+ask_of (requests.Testbench project test) = testbench_ask project test
 
 -- the answer of the tool: none where the words spell no command
 abbrev pub Says : Option Files → Option Request → Answer → Type 0

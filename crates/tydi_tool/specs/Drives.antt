@@ -1,15 +1,18 @@
--- The text of the trace that drives a port, or why a port is not driven (this project's own).
+-- The texts of a port that is driven, its trace and its testbench, or why a port is not driven (this project's own).
 use Rattle.std.specs.Prelude.{◌≡◌, ℕ, List, [], ◌∷◌, map, Option, Some, None, Result, Ok, Err, codes}
 use Rattle.std.specs.List.{slice_index_or}
 use Rattle.logical_value.specs.Tree.{plain_port}
 use Rattle.logical_value.specs.declared.value.PortValue.{PortValue}
 use Rattle.plan_text.specs.declared.plan.Plan.{Plan}
+use Rattle.port_bench.specs.Benches.{bench_text_of}
 use Rattle.port_drive.specs.Drives.{CountNotMultiple, NotFinished, Undriven}
 use Rattle.port_drive.specs.Text.{drive_text}
 use Rattle.type_split.specs.Carried.{uncarried_of}
 use Rattle.type_split.specs.Streams.{PlainSplit}
 use Rattle.type_split.specs.declared.split.Phys.{Phys}
 use Rattle.tydi_tool.specs.declared.answer.Answer.{Answer}
+use Rattle.tydi_tool.specs.declared.driven_text.DrivenText.{DrivenText}
+use Rattle.tydi_tool.specs.declared.driven_text.DrivenText.TheVariants as texts
 use Rattle.tydi_tool.specs.Ask.{TellsOf}
 use Rattle.tydi_tool.specs.Outcome.{output_answer}
 use Rattle.tydi_tool.specs.Refusals.{Number, Refusal, Stream, no_carrier}
@@ -47,11 +50,21 @@ abbrev pub refused_by : {A : Type 0} → PlainSplit → Result A Undriven → Re
 refused_by split (Ok a) = Ok a
 refused_by split (Err reason) = Err (refusal_of_driving split reason)
 
--- ---- the answer of `drive`
+-- ---- the answers of `drive` and of `bench`
 
--- the text of the trace that a value and a plan drive, or the refusal
-abbrev pub driven_text : PlainSplit → PortValue → Plan → Result (List ℕ) Refusal
-driven_text split value plan = refused_by split (drive_text split (plain_port value) plan)
+-- a text of a port that is driven, where it is not too long, or the refusal of the reason why it is not driven
+abbrev pub TellsMade : PlainSplit → Result (List ℕ) Undriven → Answer → Type 0
+TellsMade split made a = TellsOf (refused_by split made) (λ text b. b ≡ output_answer text) a
 
+-- the trace that a value and a plan drive
 abbrev pub TellsDriven : PlainSplit → PortValue → Plan → Answer → Type 0
-TellsDriven split value plan a = TellsOf (driven_text split value plan) (λ text b. b ≡ output_answer text) a
+TellsDriven split value plan a = TellsMade split (drive_text split (plain_port value) plan) a
+
+-- the testbench that drives the port with a value by a plan
+abbrev pub TellsBench : PlainSplit → PortValue → Plan → Answer → Type 0
+TellsBench split value plan a = TellsMade split (bench_text_of split (plain_port value) plan) a
+
+-- one of the two
+abbrev pub TellsText : DrivenText → PlainSplit → PortValue → Plan → Answer → Type 0
+TellsText texts.Trace split value plan a = TellsDriven split value plan a
+TellsText texts.Bench split value plan a = TellsBench split value plan a

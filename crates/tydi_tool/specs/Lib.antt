@@ -1,5 +1,6 @@
 pub mod Ask
 pub mod Arrivals
+pub mod BenchLaw
 pub mod Benches
 pub mod CarryLaw
 pub mod Causes
@@ -26,8 +27,10 @@ pub mod Reports
 pub mod Run
 pub mod Started
 pub mod TraceFiles
+pub mod Tests
 pub mod Texts
 pub mod Traces
 pub mod Trees
+pub mod WiringLaw
 pub mod Words
 pub mod DriveLaw

@@ -123,6 +123,10 @@ refusal_of_resolving word resolving.Memory = None
 abbrev pub no_port : List ℕ → Refusal
 no_port port = of_file (codes "NoPort") port
 
+-- the refusal of a word that names no declared test
+abbrev pub no_test : List ℕ → Refusal
+no_test test = of_file (codes "NoTest") test
+
 -- the refusal of a port of which two physical streams have this path
 abbrev pub name_clash : List (List ℕ) → Refusal
 name_clash path = record { name = codes "NameClash"; details = Stream path ∷ [] }

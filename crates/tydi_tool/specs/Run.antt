@@ -9,8 +9,10 @@ use Rattle.tydi_tool.specs.declared.status.Status.{Status}
 use Rattle.tydi_tool.specs.declared.status.Status.TheVariants as statuses
 use Rattle.tydi_tool.specs.DecodeLaw.{IsReadBack, WritesDecoded, decode_words}
 use Rattle.tydi_tool.specs.DriveLaw.{WritesDriven, drive_words}
-use Rattle.tydi_tool.specs.Words.{Request, Check, Decode, Drive, Link, Read, Sim, Split, FileWord, file_words, Carry, Vhdl}
+use Rattle.tydi_tool.specs.Words.{Request, Check, Decode, Drive, Link, Read, Sim, Split, FileWord, file_words, Carry, Vhdl, Bench, Testbench}
+use Rattle.tydi_tool.specs.BenchLaw.{WritesBench, WritesTestbench, test_words}
 use Rattle.tydi_tool.specs.CarryLaw.{WritesArrived, carry_words}
+use Rattle.tydi_tool.specs.WiringLaw.{WritesDesign}
 use Rattle.tydi_tool.specs.Outcome.{read_fault_line, out_of_answer, err_of_answer, status_of_answer, usage_line, memory_line, write_fault_line}
 use Rattle.tydi_tool.specs.Delivery.{Adds, AddsFront, AddsPart, TakesLine, Delivers}
 use Rattle.tydi_tool.specs.Ask.{Decides}
@@ -178,6 +180,8 @@ WritesTrace known (Some (Sim bench run)) out_old out_new = Unit {0}
 WritesTrace known (Some (Link project)) out_old out_new = Unit {0}
 WritesTrace known (Some (Carry project top from to trace)) out_old out_new = Unit {0}
 WritesTrace known (Some (Vhdl project)) out_old out_new = Unit {0}
+WritesTrace known (Some (Bench project port value plan)) out_old out_new = Unit {0}
+WritesTrace known (Some (Testbench project test)) out_old out_new = Unit {0}
 WritesTrace known (Some (Drive project port value plan)) out_old out_new =
     (text : List ℕ) × (WritesDriven known (drive_words project port value plan) text × Adds out_old out_new text)
 
@@ -198,3 +202,18 @@ abbrev pub WritesCarried : Files → Option Request → (out_old out_new : Optio
 WritesCarried known (Some (Carry project top from to trace)) out_old out_new =
     (text : List ℕ) × (WritesArrived known (carry_words project top from to trace) text × Adds out_old out_new text)
 WritesCarried known request out_old out_new = Unit {0}
+
+-- where the command writes a project in VHDL, out has exactly the text more of its entities and architectures, which are wired by its nets
+abbrev pub WritesWired : Files → Option Request → (out_old out_new : Option (List ℕ)) → Type 0
+WritesWired known (Some (Vhdl project)) out_old out_new =
+    (text : List ℕ) × (WritesDesign known project text × Adds out_old out_new text)
+WritesWired known request out_old out_new = Unit {0}
+
+-- where the command makes a testbench, of a port or of a declared test, out has exactly the text of a testbench more that drives the port: under any
+-- ready bits and any orders it shows the run of the planned transfers, and `sim` of it with the plan's cycles and ready bits gives what `drive` gives
+abbrev pub WritesLines : Files → Option Request → (out_old out_new : Option (List ℕ)) → Type 0
+WritesLines known (Some (Bench project port value plan)) out_old out_new =
+    (text : List ℕ) × (WritesBench known (drive_words project port value plan) text × Adds out_old out_new text)
+WritesLines known (Some (Testbench project test)) out_old out_new =
+    (text : List ℕ) × (WritesTestbench known (test_words project test) text × Adds out_old out_new text)
+WritesLines known request out_old out_new = Unit {0}

@@ -16,6 +16,8 @@ pub data Request : Type 0 where
   Link : List ℕ → Request
   Carry : List ℕ → List ℕ → List ℕ → List ℕ → List ℕ → Request
   Vhdl : List ℕ → Request
+  Bench : List ℕ → List ℕ → List ℕ → List ℕ → Request
+  Testbench : List ℕ → List ℕ → Request
 
 abbrev pub request_from : Command → Request
 request_from (commands.Check trace) = Check trace.now
@@ -27,6 +29,8 @@ request_from (commands.Sim bench run) = Sim bench.now run.now
 request_from (commands.Link project) = Link project.now
 request_from (commands.Carry project top from to trace) = Carry project.now top.now from.now to.now trace.now
 request_from (commands.Vhdl project) = Vhdl project.now
+request_from (commands.Bench project port value plan) = Bench project.now port.now value.now plan.now
+request_from (commands.Testbench project test) = Testbench project.now test.now
 
 -- a word that is not empty and does not begin with `-`
 abbrev pub is_word : List ℕ → Bool
@@ -80,6 +84,17 @@ abbrev pub vhdl_request : List (List ℕ) → Option Request
 vhdl_request (project ∷ []) = if is_word project then Some (Vhdl project) else None
 vhdl_request words = None
 
+-- `bench PROJECT PORT VALUE PLAN`
+abbrev pub bench_request : List (List ℕ) → Option Request
+bench_request (project ∷ port ∷ value ∷ plan ∷ []) =
+    if (is_word project && is_word port) && (is_word value && is_word plan) then Some (Bench project port value plan) else None
+bench_request words = None
+
+-- `testbench PROJECT TEST`
+abbrev pub testbench_request : List (List ℕ) → Option Request
+testbench_request (project ∷ test ∷ []) = if is_word project && is_word test then Some (Testbench project test) else None
+testbench_request words = None
+
 -- the command that the words spell: the command's own word, and then exactly its words
 abbrev pub request_of : List (List ℕ) → Option Request
 request_of [] = None
@@ -93,7 +108,9 @@ request_of (command ∷ words) =
     else (if bytes_eq command (codes "decode") then decode_request words
     else (if bytes_eq command (codes "carry") then carry_request words
     else (if bytes_eq command (codes "vhdl") then vhdl_request words
-    else None))))))))
+    else (if bytes_eq command (codes "bench") then bench_request words
+    else (if bytes_eq command (codes "testbench") then testbench_request words
+    else None))))))))))
 
 -- a file that a command names, and the most bytes that it may have
 pub record FileWord : Type 0 where
@@ -137,6 +154,8 @@ file_words (Sim bench run) = bench_file bench ∷ text_file run ∷ []
 file_words (Link project) = project_file project ∷ []
 file_words (Carry project top from to trace) = project_file project ∷ trace_file trace ∷ []
 file_words (Vhdl project) = project_file project ∷ []
+file_words (Bench project port value plan) = project_file project ∷ text_file value ∷ text_file plan ∷ []
+file_words (Testbench project test) = project_file project ∷ []
 
 -- the store may start each file of the command
 abbrev pub Allows : (List ℕ → Bool) → Option Request → Type 0

@@ -20,9 +20,10 @@ ghost use Rattle.tydi_tool.specs.Words.{request_from, file_words, project_file};
 use crate::answer::Reply;
 use crate::asking::{ask, ask_text};
 use crate::carry::carry;
+use crate::declared_test::testbench;
 use crate::decode::decode;
 use crate::designs::DesignText;
-use crate::drive::drive;
+use crate::drive::{bench, drive};
 use crate::ending::{OUTPUT_LIMIT, answered, answered_front, too_long};
 use crate::link::link;
 use crate::ports::split_of_port;
@@ -86,6 +87,13 @@ pub(crate) fn reply_to<S: Store>(alloc: Global, command: Command<'_>, store: &mu
             carry(alloc, words, trace, store)
         }
         Command::Vhdl { project } => vhdl(alloc, project, store),
+        Command::Bench {
+            project,
+            port,
+            value,
+            plan,
+        } => bench(alloc, project, port, value, plan, store),
+        Command::Testbench { project, test } => testbench(alloc, project, test, store),
     }
 }
 

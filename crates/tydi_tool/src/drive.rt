@@ -1,4 +1,5 @@
-//! The command that drives a port. It asks for the project, the value and the plan, one after another, and ends with the trace.
+//! The commands that drive a port. They ask for the project, the value and the plan, one after another, and end with the trace, or with the
+//! testbench that drives it.
 
 ghost use Rattle.std.specs.Prelude.{◌≡◌, ◌≤◌, IfOk, IsTrue, true};
 ghost use Rattle.logical_value.specs.Fits.{fits_split};
@@ -9,8 +10,8 @@ ghost use Rattle.til_resolve.specs.SoundProject.{IsSoundProject};
 ghost use Rattle.tydi_io.specs.Faults.{Rose};
 ghost use Rattle.type_split.specs.Streams.{IsPortSplit, plain_split};
 ghost use Rattle.tydi_tool.specs.Ask.{Decides, IsAsked, goes_on};
-ghost use Rattle.tydi_tool.specs.Commands.{drive_ask, plan_ask, planned_ask};
-ghost use Rattle.tydi_tool.specs.Drives.{TellsDriven, carried};
+ghost use Rattle.tydi_tool.specs.Commands.{bench_ask, drive_ask, driven_ask, plan_ask, planned_ask};
+ghost use Rattle.tydi_tool.specs.Drives.{TellsText, carried};
 ghost use Rattle.tydi_tool.specs.Ports.{split_at};
 ghost use Rattle.tydi_tool.specs.Reading.{Gives};
 ghost use Rattle.tydi_tool.specs.Texts.{ReadsPlan, ReadsValue};
@@ -19,6 +20,7 @@ ghost use Rattle.tydi_tool.specs.Words.{text_file};
 use crate::answer::Reply;
 use crate::asking::ask_text;
 use crate::commands::ask_project;
+use crate::driven_text::DrivenText;
 use crate::driving::driven;
 use crate::ports::split_of_port;
 use crate::refusal::{Detail, refused};
@@ -49,8 +51,45 @@ pub(crate) fn drive<S: Store>(
     ensures decided { Decides (S.files store.old) (S.started store.old) (S.started store.new) (Rose (S.faults store.old) (S.faults store.new))
         (drive_ask project.now port.now value.now plan.now) result }
 {
+    drive_port(alloc, DrivenText::Trace, project, port, value, plan, store)
+}
+
+/// `bench PROJECT PORT VALUE PLAN`.
+pub(crate) fn bench<S: Store>(
+    alloc: Global,
+    project: &Text,
+    port: &Text,
+    value: &Text,
+    plan: &Text,
+    store: &mut S,
+) -> Reply
+    requires project { IsTrue (S.allowed store.old project.now) }
+    requires value { IsTrue (S.allowed store.old value.now) }
+    requires plan { IsTrue (S.allowed store.old plan.now) }
+    ensures decided { Decides (S.files store.old) (S.started store.old) (S.started store.new) (Rose (S.faults store.old) (S.faults store.new))
+        (bench_ask project.now port.now value.now plan.now) result }
+{
+    drive_port(alloc, DrivenText::Bench, project, port, value, plan, store)
+}
+
+/// This text of a port that is driven.
+fn drive_port<S: Store>(
+    alloc: Global,
+    text: DrivenText,
+    project: &Text,
+    port: &Text,
+    value: &Text,
+    plan: &Text,
+    store: &mut S,
+) -> Reply
+    requires project { IsTrue (S.allowed store.old project.now) }
+    requires value { IsTrue (S.allowed store.old value.now) }
+    requires plan { IsTrue (S.allowed store.old plan.now) }
+    ensures decided { Decides (S.files store.old) (S.started store.old) (S.started store.new) (Rose (S.faults store.old) (S.faults store.new))
+        (driven_ask text project.now port.now value.now plan.now) result }
+{
     match ask_project(alloc, project, store) {
-        Ok(read) => drive_named(alloc, &read, port, value, plan, store),
+        Ok(read) => drive_named(alloc, text, &read, port, value, plan, store),
         Err(reply) => reply,
     }
 }
@@ -58,6 +97,7 @@ pub(crate) fn drive<S: Store>(
 /// The same, with the project.
 fn drive_named<S: Store>(
     alloc: Global,
+    text: DrivenText,
     project: &Project,
     port: &Text,
     value: &Text,
@@ -69,10 +109,10 @@ fn drive_named<S: Store>(
     requires plan { IsTrue (S.allowed store.old plan.now) }
     ensures decided { Decides (S.files store.old) (S.started store.old) (S.started store.new) (Rose (S.faults store.old) (S.faults store.new))
         (goes_on (split_at (plain_project project.now) port.now)
-        (λ split. goes_on (carried split) (λ done. planned_ask value.now plan.now split (TellsDriven split)))) result }
+        (λ split. goes_on (carried split) (λ done. planned_ask value.now plan.now split (TellsText text split)))) result }
 {
     match split_of_port(alloc, project, port) {
-        Ok(split) => drive_carried(alloc, &split, value, plan, store),
+        Ok(split) => drive_carried(alloc, text, &split, value, plan, store),
         Err(reply) => reply,
     }
 }
@@ -80,6 +120,7 @@ fn drive_named<S: Store>(
 /// The same, with the split of the port.
 fn drive_carried<S: Store>(
     alloc: Global,
+    text: DrivenText,
     split: &Split<'_>,
     value: &Text,
     plan: &Text,
@@ -89,10 +130,10 @@ fn drive_carried<S: Store>(
     requires value { IsTrue (S.allowed store.old value.now) }
     requires plan { IsTrue (S.allowed store.old plan.now) }
     ensures decided { Decides (S.files store.old) (S.started store.old) (S.started store.new) (Rose (S.faults store.old) (S.faults store.new))
-        (goes_on (carried (plain_split split.now)) (λ done. planned_ask value.now plan.now (plain_split split.now) (TellsDriven (plain_split split.now)))) result }
+        (goes_on (carried (plain_split split.now)) (λ done. planned_ask value.now plan.now (plain_split split.now) (TellsText text (plain_split split.now)))) result }
 {
     match check_carried(alloc, split) {
-        Ok(()) => drive_value(alloc, split, value, plan, store),
+        Ok(()) => drive_value(alloc, text, split, value, plan, store),
         Err(reply) => reply,
     }
 }
@@ -110,6 +151,7 @@ pub(crate) fn check_carried(alloc: Global, split: &Split<'_>) -> Result<(), Repl
 /// The same, where all nodes are carried.
 fn drive_value<S: Store>(
     alloc: Global,
+    text: DrivenText,
     split: &Split<'_>,
     value: &Text,
     plan: &Text,
@@ -119,10 +161,10 @@ fn drive_value<S: Store>(
     requires value { IsTrue (S.allowed store.old value.now) }
     requires plan { IsTrue (S.allowed store.old plan.now) }
     ensures decided { Decides (S.files store.old) (S.started store.old) (S.started store.new) (Rose (S.faults store.old) (S.faults store.new))
-        (planned_ask value.now plan.now (plain_split split.now) (TellsDriven (plain_split split.now))) result }
+        (planned_ask value.now plan.now (plain_split split.now) (TellsText text (plain_split split.now))) result }
 {
     match ask_value(alloc, split, value, store) {
-        Ok(read) => drive_planned(alloc, split, &read, plan, store),
+        Ok(read) => drive_planned(alloc, text, split, &read, plan, store),
         Err(reply) => reply,
     }
 }
@@ -155,6 +197,7 @@ fn ask_value<S: Store>(
 /// The same, with the value.
 fn drive_planned<S: Store>(
     alloc: Global,
+    text: DrivenText,
     split: &Split<'_>,
     value: &PortValue,
     plan: &Text,
@@ -164,10 +207,10 @@ fn drive_planned<S: Store>(
     requires fits { fits_split (plain_split split.now) (plain_port value.now) ≡ true }
     requires plan { IsTrue (S.allowed store.old plan.now) }
     ensures decided { Decides (S.files store.old) (S.started store.old) (S.started store.new) (Rose (S.faults store.old) (S.faults store.new))
-        (plan_ask plan.now (plain_split split.now) (TellsDriven (plain_split split.now) value.now)) result }
+        (plan_ask plan.now (plain_split split.now) (TellsText text (plain_split split.now) value.now)) result }
 {
     match ask_plan(alloc, split, plan, store) {
-        Ok(read) => driven(alloc, split, value, read),
+        Ok(read) => driven(alloc, text, split, value, read),
         Err(reply) => reply,
     }
 }

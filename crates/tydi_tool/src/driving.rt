@@ -1,4 +1,4 @@
-//! The trace that a value and a plan drive, as the answer.
+//! The text of a port that a value and a plan drive, as the answer: its trace, or its testbench.
 
 ghost use Rattle.std.specs.Prelude.{◌≡◌, ◌<◌, ◌⊎◌, IfSome, length, min, option_map, true};
 ghost use Rattle.logical_value.specs.Fits.{fits_split};
@@ -9,24 +9,48 @@ ghost use Rattle.port_drive.specs.PortText.{text_left};
 ghost use Rattle.type_split.specs.Streams.{IsPortSplit, plain_split};
 ghost use Rattle.tydi_base.specs.Lengths.{most_bytes};
 ghost use Rattle.tydi_tool.specs.Ask.{Judges};
-ghost use Rattle.tydi_tool.specs.Drives.{TellsDriven, refusal_of_driving, stream_of};
+ghost use Rattle.tydi_tool.specs.Drives.{TellsBench, TellsDriven, TellsText, refusal_of_driving, stream_of};
 ghost use Rattle.tydi_tool.specs.Outcome.{output_answer};
+ghost use Rattle.tydi_tool.specs.Output.{lines_left};
 ghost use Rattle.tydi_tool.specs.Reading.{IsRefusedBy};
 ghost use Rattle.tydi_tool.specs.declared.answer.Reply.TheVariants as replies;
 
 use crate::answer::{Answer, Reply};
+use crate::driven_text::DrivenText;
 use crate::ending::OUTPUT_LIMIT;
 use crate::output::Output;
 use crate::refusal::{Detail, refused};
 use logical_value::PortValue;
 use plan_text::Plan;
+use port_bench::port_bench;
 use port_drive::{DriveFault, PortTrace, port_trace};
+use scheduler::Planner;
 use std::alloc::Global;
+use testbench::BenchText;
 use type_split::Split;
 
-/// The text of the trace that a value and a plan drive. The refusal says why the port is not driven, or that the text is too long. It is
+/// This text of a port that a value and a plan drive. The refusal says why the port is not driven, or that the text is too long. It is
 /// known before any of the text is written.
-pub(crate) fn driven(alloc: Global, split: &Split<'_>, value: &PortValue, plan: Plan) -> Reply
+pub(crate) fn driven(
+    alloc: Global,
+    text: DrivenText,
+    split: &Split<'_>,
+    value: &PortValue,
+    plan: Plan,
+) -> Reply
+    requires port { IsPortSplit (plain_split split.now) }
+    requires value { fits_split (plain_split split.now) (plain_port value.now) ≡ true }
+    requires plan { FitsPort split.now.streams plan }
+    ensures { Judges (TellsText text (plain_split split.now) value.now plan) result }
+{
+    match text {
+        DrivenText::Trace => driven_trace(alloc, split, value, plan),
+        DrivenText::Bench => driven_bench(alloc, split, value, plan),
+    }
+}
+
+/// The text of the trace that drives a port.
+fn driven_trace(alloc: Global, split: &Split<'_>, value: &PortValue, plan: Plan) -> Reply
     requires port { IsPortSplit (plain_split split.now) }
     requires value { fits_split (plain_split split.now) (plain_port value.now) ≡ true }
     requires plan { FitsPort split.now.streams plan }
@@ -48,6 +72,31 @@ fn traced(alloc: Global, trace: PortTrace) -> Reply
         return Reply::Says(Answer::Done(Output::rows(pieces, length)));
     }
     refused(alloc, "OutputTooLong", &[])
+}
+
+/// The text of the testbench that drives a port.
+fn driven_bench(alloc: Global, split: &Split<'_>, value: &PortValue, plan: Plan) -> Reply
+    requires port { IsPortSplit (plain_split split.now) }
+    requires value { fits_split (plain_split split.now) (plain_port value.now) ≡ true }
+    requires plan { FitsPort split.now.streams plan }
+    ensures { Judges (TellsBench (plain_split split.now) value.now plan) result }
+{
+    match port_bench(alloc, split, value, plan) {
+        Ok(bench) => benched(alloc, bench),
+        Err(fault) => undriven(alloc, split, fault),
+    }
+}
+
+/// The text of a testbench as the answer, where it is not too long.
+fn benched(alloc: Global, bench: BenchText<Planner>) -> Reply
+    requires { bench.length ≡ min (length (lines_left bench.pieces)) most_bytes }
+    ensures { (result ≡ replies.Says (output_answer (lines_left bench.pieces))) ⊎ (result ≡ replies.Memory) }
+{
+    let BenchText { pieces, length } = bench;
+    if length > OUTPUT_LIMIT {
+        return refused(alloc, "OutputTooLong", &[]);
+    }
+    Reply::Says(Answer::Done(Output::lines(pieces, length)))
 }
 
 /// The reply to a value and a plan that do not drive a port, for this reason.

@@ -11,6 +11,7 @@ ghost use Rattle.tydi_tool.specs.Causes.{
   NoPathCause,
   NoPortCause,
   NoStreamletCause,
+  NoTestCause,
   NotFinishedCause,
   NotUtf8Cause,
   OffenceCause,
@@ -24,16 +25,27 @@ ghost use Rattle.tydi_tool.specs.Causes.{
   UnfinishedCause,
 };
 ghost use Rattle.tydi_tool.specs.Causes as rows;
+ghost use Rattle.tydi_tool.specs.BenchLaw.{
+  AcceptedPortsHaveBenches,
+  BenchesAreRefusedAsDrives,
+  TestbenchesAreBenches,
+  WrittenBenchesDrive,
+  WrittenTestbenchesDrive,
+};
 ghost use Rattle.tydi_tool.specs.DecodeLaw.{CarriedValuesAreWritten, DrivenValuesAreReadBack, LevelsKeepValues, WrittenValuesAreCarried};
 ghost use Rattle.tydi_tool.specs.CarryLaw.{LevelsRiseOnTheWay, WrittenTracesArrive};
 ghost use Rattle.tydi_tool.specs.DriveLaw.{AcceptedPortsAreDriven, WrittenTracesAreDriven};
 ghost use Rattle.tydi_tool.specs.Laws.{OneAnswer, SomeAnswer};
+ghost use Rattle.tydi_tool.specs.WiringLaw.{WrittenDesignsAreWired};
 
 use carried_values::traces_arrive_whole;
 use cycle_trace::traces_are_read_as_spelled;
 use link_check::{compatible_ports_carry, projects_have_one_answer};
+use port_bench::benches_show_their_runs;
 use port_drive::driven_texts_are_traces;
 use trace_decode::texts_have_one_outcome;
+use value_text::values_are_read_as_printed;
+use vhdl_writer::{checked_nets_carry, each_signal_is_assigned_once, first_clash_is_reported};
 
 /// The laws of answers: to given words and files there is an answer, and one.
 pub fn answers_are_one()
@@ -69,6 +81,7 @@ pub fn causes_are_told()
     ensures unfinished { ExactlyWhere rows.AnUnfinished UnfinishedCause }
     ensures disagreement { ExactlyWhere rows.ADisagreement DisagreeCause }
     ensures text { ExactlyWhere rows.AText TextCause }
+    ensures no_test { ExactlyWhere rows.NoTest NoTestCause }
     ensures each { EachIsOfARow }
 {}
 
@@ -101,4 +114,31 @@ pub fn carried_traces_arrive()
     traces_are_read_as_spelled();
     driven_texts_are_traces();
     compatible_ports_carry();
+}
+
+/// The law of `vhdl`, over the words and the files alone. Each text that it writes is that of the entities and architectures of a project that
+/// is read from the file and whose links give nets. In each architecture each signal that the receiving end of a stream of a net has is assigned
+/// exactly once, and nothing else is; and under the assignments the trace at the receiving ends of a net is the one that `carry` makes of the
+/// trace at the sending ends.
+pub fn written_designs_are_wired()
+    ensures { WrittenDesignsAreWired }
+{
+    values_are_read_as_printed();
+    first_clash_is_reported();
+    each_signal_is_assigned_once();
+    checked_nets_carry();
+}
+
+/// The laws of `bench` and of `testbench`. Each text that they write is that of the testbench which drives the port with the value by the plan: under
+/// any ready bits and any orders of its processes each stream shows the run of its planned transfers; and `sim` of it, with the cycles and the ready
+/// bits of the plan, gives what `drive` gives. `bench` accepts and refuses exactly what `drive` does, the length of the output aside. `testbench`
+/// writes what `bench` writes of the texts that the test holds.
+pub fn benches_drive_ports()
+    ensures written { WrittenBenchesDrive }
+    ensures tested { WrittenTestbenchesDrive }
+    ensures accepted { AcceptedPortsHaveBenches }
+    ensures refused { BenchesAreRefusedAsDrives }
+    ensures alike { TestbenchesAreBenches }
+{
+    benches_show_their_runs();
 }

@@ -9,12 +9,14 @@ mod asking;
 mod benches;
 mod carry;
 mod commands;
+mod declared_test;
 mod decode;
 mod decode_file;
 mod decoding;
 mod delivery;
 mod designs;
 mod drive;
+mod driven_text;
 mod driving;
 mod ending;
 mod gather;
@@ -40,7 +42,8 @@ mod words;
 
 pub use answer::{Answer, Reply};
 pub use laws::{
-    answers_are_one, carried_traces_arrive, causes_are_told, drives_are_legal, values_are_read_back,
+    answers_are_one, benches_drive_ports, carried_traces_arrive, causes_are_told, drives_are_legal,
+    values_are_read_back, written_designs_are_wired,
 };
 pub use output::Output;
 pub use running::run;

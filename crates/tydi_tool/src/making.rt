@@ -25,5 +25,6 @@ pub(crate) fn make_piece(
         Source::Rows(pieces) => pieces.next(alloc, piece),
         Source::Cycles(pieces) => pieces.next(alloc, piece),
         Source::Design(pieces) => pieces.next(alloc, piece),
+        Source::Lines(pieces) => pieces.next(alloc, piece),
     }
 }

@@ -2,6 +2,7 @@ ghost use Rattle.std.specs.Prelude.{◌≡◌, ◌<◌, ◌-◌, ◌++◌, lengt
 ghost use Rattle.bench_run.specs.TextLeft as benches;
 ghost use Rattle.port_drive.specs.PortText.{text_left};
 ghost use Rattle.vhdl_writer.specs.Designs as designs;
+ghost use Rattle.tydi_tool.specs.Output.{lines_left};
 
 use crate::making::make_piece;
 use crate::source::Source;
@@ -10,6 +11,7 @@ use handshake::PortRun;
 use scheduler::Planner;
 use std::alloc::Global;
 use std::marker::Model;
+use testbench::BenchPieces;
 use trace_pieces::TracePieces;
 use tydi_base::{List, Memory};
 use vhdl_writer::DesignPieces;
@@ -75,6 +77,17 @@ impl Output {
     {
         Output {
             source: Source::Design(pieces),
+            left,
+        }
+    }
+
+    /// The text of the testbench of a port, which has so many bytes.
+    pub(crate) fn lines(pieces: BenchPieces<Planner>, left: u64) -> Output
+        requires { left ≡ length (lines_left pieces) }
+        ensures { result ≡ lines_left pieces }
+    {
+        Output {
+            source: Source::Lines(pieces),
             left,
         }
     }

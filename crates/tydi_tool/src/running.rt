@@ -20,6 +20,8 @@ ghost use Rattle.tydi_tool.specs.Run.{
   StartedAtEnd,
   WritesReadBack,
   WritesCarried,
+  WritesWired,
+  WritesLines,
   WritesTrace,
   WritesValue,
 };
@@ -28,7 +30,7 @@ ghost use Rattle.tydi_tool.specs.declared.status.Status.TheVariants as statuses;
 
 use crate::commands::reply_to;
 use crate::delivery::{deliver, deliver_line};
-use crate::laws::carried_traces_arrive;
+use crate::laws::{benches_drive_ports, carried_traces_arrive, written_designs_are_wired};
 use crate::status::Status;
 use crate::words::words_of;
 use std::alloc::Global;
@@ -79,6 +81,14 @@ pub fn run<S: Store, O: Sink, E: Sink>(
     // Where a trace is carried, out has exactly the text of the trace that arrives, which arrives whole.
     ensures carried { result ≡ statuses.Done → IfSome (S.files store.old) (λ known. WritesCarried known (request_of words.now) (O.taken out.old)
         (O.taken out.new)) }
+    // Where a project is written in VHDL, out has exactly the text of its entities and architectures, in each of which each signal that the
+    // receiving end of a stream of a net has is assigned exactly once, and which keep what `carry` makes of a trace.
+    ensures wired { result ≡ statuses.Done → IfSome (S.files store.old) (λ known. WritesWired known (request_of words.now) (O.taken out.old)
+        (O.taken out.new)) }
+    // Where a testbench is made, of a port or of a declared test, out has exactly the text of one that drives the port: under any ready bits and any
+    // orders of its processes it shows the run of the planned transfers, and `sim` of it, under the plan's cycles and ready bits, gives what `drive` gives.
+    ensures benched { result ≡ statuses.Done → IfSome (S.files store.old) (λ known. WritesLines known (request_of words.now) (O.taken out.old)
+        (O.taken out.new)) }
     // Where no count of faults rose, the run ends with that answer, as Usage, or for want of memory.
     ensures complete { (Rose (S.faults store.old) (S.faults store.new) → ⊥) →
         (Rose (O.faults out.old) (O.faults out.new) → ⊥) → (Rose (E.faults err.old) (E.faults err.new) → ⊥) →
@@ -99,6 +109,8 @@ pub fn run<S: Store, O: Sink, E: Sink>(
     ensures started { IfSome (S.files store.old) (λ known. StartedAtEnd known (request_of words.now) result (S.started store.old) (S.started store.new)) }
 {
     carried_traces_arrive();
+    written_designs_are_wired();
+    benches_drive_ports();
     run_words(alloc, words, store, out, err)
 }
 

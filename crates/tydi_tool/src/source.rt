@@ -1,6 +1,7 @@
 use bench_run::BenchRows;
 use handshake::PortRun;
 use scheduler::Planner;
+use testbench::BenchPieces;
 use trace_pieces::TracePieces;
 use tydi_base::List;
 use vhdl_writer::DesignPieces;
@@ -16,4 +17,6 @@ pub(crate) enum Source {
     Cycles(TracePieces<BenchRows>),
     /// Entities and architectures, whose text is made one after another.
     Design(DesignPieces),
+    /// The testbench of a port, whose statements are made one after another.
+    Lines(BenchPieces<Planner>),
 }

@@ -12,6 +12,8 @@ ghost use Rattle.tydi_tool.specs.Words.{
   carry_request,
   decode_request,
   vhdl_request,
+  bench_request,
+  testbench_request,
 };
 
 use tydi_base::Text;
@@ -85,6 +87,24 @@ pub enum Command<'a> {
         /// The file of the project.
         project: &'a Text,
     },
+    /// Write the testbench in which a value drives a port by a plan.
+    Bench {
+        /// The file of the project.
+        project: &'a Text,
+        /// The port, as `a::b::s.p`.
+        port: &'a Text,
+        /// The file of the value.
+        value: &'a Text,
+        /// The file of the plan.
+        plan: &'a Text,
+    },
+    /// Write the testbench of a declared test.
+    Testbench {
+        /// The file of the project.
+        project: &'a Text,
+        /// The test, as `a::t`.
+        test: &'a Text,
+    },
 }
 
 /// The command that the words after the program's name spell. None exactly where they spell none. It takes no memory.
@@ -110,6 +130,10 @@ pub fn words_of<'a>(words: &'a [Text]) -> Option<Command<'a>>
         carry_of(rest)
     } else if command.as_str() == "vhdl" {
         vhdl_of(rest)
+    } else if command.as_str() == "bench" {
+        bench_of(rest)
+    } else if command.as_str() == "testbench" {
+        testbench_of(rest)
     } else {
         None
     }
@@ -216,6 +240,33 @@ fn vhdl_of<'a>(words: &'a [Text]) -> Option<Command<'a>>
 {
     match words {
         [project] if is_word(project) => Some(Command::Vhdl { project }),
+        _ => None,
+    }
+}
+
+fn bench_of<'a>(words: &'a [Text]) -> Option<Command<'a>>
+    ensures { option_map request_from result ≡ bench_request words.now }
+{
+    match words {
+        [project, port, value, plan] if are_words(project, port) && are_words(value, plan) => {
+            Some(Command::Bench {
+                project,
+                port,
+                value,
+                plan,
+            })
+        }
+        _ => None,
+    }
+}
+
+fn testbench_of<'a>(words: &'a [Text]) -> Option<Command<'a>>
+    ensures { option_map request_from result ≡ testbench_request words.now }
+{
+    match words {
+        [project, test] if is_word(project) && is_word(test) => {
+            Some(Command::Testbench { project, test })
+        }
         _ => None,
     }
 }

@@ -62,3 +62,11 @@ returns-in-Vhdl g c = record {
       (Rose (g.S.Store.faults c.args.store.now) (g.S.Store.faults c.vhdl.new.store)) (ask_of (request_from command)) c.vhdl.result)
       (sym c.in-Vhdl.is) c.vhdl.ensures.decided;
 }
+
+pub returns-in-Testbench : goal.returns-in-Testbench
+returns-in-Testbench g c = record {
+  decided = subst (λ (command : Command). Decides
+      (g.S.Store.files c.args.store.now) (g.S.Store.started c.args.store.now) (g.S.Store.started c.testbench.new.store)
+      (Rose (g.S.Store.faults c.args.store.now) (g.S.Store.faults c.testbench.new.store)) (ask_of (request_from command)) c.testbench.result)
+      (sym c.in-Testbench.is) c.testbench.ensures.decided;
+}

@@ -2,7 +2,7 @@ use Rattle.std.proofs.Common.{◌≡◌, IfSome}
 use Rattle.type_split.specs.Streams.{plain_split}
 use Rattle.tydi_io.specs.Faults.{Rose}
 use Rattle.tydi_tool.specs.Commands.{planned_ask}
-use Rattle.tydi_tool.specs.Drives.{TellsDriven, carried}
+use Rattle.tydi_tool.specs.Drives.{TellsText, carried}
 use Rattle.tydi_tool.proofs.AskLemmas.{DecidedBy-goes_on}
 use Rattle.tydi_tool.proofs.drive.drive_carried.Goals as goal
 
@@ -14,5 +14,5 @@ returns-in-Ok g c =
     record {
       decided = DecidedBy-goes_on {V = Unit {0}} files started (Rose (g.S.Store.faults c.args.store.now) (g.S.Store.faults c.drive_value.new.store))
           (IfSome files (λ known. started ≡ g.S.Store.started c.args.store.now)) (carried split)
-          (λ done. planned_ask c.args.value.now c.args.plan.now split (TellsDriven split)) tt c.drive_value.result c.in-Ok.ensures c.drive_value.ensures.decided;
+          (λ done. planned_ask c.args.value.now c.args.plan.now split (TellsText c.args.text split)) tt c.drive_value.result c.in-Ok.ensures c.drive_value.ensures.decided;
     }

@@ -4,7 +4,7 @@ use Rattle.type_split.specs.Streams.{PlainSplit, plain_split}
 use Rattle.tydi_io.specs.Faults.{Rose}
 use Rattle.tydi_tool.specs.Ask.{goes_on}
 use Rattle.tydi_tool.specs.Commands.{planned_ask}
-use Rattle.tydi_tool.specs.Drives.{TellsDriven, carried}
+use Rattle.tydi_tool.specs.Drives.{TellsText, carried}
 use Rattle.tydi_tool.specs.Ports.{split_at}
 use Rattle.tydi_tool.proofs.AskLemmas.{DecidedBy-goes_on}
 use Rattle.tydi_tool.proofs.drive.drive_named.Goals as goal
@@ -16,6 +16,6 @@ returns-in-Ok g c =
     record {
       decided = DecidedBy-goes_on {V = PlainSplit} files started (Rose (g.S.Store.faults c.args.store.now) (g.S.Store.faults c.drive_carried.new.store))
           (IfSome files (λ known. started ≡ g.S.Store.started c.args.store.now)) (split_at (plain_project c.args.project.now) c.args.port.now)
-          (λ split. goes_on (carried split) (λ done. planned_ask c.args.value.now c.args.plan.now split (TellsDriven split))) (plain_split c.in-Ok.split) c.drive_carried.result
+          (λ split. goes_on (carried split) (λ done. planned_ask c.args.value.now c.args.plan.now split (TellsText c.args.text split))) (plain_split c.in-Ok.split) c.drive_carried.result
           c.in-Ok.ensures.split c.drive_carried.ensures.decided;
     }

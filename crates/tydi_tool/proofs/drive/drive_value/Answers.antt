@@ -1,7 +1,7 @@
 use Rattle.logical_value.specs.declared.value.PortValue.{PortValue}
 use Rattle.type_split.specs.Streams.{plain_split}
 use Rattle.tydi_tool.specs.Commands.{plan_ask}
-use Rattle.tydi_tool.specs.Drives.{TellsDriven}
+use Rattle.tydi_tool.specs.Drives.{TellsText}
 use Rattle.tydi_tool.specs.Texts.{ReadsValue}
 use Rattle.tydi_tool.specs.Words.{text_file}
 use Rattle.tydi_tool.proofs.AskLemmas.{DecidedBy-rest}
@@ -11,7 +11,7 @@ pub returns-in-Ok : goal.returns-in-Ok
 returns-in-Ok g c =
     let split = plain_split c.args.split.now in
     record {
-      decided = DecidedBy-rest (text_file c.args.value.now) PortValue (ReadsValue c.args.value.now split) (λ read. plan_ask c.args.plan.now split (TellsDriven split read)) _ _
+      decided = DecidedBy-rest (text_file c.args.value.now) PortValue (ReadsValue c.args.value.now split) (λ read. plan_ask c.args.plan.now split (TellsText c.args.text split read)) _ _
           (g.S.Store.started c.args.store.now) _ _ _ _ _ _ c.in-Ok.read c.drive_planned.result
           c.in-Ok.ensures.files c.in-Ok.ensures.later c.in-Ok.ensures.asked c.drive_planned.ensures.decided;
     }

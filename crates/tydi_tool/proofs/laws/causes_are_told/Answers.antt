@@ -65,5 +65,8 @@ returns-clause-disagreement c = exactly rows.ADisagreement
 pub returns-clause-text : goal.returns-clause-text
 returns-clause-text c = exactly rows.AText
 
+pub returns-clause-no_test : goal.returns-clause-no_test
+returns-clause-no_test c = exactly rows.NoTest
+
 pub returns-clause-each : goal.returns-clause-each
 returns-clause-each c = λ known request a says. each known request a says

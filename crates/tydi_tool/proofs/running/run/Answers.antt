@@ -1,7 +1,7 @@
 use Rattle.tydi_tool.proofs.RunLemmas.{is_done, IsAnswered-run, IsCaused-answered, IsComplete-run, ReportsRead-run, OutFront-run, OutPart-run}
 use Rattle.tydi_tool.proofs.RunLemmas.{LeavesOut-run, Refusal-run, ErrFront-run, LeavesErr-run, StartedAtEnd-run, WritesReadBack-answered}
 use Rattle.tydi_tool.proofs.RunLemmas.{WritesTrace-answered, WritesValue-answered, usage-run, read-run, write-run, write_line-run, memory-run}
-use Rattle.tydi_tool.proofs.RunLemmas.{WritesCarried-answered, usage-exactly}
+use Rattle.tydi_tool.proofs.RunLemmas.{WritesCarried-answered, WritesWired-answered, usage-exactly, WritesLines-answered}
 use Rattle.tydi_tool.proofs.running.run.Goals as goal
 
 pub returns-clause-read_fault_line : goal.returns-clause-read_fault_line
@@ -65,6 +65,16 @@ pub returns-clause-carried : goal.returns-clause-carried
 returns-clause-carried g c = λ done.
     WritesCarried-answered c.carried_traces_arrive.ensures.written _ _ _ _ _ _ _ (IsAnswered-run _ _ _ _ _ _ _ _ _ _ _ _ c.run_words.ensures (is_done _ done))
     done
+
+pub returns-clause-wired : goal.returns-clause-wired
+returns-clause-wired g c = λ done.
+    WritesWired-answered c.written_designs_are_wired.ensures _ _ _ _ _ _ _ (IsAnswered-run _ _ _ _ _ _ _ _ _ _ _ _ c.run_words.ensures (is_done _ done))
+    done
+
+pub returns-clause-benched : goal.returns-clause-benched
+returns-clause-benched g c = λ done.
+    WritesLines-answered c.benches_drive_ports.ensures.written c.benches_drive_ports.ensures.tested _ _ _ _ _ _ _
+    (IsAnswered-run _ _ _ _ _ _ _ _ _ _ _ _ c.run_words.ensures (is_done _ done)) done
 
 pub returns-clause-usage : goal.returns-clause-usage
 returns-clause-usage g c = usage-exactly _ _ _ _ _ _ _ _ _ _ _ _ c.run_words.ensures
