@@ -24,7 +24,7 @@ const VALUE: &[u8] = b"root - = [1, 2] [];
 ";
 
 /// Runs the tool on the words of this line, over files of these names and texts.
-fn outcome_with(
+pub(crate) fn outcome_with(
     alloc: Global,
     line: &str,
     files: &[(&str, &[u8])],

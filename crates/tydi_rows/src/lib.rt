@@ -3,6 +3,10 @@
 #![tactic(auto)]
 
 #[cfg(test)]
+mod bench_rows;
+#[cfg(test)]
+mod benches;
+#[cfg(test)]
 mod carries;
 #[cfg(test)]
 mod carry_rows;
