@@ -1,3 +1,4 @@
+mod OrderLemmas
 mod PathLemmas
 mod PositionLemmas
 mod LookupLemmas
@@ -36,4 +37,5 @@ mod BodyLemmas
 mod LastLemmas
 mod SharedTypeLemmas
 mod PortsWrittenLemmas
+mod NumberedLemmas
 mod Examples

@@ -1,7 +1,7 @@
 -- A look-up by the number of a namespace and a name finds the first declaration of a path.
 use Rattle.std.proofs.Common.{◌≡◌, ℕ, zero, suc, ◌+◌, ◌-◌, ◌<◌, ◌≤◌, nat_eq, ltb, Bool, true, false, cond, ◌&&◌, List, [], ◌∷◌, ◌++◌, length, map, take, get_or, Option, Some, None, is_some, position, All, IfSome, length-append, refl, sym, ap, subst, ◌∙◌, arith, true≢false}
 use Rattle.std.specs.Borrow.{Bor}
-use Rattle.std.specs.Cmp.Lexicographic.{pointwise, pointwise_decides, bytes_decides, nat_list_eq_equiv}
+use Rattle.std.specs.Cmp.Lexicographic.{pointwise_decides, bytes_decides}
 use Rattle.std.specs.List.{list_any, position_or_len}
 use Rattle.std.specs.Option.{option_or}
 use Rattle.std.specs.Str.{bytes_eq}
@@ -10,11 +10,12 @@ use Rattle.std.proofs.lemmas.List.{take_more, map-append}
 use Rattle.std.proofs.lemmas.List.Quantifiers.{position-Some}
 use Rattle.std.proofs.lemmas.List.Elements.{All-append, All-map, All-weaker}
 use Rattle.til_parser.specs.declared.tree.AstName.{AstName}
-use Rattle.til_resolve.specs.Paths.{is_same_path}
+use Rattle.til_resolve.specs.Paths.{is_same_path, texts_of}
 use Rattle.til_parser.specs.declared.tree.AstPath.{AstPath}
 use Rattle.til_resolve.specs.declared.declared.Declared.{Declared}
 use Rattle.til_resolve.specs.Declarations.{Declaration, declaration, path_of, first_of_path, meant, named}
-use Rattle.til_resolve.specs.Scope.{Placed, placed_of, placed, declarations_in, declarations_of, texts_of, space_meant, home_of, first_at, AreHome}
+use Rattle.til_resolve.specs.Placing.{is_space, with_space, place_in}
+use Rattle.til_resolve.specs.Scope.{Placed, placed_of, placed, declarations_in, declarations_of, space_meant, home_of, first_at, AreHome, FindsSpaces}
 use Rattle.til_resolve.proofs.LookupLemmas.{ends, empty_from}
 use Rattle.til_resolve.proofs.PathLemmas.{is_same_path-ends, is_same_path-none}
 use Rattle.til_resolve.proofs.PositionLemmas.{list_any-position, position-push, position_or_len-found, position_or_len-none, position-none, position-same, position-map}
@@ -27,28 +28,7 @@ is_same_path-true one other same = (pointwise_decides bytes_decides one other).0
 pub is_same_path-itself : (one : List (List ℕ)) → is_same_path one one ≡ true
 is_same_path-itself one = (pointwise_decides bytes_decides one one).1 refl
 
--- names by the texts that they have, the other way round
-pub names_same : (one other : List AstName) → pointwise (λ x y. bytes_eq x.name y.name) one other ≡ is_same_path (texts_of other) (texts_of one)
-names_same [] [] = refl
-names_same [] (y ∷ ys) = refl
-names_same (x ∷ xs) [] = refl
-names_same (x ∷ xs) (y ∷ ys) = ap (λ b. b && pointwise (λ x y. bytes_eq x.name y.name) xs ys) (nat_list_eq_equiv.symm x.name y.name)
-    ∙ ap (λ b. bytes_eq y.name x.name && b) (names_same xs ys)
-
 -- ---- the numbers of namespaces
-
--- a list of paths with one that is put in where it is missing
-abbrev pub with_space : List (Bor (List AstName)) → Bor (List AstName) → List (Bor (List AstName))
-with_space spaces space = cond (list_any (λ one. pointwise (λ x y. bytes_eq x.name y.name) space.now one.now) spaces) spaces (spaces ++ space ∷ [])
-
-abbrev by_names : Bor (List AstName) → Bor (List AstName) → Bool
-by_names space one = pointwise (λ x y. bytes_eq x.name y.name) space.now one.now
-
-abbrev by_texts : Bor (List AstName) → Bor (List AstName) → Bool
-by_texts space one = is_same_path (texts_of one.now) (texts_of space.now)
-
-test_same : (space : Bor (List AstName)) → by_names space ≡ by_texts space
-test_same space = λ i one. names_same space.now one.now i
 
 -- where a path is found after it was put in
 home_of-put : (spaces : List (Bor (List AstName))) (space : Bor (List AstName)) (test : Bor (List AstName) → Bool) → test space ≡ true
@@ -65,25 +45,40 @@ home_of-put spaces space test holds = by (position test spaces) refl
         ∙ found ∙ ap (λ (n : ℕ). Some n) (sym (position_or_len-found test spaces n found))
 
 pub home_of-own : (spaces : List (Bor (List AstName))) (space : Bor (List AstName))
-    → home_of (with_space spaces space) (texts_of space.now) ≡ Some (position_or_len (λ one. pointwise (λ x y. bytes_eq x.name y.name) space.now one.now) spaces)
-home_of-own spaces space =
-    subst (λ (test : Bor (List AstName) → Bool). position (λ one. is_same_path (texts_of one.now) (texts_of space.now)) (cond (list_any test spaces) spaces (spaces ++ space ∷ []))
-    ≡ Some (position_or_len test spaces)) (sym (test_same space))
-    (home_of-put spaces space (λ one. is_same_path (texts_of one.now) (texts_of space.now)) (is_same_path-itself (texts_of space.now)))
+    → home_of (with_space spaces space) (texts_of space.now) ≡ Some (place_in spaces space)
+home_of-own spaces space = home_of-put spaces space (is_space space) (is_same_path-itself (texts_of space.now))
 
 -- a path that has a number keeps it
 pub home_of-kept : (spaces : List (Bor (List AstName))) (space : Bor (List AstName)) (names : List (List ℕ)) (home : ℕ) → home_of spaces names ≡ Some home
     → home_of (with_space spaces space) names ≡ Some home
-home_of-kept spaces space names home found = by (list_any (λ one. pointwise (λ x y. bytes_eq x.name y.name) space.now one.now) spaces)
+home_of-kept spaces space names home found = by (list_any (is_space space) spaces)
   where
     by : (b : Bool) → home_of (cond b spaces (spaces ++ space ∷ [])) names ≡ Some home
     by true = found
     by false = position-push (λ one. is_same_path (texts_of one.now) names) spaces space
         ∙ ap (λ (o : Option ℕ). option_or o (cond (is_same_path (texts_of space.now) names) (Some (length spaces)) None)) found
 
+-- a path that is found among these, or is put behind them
+pub space-found : (spaces : List (Bor (List AstName))) (space : Bor (List AstName)) (home : ℕ) → home_of spaces (texts_of space.now) ≡ Some home
+    → (spaces ≡ with_space spaces space) × (home ≡ place_in spaces space)
+space-found spaces space home found =
+    (ap (λ b. cond b spaces (spaces ++ space ∷ [])) (sym (list_any-position (is_space space) spaces ∙ ap is_some found)), sym (position_or_len-found (is_space space) spaces home found))
+
+pub space-put : (spaces : List (Bor (List AstName))) (space : Bor (List AstName)) → home_of spaces (texts_of space.now) ≡ None
+    → (spaces ++ space ∷ [] ≡ with_space spaces space) × (length spaces ≡ place_in spaces space)
+space-put spaces space none =
+    (ap (λ b. cond b spaces (spaces ++ space ∷ [])) (sym (list_any-position (is_space space) spaces ∙ ap is_some none)), sym (position_or_len-none (is_space space) spaces none))
+
+-- one path more is found
+pub FindsSpaces-more : (spaces : List (Bor (List AstName))) (space : Bor (List AstName)) (find new : List (List ℕ) → Option ℕ) → FindsSpaces find spaces
+    → ((path : List (List ℕ)) → new path ≡ option_or (find path) (cond (is_same_path (texts_of space.now) path) (Some (length spaces)) None)) → FindsSpaces new (spaces ++ space ∷ [])
+FindsSpaces-more spaces space find new finds updates path =
+    updates path ∙ ap (λ (o : Option ℕ). option_or o (cond (is_same_path (texts_of space.now) path) (Some (length spaces)) None)) (finds path)
+    ∙ sym (position-push (λ one. is_same_path (texts_of one.now) path) spaces space)
+
 -- the declarations of one namespace more
 pub AreHome-more : (spaces : List (Bor (List AstName))) (space : Bor (List AstName)) (placed : List Placed) (added : List Declaration) (home : ℕ)
-    → home ≡ position_or_len (λ one. pointwise (λ x y. bytes_eq x.name y.name) space.now one.now) spaces → AreHome spaces placed
+    → home ≡ place_in spaces space → AreHome spaces placed
     → All (λ one. one.space ≡ texts_of space.now) added
     → AreHome (with_space spaces space) (placed ++ map (λ one. record { declaration = one; home = home }) added)
 AreHome-more spaces space placed added home is homes own =
@@ -96,9 +91,8 @@ AreHome-more spaces space placed added home is homes own =
 
 -- the number of a path by its names
 pub home_of-names : (spaces : List (Bor (List AstName))) (own : List (List ℕ)) (front : Bor (List AstName)) → 1 ≤ length front.now
-    → position (λ one. pointwise (λ x y. bytes_eq x.name y.name) front.now one.now) spaces ≡ home_of spaces (space_meant own front.now)
-home_of-names spaces own front some =
-    ap (λ (test : Bor (List AstName) → Bool). position test spaces) (test_same front) ∙ ap (home_of spaces) (meant_front front.now some)
+    → home_of spaces (texts_of front.now) ≡ home_of spaces (space_meant own front.now)
+home_of-names spaces own front some = ap (home_of spaces) (meant_front front.now some)
   where
     meant_front : (names : List AstName) → 1 ≤ length names → texts_of names ≡ space_meant own names
     meant_front [] none = absurd (omega (arith, none))

@@ -18,22 +18,20 @@ use Rattle.til_parser.specs.declared.tree.AstName.{AstName}
 use Rattle.til_parser.specs.declared.tree.AstPath.{AstPath}
 use Rattle.til_parser.specs.declared.tree.AstPort.{AstPort}
 use Rattle.til_parser.specs.declared.tree.AstPorts.TheVariants as ports
-use Rattle.til_parser.specs.declared.tree.AstStmt.{AstStmt}
 use Rattle.til_resolve.specs.declared.fault.ResolveFault.{ResolveFault}
 use Rattle.til_resolve.specs.declared.fault.ResolveFault.TheVariants as faults
 use Rattle.til_resolve.specs.Cycles.{ByWay, ContainsStreamlet, LeadsTo, paths_of_instances}
-use Rattle.til_resolve.specs.Declarations.{Declaration, PortOf, before, declaration, declarations, is_interface, is_streamlet, kept_as, named, named_as, nowhere, own_ports, path_of, place_of, ports_in, ports_of, ports_of_number, ports_of_streamlet}
+use Rattle.til_resolve.specs.Declarations.{Declaration, PortOf, before, declaration, declarations, is_interface, is_streamlet, named, named_as, nowhere, own_ports, path_of, place_of, ports_in, ports_of, ports_of_number, ports_of_streamlet}
 use Rattle.til_resolve.specs.Faults.{HasFault, IsSound}
-use Rattle.til_resolve.specs.Names.{Use, WrittenInstance, again, declared_again, has_port, implements, instance_at, instances_again, instances_named_as_ports, instances_of, is_impl_of, is_number, is_unknown, is_wrong_kind, names_again_in_body, port_unknown, port_unknown_in, ports_again, refused, seconds, target_place, twice, twice_at, unknown, uses_in, wrong_kinds}
+use Rattle.til_resolve.specs.Names.{Use, WrittenInstance, again, declared_again, has_port, implements, instance_at, instances_again, instances_named_as_ports, instances_of, is_impl_of, is_number, is_unknown, is_wrong_kind, names_again_in_body, port_unknown, port_unknown_in, ports_again, refused, seconds, target_place, twice_at, uses_in}
 use Rattle.til_resolve.specs.Paths.{is_same_path}
 use Rattle.til_resolve.specs.PlainProject.{PlainPort, PlainProject, PlainStreamlet, port_from, project_of, streamlet_from}
-use Rattle.til_resolve.specs.Project.{body_of, first_of, impl_by, impl_of, instance_of, instances_in, number_of, numbered, streamlet_number, streamlet_numbers, test_of, tests_in}
+use Rattle.til_resolve.specs.Project.{body_of, first_of, impl_by, impl_of, instance_of, number_of, numbered, streamlet_number, streamlet_numbers, test_of, tests_in}
 use Rattle.til_resolve.specs.SoundProject.{ArePortsApart, AreDistinct, DrivesPort, HasInstanceOf, HasNamesApart, IsSoundProject, instances_inside}
 use Rattle.til_resolve.specs.declared.project.Impl.{Impl}
-use Rattle.til_resolve.specs.declared.project.Impl.TheVariants as impls
 use Rattle.til_resolve.specs.declared.project.Instance.{Instance}
 use Rattle.til_resolve.specs.declared.project.Test.{Test}
-use Rattle.til_resolve.proofs.PortTypeLemmas.{Contains-map, Contains-mapped, named-is, one-of, ports-valid}
+use Rattle.til_resolve.proofs.PortTypeLemmas.{Contains-map, Contains-mapped, named-is, ports-valid}
 use Rattle.til_resolve.proofs.ScopeLemmas.{is_same_path-itself}
 use Rattle.til_resolve.proofs.TypeGraphLemmas.{named-within}
 

@@ -1,6 +1,5 @@
 -- Names that are declared twice, found by the names before them.
 use Rattle.std.proofs.Common.{◌≡◌, ℕ, zero, suc, ◌+◌, ◌<◌, ◌≤◌, Bool, true, false, cond, ltb, not, ◌||◌, List, [], ◌∷◌, ◌++◌, length, map, filter, take, get_or, position, Option, Some, None, option_map, Contains, refl, sym, ap, subst, ◌∙◌, arith}
-use Rattle.std.specs.Borrow.{Bor}
 use Rattle.std.specs.Bool.{then_some}
 use Rattle.std.specs.List.{list_any, filter_map}
 use Rattle.std.specs.Option.{option_to_list}
@@ -12,14 +11,13 @@ use Rattle.std.proofs.lemmas.List.Folds.{list_any_more, list_any-append}
 use Rattle.tydi_base.specs.declared.place.Place.{Place}
 use Rattle.til_parser.specs.declared.tree.AstBody.{AstBody}
 use Rattle.til_parser.specs.declared.tree.AstBody.TheVariants as bodies
-use Rattle.til_parser.specs.declared.tree.AstName.{AstName}
 use Rattle.til_parser.specs.declared.tree.AstPath.{AstPath}
 use Rattle.til_parser.specs.declared.tree.AstStmt.{AstStmt}
 use Rattle.til_parser.specs.declared.tree.AstStmt.TheVariants as statements
 use Rattle.til_resolve.specs.Declarations.{Declaration, declaration, path_of, first_of_path, named_as, is_streamlet, PortOf, ports_of_streamlet}
 use Rattle.til_resolve.specs.Earliest.{IsEarliest, earlier}
 use Rattle.til_resolve.specs.Names.{declared_again, implements, is_impl_of, implements_again, implemented_again, WrittenInstance, instance_at, instances_again, instances_named_as_ports, names_again_in_impl, has_port}
-use Rattle.til_resolve.specs.Twice.{is_same_name, FindsNames, AddsInstance, instance_again}
+use Rattle.til_resolve.specs.Twice.{FindsNames, AddsInstance, instance_again}
 use Rattle.til_resolve.proofs.EarliestLemmas.{IsEarliest-at, IsEarliest-append}
 use Rattle.til_resolve.proofs.AgainLemmas.{append_nil, IsEarliest-if, seconds-grown}
 use Rattle.til_resolve.proofs.PositionLemmas.{position-cons}
@@ -98,22 +96,16 @@ implemented-by_none all number streamlet of is = implemented-tested all number s
 
 -- ---- keys that were seen
 
-either_way : (a b : Bool) → cond a true b ≡ (b || a)
-either_way true true = refl
-either_way true false = refl
-either_way false true = refl
-either_way false false = refl
-
 pub not_not : (b : Bool) → not (not b) ≡ b
 not_not true = refl
 not_not false = refl
 
 -- the keys of one thing more are found
 pub seen-more : {X K : Type 0} (eq : K → K → Bool) (find new : K → Bool) (key : X → K) (xs : List X) (i : ℕ) (x : X) (value : K) → i < length xs → x ≡ get_or xs i x → value ≡ key x
-    → ((q : K) → find q ≡ list_any (λ e. eq (key e) q) (take i xs)) → ((q : K) → new q ≡ cond (eq value q) true (find q))
+    → ((q : K) → find q ≡ list_any (λ e. eq (key e) q) (take i xs)) → ((q : K) → new q ≡ (find q || eq value q))
     → (q : K) → new q ≡ list_any (λ e. eq (key e) q) (take (i + 1) xs)
 seen-more eq find new key xs i x value within at is finds updates q =
-    updates q ∙ either_way (eq value q) (find q) ∙ ap (λ b. b || eq value q) (finds q)
+    updates q ∙ ap (λ b. b || eq value q) (finds q)
     ∙ ap (λ k. list_any (λ e. eq (key e) q) (take i xs) || eq k q) is
     ∙ ap (λ y. list_any (λ e. eq (key e) q) (take i xs) || eq (key y) q) at
     ∙ sym (list_any_more (λ e. eq (key e) q) xs i x within)
@@ -157,16 +149,16 @@ instances_again-more stmts i stmt found other within at so here =
     (instances_again-push (filter_map instance_at (take i stmts)) (instance_at stmt) found other so here)
 
 -- an instance that is added
-pub AddsInstance-new : (find new : Bor AstName → Bool) (front : List WrittenInstance) (name : Bor AstName) (one : WrittenInstance) (is_new : Bool) → name.now ≡ one.name
-    → is_new ≡ not (find name) → ((q : Bor AstName) → new q ≡ cond (is_same_name name q) true (find q)) → FindsNames find front
+pub AddsInstance-new : (find new : List ℕ → Bool) (front : List WrittenInstance) (name : List ℕ) (one : WrittenInstance) (is_new : Bool) → name ≡ one.name.name
+    → is_new ≡ not (find name) → ((q : List ℕ) → new q ≡ (find q || bytes_eq name q)) → FindsNames find front
     → AddsInstance new front (Some one) (then_some (not is_new) one.name.place)
 AddsInstance-new find new front name one is_new is first updates finds = record {
-  seen = λ q. updates q ∙ either_way (is_same_name name q) (find q) ∙ ap (λ b. b || is_same_name name q) (finds q)
-      ∙ ap (λ (n : AstName). list_any (λ e. bytes_eq e.name.name q.now.name) front || bytes_eq n.name q.now.name) is
-      ∙ ap (λ b. list_any (λ e. bytes_eq e.name.name q.now.name) front || b) (only (bytes_eq one.name.name q.now.name))
-      ∙ sym (list_any-append (λ e. bytes_eq e.name.name q.now.name) front (one ∷ []));
+  seen = λ q. updates q ∙ ap (λ b. b || bytes_eq name q) (finds q)
+      ∙ ap (λ n. list_any (λ e. bytes_eq e.name.name q) front || bytes_eq n q) is
+      ∙ ap (λ b. list_any (λ e. bytes_eq e.name.name q) front || b) (only (bytes_eq one.name.name q))
+      ∙ sym (list_any-append (λ e. bytes_eq e.name.name q) front (one ∷ []));
   again = subst (λ t. IsEarliest (Contains (cond t (one.name.place ∷ []) [])) (then_some (not is_new) one.name.place))
-      (ap not first ∙ not_not (find name) ∙ finds name ∙ ap (λ (n : AstName). list_any (λ e. bytes_eq e.name.name n.name) front) is)
+      (ap not first ∙ not_not (find name) ∙ finds name ∙ ap (λ n. list_any (λ e. bytes_eq e.name.name n) front) is)
       (IsEarliest-if (not is_new) one.name.place);
 }
   where

@@ -1,4 +1,6 @@
 pub mod Paths
+pub mod Ordered
+pub mod OrderLaws
 pub mod Lookups
 pub mod Declarations
 pub mod Types
@@ -22,6 +24,7 @@ pub mod Folds
 pub mod Written
 pub mod Chains
 pub mod BadTypes
+pub mod NumberedTypes
 pub mod Project
 pub mod Making
 pub mod SharedTypes

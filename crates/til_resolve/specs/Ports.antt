@@ -7,7 +7,7 @@ use Rattle.til_parser.specs.declared.tree.AstKind.TheVariants as decls
 use Rattle.til_parser.specs.declared.tree.AstPort.{AstPort}
 use Rattle.til_parser.specs.declared.tree.AstPorts.TheVariants as ports
 use Rattle.til_resolve.specs.Declarations.{Declaration, declaration, named_as, own_ports, is_interface}
-use Rattle.til_resolve.specs.Scope.{Key}
+use Rattle.til_resolve.specs.Ordered.{Key}
 
 -- one of these ports has this name
 abbrev pub is_port_name : List AstPort → List ℕ → Bool
@@ -15,7 +15,7 @@ is_port_name ports name = list_any (λ port. bytes_eq port.name.name name) ports
 
 -- the declaration of this number, which stands before that one, writes a port of this name
 abbrev pub is_port_before : List Declaration → ℕ → Key → Bool
-is_port_before all number key = nat_lt key.0 number && is_port_name (own_ports (declaration all key.0).kind) key.1.now.name
+is_port_before all number key = nat_lt key.0 number && is_port_name (own_ports (declaration all key.0).kind) key.1
 
 -- a look-up finds the ports of the declarations before a number
 abbrev pub FindsPorts : (Key → Bool) → List Declaration → ℕ → Type 0

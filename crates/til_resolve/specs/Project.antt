@@ -1,5 +1,5 @@
 -- The project that a tree without faults stands for.
-use Rattle.std.specs.Prelude.{◌≡◌, ℕ, List, [], ◌∷◌, map, filter, length, Option, Some, None, if◌then◌else◌}
+use Rattle.std.specs.Prelude.{◌≡◌, ℕ, List, [], ◌∷◌, map, filter, length, Option, Some, None, IfSome, if◌then◌else◌}
 use Rattle.std.specs.List.{filter_map, range_with_len}
 use Rattle.til_parser.specs.declared.tree.Ast.{Ast}
 use Rattle.til_parser.specs.declared.tree.AstBody.{AstBody}
@@ -14,6 +14,7 @@ use Rattle.til_parser.specs.declared.tree.AstStmt.TheVariants as stmts
 use Rattle.til_parser.specs.Tree.{plain}
 use Rattle.logical_types.specs.Tree.{plain_of_stream}
 use Rattle.til_resolve.specs.Declarations.{Declaration, PortOf, declaration, declarations, place_of, path_of, named_as, ports_of, is_streamlet}
+use Rattle.til_resolve.specs.NumberedTypes.{numbered_type}
 use Rattle.til_resolve.specs.Types.{type_of}
 use Rattle.til_resolve.specs.Names.{WrittenInstance, instance_at, is_impl_of}
 use Rattle.til_resolve.specs.declared.project.Project.{Project}
@@ -115,6 +116,7 @@ pub record IsPortOf (all : List Declaration) (one : PortOf) (port : Port) : Type
   pub name_is : port.name ≡ one.port.name.name
   pub inward_is : port.inward ≡ one.port.inward
   pub type_is : plain_of_stream port.ltype.value ≡ type_of all one.space (plain one.port.ltype)
+  pub declared_is : IfSome port.declared (λ number. type_of all one.space (plain one.port.ltype) ≡ numbered_type all number)
 
 -- a streamlet of the project is the written one of this number
 pub record IsStreamletOf (all : List Declaration) (one : ℕ) (streamlet : Streamlet) : Type 0 where

@@ -1,9 +1,10 @@
 -- Declarations with the numbers by which they are looked up. It serves the look-ups, and no public clause.
-use Rattle.std.specs.Prelude.{◌≡◌, ℕ, nat_eq, Bool, ◌&&◌, List, [], ◌∷◌, map, position, Option, Some, All}
+use Rattle.std.specs.Prelude.{◌≡◌, ℕ, nat_eq, ◌&&◌, List, [], ◌∷◌, map, position, Option, Some, All}
 use Rattle.std.specs.Borrow.{Bor}
 use Rattle.std.specs.Str.{bytes_eq}
 use Rattle.til_parser.specs.declared.tree.AstName.{AstName}
-use Rattle.til_resolve.specs.Paths.{is_same_path}
+use Rattle.til_resolve.specs.Ordered.{Key}
+use Rattle.til_resolve.specs.Paths.{is_same_path, texts_of}
 use Rattle.til_resolve.specs.declared.declared.Declared.{Declared}
 use Rattle.til_resolve.specs.Declarations.{Declaration}
 
@@ -19,10 +20,6 @@ declarations_in placed = map (λ one. one.declaration) placed
 -- a declaration whose namespace has this number
 abbrev pub placed_at : ℕ → Declaration → Placed
 placed_at home one = record { declaration = one; home = home }
-
--- the names of a path, by their texts
-abbrev pub texts_of : List AstName → List (List ℕ)
-texts_of names = map (λ one. one.name) names
 
 -- the declaration and its home that the data kept of it stands for
 abbrev pub placed_of : Declared → Placed
@@ -43,13 +40,6 @@ space_meant own (first ∷ more) = texts_of (first ∷ more)
 abbrev pub home_of : List (Bor (List AstName)) → List (List ℕ) → Option ℕ
 home_of spaces space = position (λ one. is_same_path (texts_of one.now) space) spaces
 
--- a name in the namespace of a number
-abbrev pub Key : Type 0
-Key = ℕ × Bor AstName
-
-abbrev pub is_same_key : Key → Key → Bool
-is_same_key one other = nat_eq one.0 other.0 && bytes_eq one.1.now.name other.1.now.name
-
 -- the number of the first of these declarations that has this name in this namespace
 abbrev pub first_at : List Placed → ℕ → List ℕ → Option ℕ
 first_at all home name = position (λ one. nat_eq one.home home && bytes_eq one.declaration.name.name name) all
@@ -60,9 +50,14 @@ AreHome spaces all = All (λ one. home_of spaces one.declaration.space ≡ Some 
 
 -- a look-up finds the first of these declarations
 abbrev pub FindsFirst : (Key → Option ℕ) → List Placed → Type 0
-FindsFirst find all = (key : Key) → find key ≡ first_at all key.0 key.1.now.name
+FindsFirst find all = (key : Key) → find key ≡ first_at all key.0 key.1
+
+-- a look-up finds the number of each of these paths
+abbrev pub FindsSpaces : (List (List ℕ) → Option ℕ) → List (Bor (List AstName)) → Type 0
+FindsSpaces find spaces = (space : List (List ℕ)) → find space ≡ home_of spaces space
 
 -- the facts that look-ups rest on
-pub record IsScope (spaces : List (Bor (List AstName))) (find : Key → Option ℕ) (all : List Placed) : Type 0 where
+pub record IsScope (spaces : List (Bor (List AstName))) (find_space : List (List ℕ) → Option ℕ) (find : Key → Option ℕ) (all : List Placed) : Type 0 where
+  pub finds_spaces : FindsSpaces find_space spaces
   pub homes : AreHome spaces all
   pub finds : FindsFirst find all

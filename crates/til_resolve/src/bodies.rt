@@ -1,7 +1,8 @@
 //! The implementations of streamlets.
 
-ghost use Rattle.std.specs.Prelude.{◌≡◌, ◌<◌, length, nat_eq, IfOk};
-ghost use Rattle.indexmap.specs.IndexMap.{get};
+ghost use Rattle.std.specs.Prelude.{◌≡◌, ◌<◌, length, IfOk};
+ghost use Rattle.std.specs.BTreeMap.{get};
+ghost use Rattle.std.specs.Ordering.{nat_cmp};
 ghost use Rattle.til_resolve.specs.Declarations.{declaration};
 ghost use Rattle.til_resolve.specs.Making.{FindsFirstImpl, numbers_before, written_impl};
 ghost use Rattle.til_resolve.specs.Project as spec;
@@ -25,7 +26,7 @@ pub fn body_of(
     streamlet: usize,
 ) -> Result<Option<Impl>, Memory>
     requires table { table.now ≡ numbers_before (declarations_of scope.now.declared) (length (declarations_of scope.now.declared)) }
-    requires impls { FindsFirstImpl (get nat_eq impls.now) (declarations_of scope.now.declared) (length (declarations_of scope.now.declared)) }
+    requires impls { FindsFirstImpl (get nat_cmp impls.now) (declarations_of scope.now.declared) (length (declarations_of scope.now.declared)) }
     ensures { IfOk result (λ body. body ≡ spec.body_of (declarations_of scope.now.declared) streamlet) }
 {
     match impls.get(&streamlet).copied() {

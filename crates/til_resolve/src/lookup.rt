@@ -2,11 +2,13 @@
 
 ghost use Rattle.std.specs.Prelude.{◌≡◌, ◌<◌, length, Option, Some};
 ghost use Rattle.til_resolve.specs.Declarations as spec;
+ghost use Rattle.til_resolve.specs.Paths.{texts_of};
 ghost use Rattle.til_resolve.specs.Scope.{declarations_of, first_at, home_of, placed, placed_of, space_meant};
 
 use crate::declared::Declared;
 use crate::firsts::first_of_each;
 use crate::kinds::{Asked, is_asked};
+use crate::ordered::{OrderedName, OrderedPath};
 use crate::placing::{Placing, place_all};
 use crate::scope::Scope;
 use std::alloc::Global;
@@ -66,8 +68,15 @@ impl<'a> Scope<'a> {
     {
         match front {
             [] => Some(self.get(number).home),
-            _ => self.spaces.get_index_of(front),
+            _ => self.space(front),
         }
+    }
+
+    // The number of the namespace of this path.
+    fn space(&self, path: &'a [AstName]) -> Option<usize>
+        ensures { result ≡ home_of self.now.spaces.keys (texts_of path.now) }
+    {
+        self.spaces.numbers.get(&OrderedPath::new(path)).copied()
     }
 
     /// The number of the first declaration of the path that the declaration of a number has.
@@ -94,6 +103,8 @@ impl<'a> Scope<'a> {
         ensures value { result ≡ first_at (placed self.now.declared) home name.now.name }
         ensures within { IfSome result (λ target. target < length (declarations_of self.now.declared)) }
     {
-        self.firsts.get(&(home, name)).copied()
+        self.firsts
+            .get(&(home, OrderedName::new(&name.name)))
+            .copied()
     }
 }

@@ -1,13 +1,14 @@
 //! Paths that name nothing, or a declaration of another kind than their place asks.
 
 ghost use Rattle.std.specs.Prelude.{◌≡◌, ◌<◌, [], ◌∷◌, length, Contains, IfOk};
-ghost use Rattle.indexmap.specs.IndexSet.{contains};
+ghost use Rattle.std.specs.BTreeSet.{contains};
 ghost use Rattle.til_resolve.specs.Declarations.{declaration, place_of};
 ghost use Rattle.til_resolve.specs.Earliest.{IsEarliest};
 ghost use Rattle.til_resolve.specs.Names as spec;
 ghost use Rattle.til_resolve.specs.PathsWritten.{seen};
 ghost use Rattle.til_resolve.specs.Ports.{FindsPorts};
-ghost use Rattle.til_resolve.specs.Scope.{declarations_of, is_same_key};
+ghost use Rattle.til_resolve.specs.Ordered.{by_key};
+ghost use Rattle.til_resolve.specs.Scope.{declarations_of};
 ghost use Rattle.til_resolve.specs.Sought.{is_refused, use_of, refused_of, all_refused, port_refused};
 
 use crate::earliest::earlier;
@@ -35,7 +36,7 @@ pub fn first_refused<'a>(
     ports: &Ports<'a>,
     sought: Sought,
 ) -> Result<Option<Place>, Memory>
-    requires { FindsPorts (contains is_same_key ports.now) (declarations_of scope.now.declared) (length (declarations_of scope.now.declared)) }
+    requires { FindsPorts (contains by_key ports.now) (declarations_of scope.now.declared) (length (declarations_of scope.now.declared)) }
     ensures { IfOk result (IsEarliest (Contains (all_refused sought (declarations_of scope.now.declared) (length (declarations_of scope.now.declared))))) }
 {
     let mut found = None;
@@ -129,7 +130,7 @@ pub fn place_of(path: &AstPath) -> Place
 
 // The port of a test that its streamlet lacks.
 fn of_test<'a>(scope: &Scope<'a>, ports: &Ports<'a>, number: usize, sought: Sought) -> Option<Place>
-    requires found { FindsPorts (contains is_same_key ports.now) (declarations_of scope.now.declared) (length (declarations_of scope.now.declared)) }
+    requires found { FindsPorts (contains by_key ports.now) (declarations_of scope.now.declared) (length (declarations_of scope.now.declared)) }
     requires within { number < length (declarations_of scope.now.declared) }
     ensures { IsEarliest (Contains (port_refused sought (declarations_of scope.now.declared) (declaration (declarations_of scope.now.declared) number))) result }
 {
@@ -140,7 +141,7 @@ fn of_test<'a>(scope: &Scope<'a>, ports: &Ports<'a>, number: usize, sought: Soug
 }
 
 fn of_test_unknown<'a>(scope: &Scope<'a>, ports: &Ports<'a>, number: usize) -> Option<Place>
-    requires found { FindsPorts (contains is_same_key ports.now) (declarations_of scope.now.declared) (length (declarations_of scope.now.declared)) }
+    requires found { FindsPorts (contains by_key ports.now) (declarations_of scope.now.declared) (length (declarations_of scope.now.declared)) }
     requires within { number < length (declarations_of scope.now.declared) }
     ensures { IsEarliest (Contains (spec.port_unknown (declarations_of scope.now.declared) (declaration (declarations_of scope.now.declared) number))) result }
 {

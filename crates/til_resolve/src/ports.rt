@@ -1,27 +1,30 @@
 //! Ports by the numbers of the declarations that write them.
 
 ghost use Rattle.std.specs.Prelude.{◌≡◌, ◌<◌, ◌||◌, ◌&&◌, nat_eq, length, IfOk, IfSome, OnOk};
-ghost use Rattle.indexmap.specs.IndexSet.{contains};
+ghost use Rattle.std.specs.BTreeSet.{contains};
 ghost use Rattle.til_resolve.specs.Declarations as spec;
 ghost use Rattle.til_resolve.specs.Names.{has_port};
 ghost use Rattle.til_resolve.specs.Ports.{FindsPorts, is_port_name, owner_of};
-ghost use Rattle.til_resolve.specs.Scope.{Key, declarations_of, is_same_key};
+ghost use Rattle.til_resolve.specs.Ordered.{Key, by_key};
+ghost use Rattle.til_resolve.specs.Scope.{declarations_of};
 
+use crate::keeping::note;
 use crate::kinds::{Asked, own_ports};
+use crate::ordered::OrderedName;
 use crate::scope::Scope;
-use indexmap::IndexSet;
 use std::alloc::Global;
+use std::collections::BTreeSet;
 use til_parser::{AstKind, AstName, AstPort, AstPorts};
 use tydi_base::Memory;
 
 /// The names of ports, each with the number of the declaration that writes it.
-pub type Ports<'a> = IndexSet<(usize, &'a AstName)>;
+pub type Ports<'a> = BTreeSet<(usize, OrderedName<'a>)>;
 
 /// The ports that all declarations write out.
 pub fn all_ports<'a>(alloc: Global, scope: &Scope<'a>) -> Result<Ports<'a>, Memory>
-    ensures { IfOk result (λ ports. FindsPorts (contains is_same_key ports) (declarations_of scope.now.declared) (length (declarations_of scope.now.declared))) }
+    ensures { IfOk result (λ ports. FindsPorts (contains by_key ports) (declarations_of scope.now.declared) (length (declarations_of scope.now.declared))) }
 {
-    let mut ports = IndexSet::new(alloc);
+    let mut ports = BTreeSet::new(alloc);
     'numbers: for number in 0..scope.len() {
         add_ports(&mut ports, number, own_ports(scope.get(number).kind))?;
     }
@@ -30,11 +33,11 @@ pub fn all_ports<'a>(alloc: Global, scope: &Scope<'a>) -> Result<Ports<'a>, Memo
 
 // Adds the ports of one more declaration.
 fn add_ports<'a>(ports: &mut Ports<'a>, owner: usize, added: &'a [AstPort]) -> Result<(), Memory>
-    ensures { OnOk result ((key : Key) → contains is_same_key ports.new key
-        ≡ (contains is_same_key ports.old key || (nat_eq owner key.0 && is_port_name added.now key.1.now.name))) }
+    ensures { OnOk result ((key : Key) → contains by_key ports.new key
+        ≡ (contains by_key ports.old key || (nat_eq owner key.0 && is_port_name added.now key.1))) }
 {
     'ports: for port in added {
-        ports.insert((owner, &port.name))?;
+        note(ports, (owner, OrderedName::new(&port.name.name)))?;
     }
     Ok(())
 }
@@ -46,12 +49,12 @@ pub fn has_port<'a>(
     streamlet: usize,
     name: &'a AstName,
 ) -> bool
-    requires found { FindsPorts (contains is_same_key ports.now) (declarations_of scope.now.declared) (length (declarations_of scope.now.declared)) }
+    requires found { FindsPorts (contains by_key ports.now) (declarations_of scope.now.declared) (length (declarations_of scope.now.declared)) }
     requires within { streamlet < length (declarations_of scope.now.declared) }
     ensures { result ≡ has_port (spec.ports_of (declarations_of scope.now.declared) (spec.declaration (declarations_of scope.now.declared) streamlet)) name.now.name }
 {
     match owner_of(scope, streamlet) {
-        Some(owner) => ports.contains(&(owner, name)),
+        Some(owner) => ports.contains(&(owner, OrderedName::new(&name.name))),
         None => false,
     }
 }

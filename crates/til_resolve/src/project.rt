@@ -3,17 +3,19 @@
 ghost use Rattle.std.specs.Prelude.{◌≡◌, find};
 ghost use Rattle.std.specs.Option.{option_copied};
 ghost use Rattle.std.specs.Str.{bytes_eq};
+ghost use Rattle.til_resolve.specs.NumberedTypes.{AreNumbered};
 ghost use Rattle.til_resolve.specs.Paths.{is_same_path};
 
 use logical_types::StreamType;
 use std::rc::Rc;
 use tydi_base::{List, Name, Path, Place, Text};
 
-/// A project, in text order.
+/// A project, in text order. Ports that name one type declaration have one type.
 #[derive(Debug, Drop)]
 pub struct Project {
     pub streamlets: List<Streamlet>,
     pub tests: List<Test>,
+    ghost numbered: { ∥ AreNumbered streamlets ∥₁ },
 }
 
 /// A streamlet with its implementation, if it has one.
@@ -30,6 +32,8 @@ pub struct Port {
     pub name: Name,
     pub inward: bool,
     pub ltype: Rc<StreamType>,
+    /// The number of the type declaration that it names, among all declarations in text order; none where its type is written in place.
+    pub declared: Option<usize>,
 }
 
 /// An implementation.

@@ -1,6 +1,7 @@
 ghost use Rattle.std.specs.Prelude.{◌≡◌};
-ghost use Rattle.indexmap.specs.IndexMap.{get};
-ghost use Rattle.til_resolve.specs.Scope.{IsScope, is_same_key, placed};
+ghost use Rattle.std.specs.BTreeMap.{get};
+ghost use Rattle.til_resolve.specs.Ordered.{by_key, by_path};
+ghost use Rattle.til_resolve.specs.Scope.{IsScope, placed};
 
 use crate::declared::Declared;
 use crate::firsts::Firsts;
@@ -13,5 +14,5 @@ pub struct Scope<'a> {
     pub declared: List<Declared<'a>>,
     pub spaces: Spaces<'a>,
     pub firsts: Firsts<'a>,
-    ghost found: { IsScope spaces.keys (get is_same_key firsts) (placed declared) },
+    ghost found: { IsScope spaces.keys (get by_path spaces.numbers) (get by_key firsts) (placed declared) },
 }

@@ -1,7 +1,8 @@
 //! The streamlets of a project, with their ports and implementations.
 
-ghost use Rattle.std.specs.Prelude.{◌≡◌, ◌+◌, ◌<◌, length, nat_eq, None, Contains, IfOk, OnOk};
-ghost use Rattle.indexmap.specs.IndexMap.{get};
+ghost use Rattle.std.specs.Prelude.{◌≡◌, ◌+◌, ◌<◌, length, None, Contains, IfOk, OnOk};
+ghost use Rattle.std.specs.BTreeMap.{get};
+ghost use Rattle.std.specs.Ordering.{nat_cmp};
 ghost use Rattle.til_resolve.specs.Declarations.{declaration, path_of, ports_in, ports_of};
 ghost use Rattle.til_resolve.specs.Faults.{IsToldUpTo, written_types};
 ghost use Rattle.til_resolve.specs.Making.{FindsFirstImpl, numbers_before, type_of_port};
@@ -13,7 +14,7 @@ use crate::bodies::body_of;
 use crate::declared::Declared;
 use crate::implementing::{FirstImpls, first_impls};
 use crate::kinds::{Asked, is_asked, own_ports};
-use crate::port_types::type_of_port;
+use crate::port_types::{declared_type, type_of_port};
 use crate::ports::owner_of;
 use crate::project::{Port, Streamlet};
 use crate::scope::Scope;
@@ -62,7 +63,7 @@ fn add_streamlet(
 ) -> Result<(), Memory>
     requires sound { IsToldUpTo (declarations_of scope.now.declared) 7 None }
     requires table { table.now ≡ numbers_before (declarations_of scope.now.declared) (length (declarations_of scope.now.declared)) }
-    requires impls { FindsFirstImpl (get nat_eq impls.now) (declarations_of scope.now.declared) (length (declarations_of scope.now.declared)) }
+    requires impls { FindsFirstImpl (get nat_cmp impls.now) (declarations_of scope.now.declared) (length (declarations_of scope.now.declared)) }
     requires types { AreTypes (declarations_of scope.now.declared) (length (declarations_of scope.now.declared)) types.now }
     requires within { number < length (declarations_of scope.now.declared) }
     requires so_far { Pairwise (IsStreamletOf (declarations_of scope.now.declared)) (streamlets_before (declarations_of scope.now.declared) number) streamlets.old }
@@ -84,7 +85,7 @@ fn streamlet_of(
 ) -> Result<Streamlet, Memory>
     requires sound { IsToldUpTo (declarations_of scope.now.declared) 7 None }
     requires table { table.now ≡ numbers_before (declarations_of scope.now.declared) (length (declarations_of scope.now.declared)) }
-    requires impls { FindsFirstImpl (get nat_eq impls.now) (declarations_of scope.now.declared) (length (declarations_of scope.now.declared)) }
+    requires impls { FindsFirstImpl (get nat_cmp impls.now) (declarations_of scope.now.declared) (length (declarations_of scope.now.declared)) }
     requires types { AreTypes (declarations_of scope.now.declared) (length (declarations_of scope.now.declared)) types.now }
     requires within { number < length (declarations_of scope.now.declared) }
     ensures { IfOk result (IsStreamletOf (declarations_of scope.now.declared) number) }
@@ -168,5 +169,6 @@ fn port_of<'a>(
         name,
         inward: port.inward,
         ltype,
+        declared: declared_type(scope, number, &port.ltype),
     })
 }

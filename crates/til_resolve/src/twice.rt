@@ -1,26 +1,30 @@
 //! Names that are declared twice, and streamlets that are implemented twice.
 
-ghost use Rattle.std.specs.Prelude.{◌≡◌, ◌+◌, ◌<◌, List, [], ◌∷◌, length, map, IfOk, IfSome, OnOk, Contains, nat_eq};
+ghost use Rattle.std.specs.Prelude.{◌≡◌, ◌+◌, ◌<◌, List, [], ◌∷◌, length, map, IfOk, IfSome, OnOk, Contains};
 ghost use Rattle.std.specs.Char.{to_ascii_lowercase};
-ghost use Rattle.indexmap.specs.IndexMap.{get};
-ghost use Rattle.indexmap.specs.IndexSet.{contains};
+ghost use Rattle.std.specs.BTreeMap.{get};
+ghost use Rattle.std.specs.BTreeSet.{contains};
+ghost use Rattle.std.specs.Ordering.{nat_cmp};
 ghost use Rattle.std.specs.List.{filter_map};
 ghost use Rattle.til_resolve.specs.Declarations.{before, declaration, ports_of, ports_of_streamlet};
 ghost use Rattle.til_resolve.specs.Earliest.{IsEarliest};
 ghost use Rattle.til_resolve.specs.Making.{FindsFirstImpl};
 ghost use Rattle.til_resolve.specs.Names as spec;
+ghost use Rattle.til_resolve.specs.Ordered.{by_key, by_name};
 ghost use Rattle.til_resolve.specs.Ports.{FindsPorts};
-ghost use Rattle.til_resolve.specs.Scope.{declarations_of, is_same_key};
+ghost use Rattle.til_resolve.specs.Scope.{declarations_of};
 ghost use Rattle.til_resolve.specs.Names.{WrittenInstance};
-ghost use Rattle.til_resolve.specs.Twice.{FindsNames, AddsInstance, is_same_name};
+ghost use Rattle.til_resolve.specs.Twice.{FindsNames, AddsInstance};
 
 use crate::earliest::earlier;
 use crate::implementing::{FirstImpls, first_impls, implements};
+use crate::keeping::note;
 use crate::kinds::{Asked, own_ports};
+use crate::ordered::OrderedName;
 use crate::ports::{Ports, has_port};
 use crate::scope::Scope;
-use indexmap::IndexSet;
 use std::alloc::Global;
+use std::collections::BTreeSet;
 use til_parser::{AstBody, AstKind, AstName, AstPath, AstPort, AstStmt};
 use tydi_base::{List, Memory, Name, Place};
 
@@ -31,7 +35,7 @@ pub fn first_twice<'a>(
     scope: &Scope<'a>,
     ports: &Ports<'a>,
 ) -> Result<Option<Place>, Memory>
-    requires { FindsPorts (contains is_same_key ports.now) (declarations_of scope.now.declared) (length (declarations_of scope.now.declared)) }
+    requires { FindsPorts (contains by_key ports.now) (declarations_of scope.now.declared) (length (declarations_of scope.now.declared)) }
     ensures { IfOk result (IsEarliest (Contains (spec.twice (declarations_of scope.now.declared)))) }
 {
     let mut found = None;
@@ -48,7 +52,7 @@ fn twice_at<'a>(
     ports: &Ports<'a>,
     number: usize,
 ) -> Result<Option<Place>, Memory>
-    requires found { FindsPorts (contains is_same_key ports.now) (declarations_of scope.now.declared) (length (declarations_of scope.now.declared)) }
+    requires found { FindsPorts (contains by_key ports.now) (declarations_of scope.now.declared) (length (declarations_of scope.now.declared)) }
     requires within { number < length (declarations_of scope.now.declared) }
     ensures { IfOk result (IsEarliest (Contains (spec.twice_at (declarations_of scope.now.declared) number))) }
 {
@@ -73,10 +77,10 @@ fn declared_again(scope: &Scope<'_>, number: usize) -> Option<Place>
 fn ports_again(alloc: Global, ports: &[AstPort]) -> Result<Option<Place>, Memory>
     ensures { IfOk result (IsEarliest (Contains (spec.ports_again ports.now))) }
 {
-    let mut seen: IndexSet<List<u8>> = IndexSet::new(alloc);
+    let mut seen: BTreeSet<List<u8>> = BTreeSet::new(alloc);
     let mut found = None;
     'ports: for port in ports {
-        let (_, is_new) = seen.insert_full(lowered(alloc, &port.name.name)?)?;
+        let is_new = note(&mut seen, lowered(alloc, &port.name.name)?)?;
         found = earlier(found, (!is_new).then_some(port.name.place));
     }
     Ok(found)
@@ -100,7 +104,7 @@ fn names_again_in_body<'a>(
     ports: &Ports<'a>,
     number: usize,
 ) -> Result<Option<Place>, Memory>
-    requires found { FindsPorts (contains is_same_key ports.now) (declarations_of scope.now.declared) (length (declarations_of scope.now.declared)) }
+    requires found { FindsPorts (contains by_key ports.now) (declarations_of scope.now.declared) (length (declarations_of scope.now.declared)) }
     requires within { number < length (declarations_of scope.now.declared) }
     ensures { IfOk result (IsEarliest (Contains (spec.names_again_in_body (declarations_of scope.now.declared) (declaration (declarations_of scope.now.declared) number)))) }
 {
@@ -120,7 +124,7 @@ fn names_again_in_impl<'a>(
     target: &'a AstPath,
     body: &'a AstBody,
 ) -> Result<Option<Place>, Memory>
-    requires found { FindsPorts (contains is_same_key ports.now) (declarations_of scope.now.declared) (length (declarations_of scope.now.declared)) }
+    requires found { FindsPorts (contains by_key ports.now) (declarations_of scope.now.declared) (length (declarations_of scope.now.declared)) }
     requires within { number < length (declarations_of scope.now.declared) }
     ensures { IfOk result (IsEarliest (Contains (spec.names_again_in_impl (declarations_of scope.now.declared) (declaration (declarations_of scope.now.declared) number).space target.now body.now))) }
 {
@@ -140,7 +144,7 @@ fn instances_named_as_own_ports<'a>(
     streamlet: Option<usize>,
     stmts: &'a [AstStmt],
 ) -> Option<Place>
-    requires found { FindsPorts (contains is_same_key ports.now) (declarations_of scope.now.declared) (length (declarations_of scope.now.declared)) }
+    requires found { FindsPorts (contains by_key ports.now) (declarations_of scope.now.declared) (length (declarations_of scope.now.declared)) }
     requires within { IfSome streamlet (λ number. number < length (declarations_of scope.now.declared)) }
     ensures { IsEarliest (Contains (spec.instances_named_as_ports (ports_of_streamlet (declarations_of scope.now.declared) streamlet) (filter_map spec.instance_at stmts.now))) result }
 {
@@ -154,7 +158,7 @@ fn instances_named_as_own_ports<'a>(
 fn instances_again(alloc: Global, stmts: &[AstStmt]) -> Result<Option<Place>, Memory>
     ensures { IfOk result (IsEarliest (Contains (spec.instances_again (filter_map spec.instance_at stmts.now)))) }
 {
-    let mut seen: IndexSet<&AstName> = IndexSet::new(alloc);
+    let mut seen: BTreeSet<OrderedName<'_>> = BTreeSet::new(alloc);
     let mut found = None;
     'stmts: for stmt in stmts {
         found = earlier(found, instance_again(&mut seen, stmt)?);
@@ -164,16 +168,16 @@ fn instances_again(alloc: Global, stmts: &[AstStmt]) -> Result<Option<Place>, Me
 
 // An instance with the name of one that is among these.
 fn instance_again<'a>(
-    seen: &mut IndexSet<&'a AstName>,
+    seen: &mut BTreeSet<OrderedName<'a>>,
     stmt: &'a AstStmt,
 ) -> Result<Option<Place>, Memory>
-    ensures { IfOk result (λ found. (earlier : List WrittenInstance) → FindsNames (contains is_same_name seen.old) earlier
-        → AddsInstance (contains is_same_name seen.new) earlier (spec.instance_at stmt.now) found) }
+    ensures { IfOk result (λ found. (earlier : List WrittenInstance) → FindsNames (contains by_name seen.old) earlier
+        → AddsInstance (contains by_name seen.new) earlier (spec.instance_at stmt.now) found) }
 {
     let AstStmt::Instance { name, .. } = stmt else {
         return Ok(None);
     };
-    let (_, is_new) = seen.insert_full(name)?;
+    let is_new = note(seen, OrderedName::new(&name.name))?;
     Ok((!is_new).then_some(name.place))
 }
 
@@ -184,7 +188,7 @@ fn instances_named_as_ports<'a>(
     streamlet: usize,
     stmts: &'a [AstStmt],
 ) -> Option<Place>
-    requires found { FindsPorts (contains is_same_key ports.now) (declarations_of scope.now.declared) (length (declarations_of scope.now.declared)) }
+    requires found { FindsPorts (contains by_key ports.now) (declarations_of scope.now.declared) (length (declarations_of scope.now.declared)) }
     requires within { streamlet < length (declarations_of scope.now.declared) }
     ensures { IsEarliest (Contains (spec.instances_named_as_ports (ports_of (declarations_of scope.now.declared) (declaration (declarations_of scope.now.declared) streamlet))
         (filter_map spec.instance_at stmts.now))) result }
@@ -202,7 +206,7 @@ fn instance_named_as_port<'a>(
     streamlet: usize,
     stmt: &'a AstStmt,
 ) -> Option<Place>
-    requires found { FindsPorts (contains is_same_key ports.now) (declarations_of scope.now.declared) (length (declarations_of scope.now.declared)) }
+    requires found { FindsPorts (contains by_key ports.now) (declarations_of scope.now.declared) (length (declarations_of scope.now.declared)) }
     requires within { streamlet < length (declarations_of scope.now.declared) }
     ensures { IsEarliest (Contains (spec.instances_named_as_ports (ports_of (declarations_of scope.now.declared) (declaration (declarations_of scope.now.declared) streamlet))
         (filter_map spec.instance_at (stmt.now ∷ [])))) result }
@@ -229,7 +233,7 @@ fn first_implemented_again(alloc: Global, scope: &Scope<'_>) -> Result<Option<Pl
 
 // An `impl` of a streamlet that one before it implements.
 fn implemented_again(scope: &Scope<'_>, impls: &FirstImpls, number: usize) -> Option<Place>
-    requires impls { FindsFirstImpl (get nat_eq impls.now) (declarations_of scope.now.declared) (length (declarations_of scope.now.declared)) }
+    requires impls { FindsFirstImpl (get nat_cmp impls.now) (declarations_of scope.now.declared) (length (declarations_of scope.now.declared)) }
     requires within { number < length (declarations_of scope.now.declared) }
     ensures { IsEarliest (Contains (spec.implemented_again (declarations_of scope.now.declared) number)) result }
 {

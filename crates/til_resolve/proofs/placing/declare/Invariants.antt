@@ -1,7 +1,8 @@
 use Rattle.std.proofs.Common.{◌≡◌, ◌++◌, map, take}
 use Rattle.til_parser.specs.declared.tree.AstDecl.{AstDecl}
 use Rattle.til_resolve.specs.Declarations.{Declaration}
-use Rattle.til_resolve.specs.Scope.{placed, placed_at, texts_of}
+use Rattle.til_resolve.specs.Paths.{texts_of}
+use Rattle.til_resolve.specs.Scope.{placed, placed_at}
 use Rattle.til_resolve.proofs.placing.declare.Given as goal
 
 -- the declarations so far are added

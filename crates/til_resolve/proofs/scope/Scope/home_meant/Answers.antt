@@ -5,5 +5,5 @@ use Rattle.til_resolve.proofs.ScopeLemmas.{home_of-names}
 use Rattle.til_resolve.proofs.scope.Scope.home_meant.Goals as goal
 
 pub returns-in_default : goal.returns-in_default
-returns-in_default c = c.get_index_of.ensures.index
+returns-in_default c = c.space.ensures
     ∙ home_of-names c.args.self.now.spaces.keys (declaration (declarations_of c.args.self.now.declared) c.args.number).space c.args.front (omega arith)
