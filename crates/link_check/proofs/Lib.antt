@@ -2,6 +2,7 @@ mod TestLemmas
 mod ShapeLemmas
 pub mod SameTypeLemmas
 pub mod CompatibleLemmas
+mod TypedLemmas
 mod DifferenceLemmas
 mod Examples
 mod NamedLemmas

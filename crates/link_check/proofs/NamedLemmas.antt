@@ -18,7 +18,8 @@ use Rattle.link_check.specs.CarryLaws.{port_at}
 use Rattle.link_check.specs.Chains.{streamlet_under}
 use Rattle.link_check.specs.Steps.{inward_at}
 use Rattle.link_check.specs.declared.leaf.LeafPort.{LeafPort}
-use Rattle.link_check.specs.Tables.{Home, lent_port, port_in, ports_there, port_at_home}
+use Rattle.til_resolve.specs.Ordered.{Key}
+use Rattle.link_check.specs.Tables.{lent_port, port_in, ports_there, port_at_home}
 
 -- ---- the first of a list that grows
 
@@ -111,13 +112,13 @@ or-assoc None other last = refl
 or-assoc (Some one) other last = refl
 
 -- one port more of a streamlet
-pub home-more : (before : Option Port) (ports : List Port) (i : ℕ) (port : Port) (home : ℕ) (key : Home) → i < length ports → port ≡ get_or ports i port
-    → option_or (option_or before (port_at_home (take i ports) home key)) (cond (nat_eq home key.0 && bytes_eq port.name key.1.now) (Some port) None)
+pub home-more : (before : Option Port) (ports : List Port) (i : ℕ) (port : Port) (home : ℕ) (key : Key) → i < length ports → port ≡ get_or ports i port
+    → option_or (option_or before (port_at_home (take i ports) home key)) (cond (nat_eq home key.0 && bytes_eq port.name key.1) (Some port) None)
     ≡ option_or before (port_at_home (take (i + 1) ports) home key)
 home-more before ports i port home key within is = or-assoc before (port_at_home (take i ports) home key) _ ∙ ap (option_or before) (by (nat_eq home key.0))
   where
-    by : (b : Bool) → option_or (cond b (port_in (take i ports) key.1.now) None) (cond (b && bytes_eq port.name key.1.now) (Some port) None) ≡ cond b (port_in (take (i + 1) ports) key.1.now) None
-    by true = sym (find-more (λ (p : Port). bytes_eq p.name key.1.now) ports i port within is)
+    by : (b : Bool) → option_or (cond b (port_in (take i ports) key.1) None) (cond (b && bytes_eq port.name key.1) (Some port) None) ≡ cond b (port_in (take (i + 1) ports) key.1) None
+    by true = sym (find-more (λ (p : Port). bytes_eq p.name key.1) ports i port within is)
     by false = refl
 
 -- ---- one streamlet more
@@ -141,27 +142,27 @@ at-other (y ∷ xs) zero (suc k) apart = refl
 at-other (y ∷ xs) (suc n) zero apart = refl
 at-other (y ∷ xs) (suc n) (suc k) apart = at-other xs n k (λ e. apart (ap (λ (m : ℕ). suc m) e))
 
-pub streamlets-more : (streamlets : List Streamlet) (home : ℕ) (one : Streamlet) (key : Home) → home < length streamlets → one ≡ get_or streamlets home one
-    → option_or (port_in (ports_there (slice_get (take home streamlets) key.0)) key.1.now) (port_at_home one.ports home key)
-    ≡ port_in (ports_there (slice_get (take (home + 1) streamlets) key.0)) key.1.now
+pub streamlets-more : (streamlets : List Streamlet) (home : ℕ) (one : Streamlet) (key : Key) → home < length streamlets → one ≡ get_or streamlets home one
+    → option_or (port_in (ports_there (slice_get (take home streamlets) key.0)) key.1) (port_at_home one.ports home key)
+    ≡ port_in (ports_there (slice_get (take (home + 1) streamlets) key.0)) key.1
 streamlets-more streamlets home one key within is = by (nat_eq home key.0) refl ∙ ap (λ n. found (slice_get (take n streamlets) key.0)) (sym (add-one home))
   where
     found : Option Streamlet → Option Port
-    found there = port_in (ports_there there) key.1.now
+    found there = port_in (ports_there there) key.1
 
     or-none : (one : Option Port) → option_or one None ≡ one
     or-none None = refl
     or-none (Some port) = refl
 
     by : (b : Bool) → nat_eq home key.0 ≡ b
-        → option_or (port_in (ports_there (slice_get (take home streamlets) key.0)) key.1.now) (cond b (port_in one.ports key.1.now) None) ≡ port_in (ports_there (slice_get (take (suc home) streamlets) key.0)) key.1.now
+        → option_or (port_in (ports_there (slice_get (take home streamlets) key.0)) key.1) (cond b (port_in one.ports key.1) None) ≡ port_in (ports_there (slice_get (take (suc home) streamlets) key.0)) key.1
     by true same =
         let at : home ≡ key.0 = eqb-true home key.0 same in
-        ap (λ (there : Option Streamlet). option_or (port_in (ports_there there) key.1.now) (port_in one.ports key.1.now))
+        ap (λ (there : Option Streamlet). option_or (port_in (ports_there there) key.1) (port_in one.ports key.1))
         (ap (λ n. slice_get (take home streamlets) n) (sym at) ∙ at-none streamlets home)
-        ∙ sym (ap (λ (there : Option Streamlet). port_in (ports_there there) key.1.now) (ap (λ n. slice_get (take (suc home) streamlets) n) (sym at) ∙ at-same streamlets home one within is))
+        ∙ sym (ap (λ (there : Option Streamlet). port_in (ports_there there) key.1) (ap (λ n. slice_get (take (suc home) streamlets) n) (sym at) ∙ at-same streamlets home one within is))
     by false apart =
-        or-none _ ∙ sym (ap (λ (there : Option Streamlet). port_in (ports_there there) key.1.now)
+        or-none _ ∙ sym (ap (λ (there : Option Streamlet). port_in (ports_there there) key.1)
         (at-other streamlets home key.0 (λ e. clash (sym apart ∙ eq-eqb home key.0 e))))
 
 -- the ports of the streamlet at a number

@@ -1,21 +1,12 @@
 -- Tables of names: which port and which instance they find. They serve the look-ups of ends, and no public clause.
-use Rattle.std.specs.Prelude.{◌≡◌, ℕ, nat_eq, Bool, ◌&&◌, List, [], Option, Some, None, option_map, slice_get, if◌then◌else◌}
+use Rattle.std.specs.Prelude.{◌≡◌, ℕ, nat_eq, List, [], Option, Some, None, option_map, slice_get, if◌then◌else◌}
 use Rattle.std.specs.Borrow.{Bor}
 use Rattle.std.specs.List.{find}
 use Rattle.std.specs.Str.{bytes_eq}
+use Rattle.til_resolve.specs.Ordered.{Key}
 use Rattle.til_resolve.specs.declared.project.Instance.{Instance}
 use Rattle.til_resolve.specs.declared.project.Port.{Port}
 use Rattle.til_resolve.specs.declared.project.Streamlet.{Streamlet}
-
--- a name among the ports of the streamlet of a number
-abbrev pub Home : Type 0
-Home = ℕ × Bor (List ℕ)
-
-abbrev pub is_same_home : Home → Home → Bool
-is_same_home one other = nat_eq one.0 other.0 && bytes_eq one.1.now other.1.now
-
-abbrev pub is_same_lent : Bor (List ℕ) → Bor (List ℕ) → Bool
-is_same_lent one other = bytes_eq one.now other.now
 
 -- the port, or the instance, that a table lends
 abbrev pub lent_port : Option (Bor Port) → Option Port
@@ -37,18 +28,18 @@ ports_there None = []
 ports_there (Some streamlet) = streamlet.ports
 
 -- the first port of a name in these, where they are those of the asked streamlet
-abbrev pub port_at_home : List Port → ℕ → Home → Option Port
-port_at_home ports home key = if nat_eq home key.0 then port_in ports key.1.now else None
+abbrev pub port_at_home : List Port → ℕ → Key → Option Port
+port_at_home ports home key = if nat_eq home key.0 then port_in ports key.1 else None
 
 -- a look-up finds the first port of a name in each streamlet
-abbrev pub FindsPorts : (Home → Option (Bor Port)) → List Streamlet → Type 0
-FindsPorts look streamlets = (key : Home) → lent_port (look key) ≡ port_in (ports_there (slice_get streamlets key.0)) key.1.now
+abbrev pub FindsPorts : (Key → Option (Bor Port)) → List Streamlet → Type 0
+FindsPorts look streamlets = (key : Key) → lent_port (look key) ≡ port_in (ports_there (slice_get streamlets key.0)) key.1
 
 -- a look-up finds the first instance of a name
-abbrev pub FindsInstances : (Bor (List ℕ) → Option (Bor Instance)) → List Instance → Type 0
-FindsInstances look instances = (key : Bor (List ℕ)) → lent_instance (look key) ≡ instance_in instances key.now
+abbrev pub FindsInstances : (List ℕ → Option (Bor Instance)) → List Instance → Type 0
+FindsInstances look instances = (name : List ℕ) → lent_instance (look name) ≡ instance_in instances name
 
 -- the tables of an implementation find its ports and instances
-pub record IsWired (streamlets : List Streamlet) (instances : List Instance) (look_port : Home → Option (Bor Port)) (look_instance : Bor (List ℕ) → Option (Bor Instance)) : Type 0 where
+pub record IsWired (streamlets : List Streamlet) (instances : List Instance) (look_port : Key → Option (Bor Port)) (look_instance : List ℕ → Option (Bor Instance)) : Type 0 where
   pub ports : FindsPorts look_port streamlets
   pub inside : FindsInstances look_instance instances

@@ -2,11 +2,11 @@
 
 ghost use Rattle.std.specs.Prelude.{◌≡◌, List, [], map, slice_get};
 ghost use Rattle.std.specs.List.{list_all};
-ghost use Rattle.indexmap.specs.IndexSet.{contains};
+ghost use Rattle.std.specs.BTreeSet.{contains};
 ghost use Rattle.til_resolve.specs.declared.project.Link.{Link};
 ghost use Rattle.link_check.specs.Ends.{ends_of};
 ghost use Rattle.link_check.specs.Links as spec;
-ghost use Rattle.link_check.specs.Linked.{AddsLink, Sees, instance_linked, is_same_key};
+ghost use Rattle.link_check.specs.Linked.{AddsLink, Sees, instance_linked, by_end};
 ghost use Rattle.link_check.specs.Linking.{Judges};
 ghost use Rattle.link_check.specs.Tables.{ports_there};
 ghost use Rattle.link_check.specs.Wirings.{inside_lent, streamlets_lent};
@@ -47,7 +47,7 @@ impl<'p> Wiring<'_, 'p> {
     /// All links, or the first fault of one.
     fn link_all(&self, alloc: Global, links: &'p [Link]) -> Result<Linked<'p>, LinkFault>
         ensures { Judges (spec.fault_of_links (streamlets_lent self.now) (inside_lent self.now) [] links.now)
-            (λ linked. (linked.nets ≡ map (spec.net_of (streamlets_lent self.now) (inside_lent self.now)) links.now) × Sees (contains is_same_key linked.ends.names) links.now) result }
+            (λ linked. (linked.nets ≡ map (spec.net_of (streamlets_lent self.now) (inside_lent self.now)) links.now) × Sees (contains by_end linked.ends.names) links.now) result }
     {
         let mut linked = Linked {
             nets: List::new(alloc),
@@ -66,9 +66,9 @@ impl<'p> Wiring<'_, 'p> {
         linked: &mut Linked<'p>,
         link: &'p Link,
     ) -> Result<(), LinkFault>
-        ensures { (earlier : List Link) → Sees (contains is_same_key linked.old.ends.names) earlier
+        ensures { (earlier : List Link) → Sees (contains by_end linked.old.ends.names) earlier
             → Judges (spec.fault_of_link (streamlets_lent self.now) (inside_lent self.now) earlier link.now)
-            (λ _. AddsLink (streamlets_lent self.now) (inside_lent self.now) earlier link.now linked.old.nets linked.new.nets (contains is_same_key linked.new.ends.names)) result }
+            (λ _. AddsLink (streamlets_lent self.now) (inside_lent self.now) earlier link.now linked.old.nets linked.new.nets (contains by_end linked.new.ends.names)) result }
     {
         let is_linked = linked.ends.has(&link.first) | linked.ends.has(&link.second);
         let net = self.net(alloc, link, is_linked)?;
@@ -80,7 +80,7 @@ impl<'p> Wiring<'_, 'p> {
 
     /// Whether each end is one of these.
     fn all_linked(&self, ends: &LinkedEnds<'p>) -> bool
-        ensures { (links : List Link) → Sees (contains is_same_key ends.now.names) links
+        ensures { (links : List Link) → Sees (contains by_end ends.now.names) links
             → result ≡ list_all (spec.is_linked links) (ends_of (streamlets_lent self.now) (inside_lent self.now)) }
     {
         ends.have_all(None, self.ports_at(self.home)) && self.instances_linked(ends)
@@ -88,7 +88,7 @@ impl<'p> Wiring<'_, 'p> {
 
     /// Whether each end of an instance is one of these.
     fn instances_linked(&self, ends: &LinkedEnds<'p>) -> bool
-        ensures { (links : List Link) → Sees (contains is_same_key ends.now.names) links
+        ensures { (links : List Link) → Sees (contains by_end ends.now.names) links
             → result ≡ list_all (instance_linked (streamlets_lent self.now) links) self.now.instances.now }
     {
         'instances: for one in self.instances {

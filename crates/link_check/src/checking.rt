@@ -1,14 +1,16 @@
 //! The check of all links.
 
 ghost use Rattle.std.specs.Prelude.{◌≡◌, map};
-ghost use Rattle.indexmap.specs.IndexMap.{get};
+ghost use Rattle.std.specs.BTreeMap.{get};
 ghost use Rattle.til_resolve.specs.PlainProject.{plain_project, plain_streamlet};
 ghost use Rattle.link_check.specs.Bodies.{bodies_lent, body_lent};
 ghost use Rattle.link_check.specs.Checked.{IsChecked, fault_of_bodies, impl_of};
 ghost use Rattle.link_check.specs.Linking.{Judges};
 ghost use Rattle.link_check.specs.Links.{fault_of_body};
 ghost use Rattle.link_check.specs.Order.{bodies_in_text};
-ghost use Rattle.link_check.specs.Tables.{FindsPorts, is_same_home};
+ghost use Rattle.til_resolve.specs.NumberedTypes.{AreNumbered};
+ghost use Rattle.til_resolve.specs.Ordered.{by_key};
+ghost use Rattle.link_check.specs.Tables.{FindsPorts};
 
 use crate::fault::LinkFault;
 use crate::nets::{ImplNets, Nets};
@@ -35,6 +37,7 @@ pub fn check(alloc: Global, project: &Project) -> Result<Nets, LinkFault>
 
 /// The nets of all implementations, or the first fault of one.
 fn nets_in_order(alloc: Global, streamlets: &[Streamlet]) -> Result<List<ImplNets>, LinkFault>
+    requires { ∥ AreNumbered streamlets.now ∥₁ }
     ensures { Judges (fault_of_bodies (map plain_streamlet streamlets.now) (bodies_in_text (map plain_streamlet streamlets.now)))
         (λ impls. impls ≡ map (impl_of (map plain_streamlet streamlets.now)) (bodies_in_text (map plain_streamlet streamlets.now))) result }
 {
@@ -50,7 +53,8 @@ fn all_nets<'p>(
     ports: &Ports<'p>,
     bodies: &[Body<'p>],
 ) -> Result<List<ImplNets>, LinkFault>
-    requires { FindsPorts (get is_same_home ports.now) streamlets.now }
+    requires found { FindsPorts (get by_key ports.now) streamlets.now }
+    requires numbered { ∥ AreNumbered streamlets.now ∥₁ }
     ensures { Judges (fault_of_bodies (map plain_streamlet streamlets.now) (bodies_lent (map plain_streamlet streamlets.now) bodies.now))
         (λ impls. impls ≡ map (impl_of (map plain_streamlet streamlets.now)) (bodies_lent (map plain_streamlet streamlets.now) bodies.now)) result }
 {
@@ -68,7 +72,8 @@ fn nets_of<'p>(
     ports: &Ports<'p>,
     body: &Body<'p>,
 ) -> Result<ImplNets, LinkFault>
-    requires { FindsPorts (get is_same_home ports.now) streamlets.now }
+    requires found { FindsPorts (get by_key ports.now) streamlets.now }
+    requires numbered { ∥ AreNumbered streamlets.now ∥₁ }
     ensures { Judges (fault_of_body (map plain_streamlet streamlets.now) (body_lent (map plain_streamlet streamlets.now) body.now))
         (λ nets. nets ≡ impl_of (map plain_streamlet streamlets.now) (body_lent (map plain_streamlet streamlets.now) body.now)) result }
 {

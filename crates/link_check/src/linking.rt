@@ -1,10 +1,10 @@
 //! The check of one link.
 
-ghost use Rattle.std.specs.Prelude.{◌≡◌, IfOk, Some, ⊤};
+ghost use Rattle.std.specs.Prelude.{◌≡◌, IfOk, IsTrue, Some, ⊤};
 ghost use Rattle.link_check.specs.Links as spec;
 ghost use Rattle.link_check.specs.Linking.{Judges};
 ghost use Rattle.link_check.specs.Ends.{side_of};
-ghost use Rattle.link_check.specs.Wirings.{side_lent, inside_lent, streamlets_lent};
+ghost use Rattle.link_check.specs.Wirings.{AreAlike, NameOneType, side_lent, inside_lent, streamlets_lent};
 
 use crate::difference::Difference;
 use crate::differences::first_difference;
@@ -42,6 +42,7 @@ fn understood(
     place: Place,
     linked: bool,
 ) -> Result<(), LinkFault>
+    requires { AreAlike one other }
     ensures { Judges (spec.fault_of_sides place (Some (side_lent one.entry)) (Some (side_lent other.entry)) linked) (λ _. ⊤) result }
 {
     if one.is_source == other.is_source {
@@ -56,18 +57,32 @@ fn understood(
     Ok(())
 }
 
-/// The first difference of the types of two ends, the source's first.
+/// The first difference of the types of two ends, the source's first. Ends that name one type declaration have none, so their type is not looked at.
 fn difference_of(
     alloc: Global,
     one: Side<'_>,
     other: Side<'_>,
 ) -> Result<Option<Difference>, Memory>
+    requires { AreAlike one other }
     ensures { IfOk result (λ found. found ≡ spec.difference_of (side_lent one.entry) (side_lent other.entry)) }
 {
+    if name_one_type(one, other) {
+        return Ok(None);
+    }
     if one.is_source {
         first_difference(alloc, one.ltype, other.ltype)
     } else {
         first_difference(alloc, other.ltype, one.ltype)
+    }
+}
+
+/// Whether two ends name one type declaration.
+fn name_one_type(one: Side<'_>, other: Side<'_>) -> bool
+    ensures { IsTrue result → NameOneType one.entry other.entry }
+{
+    match (one.declared, other.declared) {
+        (Some(number), Some(against)) => number == against,
+        _ => false,
     }
 }
 

@@ -1,5 +1,7 @@
-ghost use Rattle.indexmap.specs.IndexMap.{get};
-ghost use Rattle.link_check.specs.Tables.{IsWired, is_same_home, is_same_lent};
+ghost use Rattle.std.specs.BTreeMap.{get};
+ghost use Rattle.til_resolve.specs.NumberedTypes.{AreNumbered};
+ghost use Rattle.til_resolve.specs.Ordered.{by_key, by_name};
+ghost use Rattle.link_check.specs.Tables.{IsWired};
 
 use crate::tables::{Instances, Ports};
 use til_resolve::{Instance, Streamlet};
@@ -13,5 +15,6 @@ pub(crate) struct Wiring<'w, 'p> {
     pub(crate) instances: &'p [Instance],
     pub(crate) ports_by_name: &'w Ports<'p>,
     pub(crate) instances_by_name: Instances<'p>,
-    ghost found: { IsWired streamlets.now instances.now (get is_same_home ports_by_name.now) (get is_same_lent instances_by_name) },
+    ghost found: { IsWired streamlets.now instances.now (get by_key ports_by_name.now) (get by_name instances_by_name) },
+    ghost numbered: { ∥ AreNumbered streamlets.now ∥₁ },
 }

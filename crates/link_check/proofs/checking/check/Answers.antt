@@ -1,4 +1,5 @@
-use Rattle.std.proofs.Common.{◌≡◌, List, Err, map, subst}
+use Rattle.std.proofs.Common.{◌≡◌, List, Err, map, subst, sym}
+use Rattle.til_resolve.specs.NumberedTypes.{AreNumbered}
 use Rattle.til_resolve.specs.PlainProject.{plain_streamlet}
 use Rattle.til_resolve.specs.declared.project.Streamlet.{Streamlet}
 use Rattle.link_check.specs.Checked.{AreNets, fault_of_bodies, linked}
@@ -7,6 +8,9 @@ use Rattle.link_check.specs.Order.{bodies_in_text}
 use Rattle.link_check.specs.declared.fault.LinkFault.TheVariants as faults
 use Rattle.link_check.proofs.CheckedLemmas.{checked-err, large-linked, small-linked}
 use Rattle.link_check.proofs.checking.check.Goals as goal
+
+pub nets_in_order-requires : goal.nets_in_order-requires
+nets_in_order-requires c = subst (λ (streamlets : List Streamlet). ∥ AreNumbered streamlets ∥₁) (sym c.as_slice-streamlets.ensures) c.args.project.now.numbered
 
 pub returns-in_err-impls : goal.returns-in_err-impls
 returns-in_err-impls c = checked-err (map plain_streamlet c.args.project.now.streamlets) c.from_residual.result c.in_err-impls.field-0.0 c.from_residual.ensures.1

@@ -1,9 +1,10 @@
-use Rattle.std.proofs.Common.{◌&&◌, nat_eq, Some, None, Option, cond, ap, ◌∙◌}
+use Rattle.std.proofs.Common.{ℕ, List, ◌&&◌, nat_eq, Some, None, Option, cond, ap, ◌∙◌}
 use Rattle.std.specs.Option.{option_or}
 use Rattle.std.specs.Str.{bytes_eq}
-use Rattle.indexmap.specs.IndexMap.{get}
+use Rattle.std.specs.BTreeMap.{get}
 use Rattle.til_resolve.specs.declared.project.Port.{Port}
-use Rattle.link_check.specs.Tables.{is_same_home, lent_port}
+use Rattle.til_resolve.specs.Ordered.{by_key, is_same_key}
+use Rattle.link_check.specs.Tables.{lent_port}
 use Rattle.link_check.proofs.NamedLemmas.{home-more, lent-more}
 use Rattle.link_check.proofs.tables.add_ports.Goals as goal
 
@@ -11,5 +12,6 @@ pub ports-preserved : goal.ports-preserved
 ports-preserved c = λ key.
     let one = c.port-item.result in
     lent-more _ _ _ _ (c.in_ok-keep_first.ensures key)
-    ∙ ap (λ (o : Option Port). option_or o (cond (nat_eq c.args.home key.0 && bytes_eq one.name key.1.now) (Some one) None)) (c.ports.invariant key)
-    ∙ home-more (lent_port (get is_same_home c.args.table.now key)) c.args.ports.now c.ports.port-index one c.args.home key c.ports-test.true c.port-item.is
+    ∙ ap (λ (name : List ℕ). option_or (lent_port (get by_key c.ports.table key)) (cond (is_same_key (c.args.home, name) key) (Some one) None)) c.new.ensures
+    ∙ ap (λ (o : Option Port). option_or o (cond (nat_eq c.args.home key.0 && bytes_eq one.name key.1) (Some one) None)) (c.ports.invariant key)
+    ∙ home-more (lent_port (get by_key c.args.table.now key)) c.args.ports.now c.ports.port-index one c.args.home key c.ports-test.true c.port-item.is
