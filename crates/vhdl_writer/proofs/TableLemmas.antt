@@ -8,7 +8,8 @@ use Rattle.std.proofs.lemmas.Bool.{eqb-true, eq-eqb}
 use Rattle.std.proofs.lemmas.List.{take_more}
 use Rattle.std.proofs.lemmas.List.Folds.{find-append}
 use Rattle.vhdl_writer.specs.Architecture.{ports_at, ports_found}
-use Rattle.vhdl_writer.specs.Finding.{Home, port_at_home, port_named}
+use Rattle.til_resolve.specs.Ordered.{Key}
+use Rattle.vhdl_writer.specs.Finding.{port_at_home, port_named}
 use Rattle.vhdl_writer.specs.declared.component.Component.{Component}
 use Rattle.vhdl_writer.specs.declared.component.SplitPort.{SplitPort}
 
@@ -32,13 +33,13 @@ or-assoc None other last = refl
 or-assoc (Some one) other last = refl
 
 -- one port more of a component
-pub home-more : (before : Option SplitPort) (ports : List SplitPort) (i : ℕ) (port : SplitPort) (home : ℕ) (key : Home) → i < length ports → port ≡ get_or ports i port
-    → option_or (option_or before (port_at_home (take i ports) home key)) (cond (nat_eq home key.0 && bytes_eq port.name key.1.now) (Some port) None)
+pub home-more : (before : Option SplitPort) (ports : List SplitPort) (i : ℕ) (port : SplitPort) (home : ℕ) (key : Key) → i < length ports → port ≡ get_or ports i port
+    → option_or (option_or before (port_at_home (take i ports) home key)) (cond (nat_eq home key.0 && bytes_eq port.name key.1) (Some port) None)
     ≡ option_or before (port_at_home (take (i + 1) ports) home key)
 home-more before ports i port home key within is = or-assoc before (port_at_home (take i ports) home key) _ ∙ ap (option_or before) (by (nat_eq home key.0))
   where
-    by : (b : Bool) → option_or (cond b (port_named (take i ports) key.1.now) None) (cond (b && bytes_eq port.name key.1.now) (Some port) None) ≡ cond b (port_named (take (i + 1) ports) key.1.now) None
-    by true = sym (find-more (λ (p : SplitPort). bytes_eq p.name key.1.now) ports i port within is)
+    by : (b : Bool) → option_or (cond b (port_named (take i ports) key.1) None) (cond (b && bytes_eq port.name key.1) (Some port) None) ≡ cond b (port_named (take (i + 1) ports) key.1) None
+    by true = sym (find-more (λ (p : SplitPort). bytes_eq p.name key.1) ports i port within is)
     by false = refl
 
 -- ---- one component more
@@ -62,25 +63,25 @@ at-other (y ∷ xs) zero (suc k) apart = refl
 at-other (y ∷ xs) (suc n) zero apart = refl
 at-other (y ∷ xs) (suc n) (suc k) apart = at-other xs n k (λ e. apart (ap (λ (m : ℕ). suc m) e))
 
-pub components-more : (components : List Component) (home : ℕ) (one : Component) (key : Home) → home < length components → one ≡ get_or components home one
-    → option_or (port_named (ports_at (take home components) key.0) key.1.now) (port_at_home one.ports home key)
-    ≡ port_named (ports_at (take (home + 1) components) key.0) key.1.now
+pub components-more : (components : List Component) (home : ℕ) (one : Component) (key : Key) → home < length components → one ≡ get_or components home one
+    → option_or (port_named (ports_at (take home components) key.0) key.1) (port_at_home one.ports home key)
+    ≡ port_named (ports_at (take (home + 1) components) key.0) key.1
 components-more components home one key within is = by (nat_eq home key.0) refl ∙ ap (λ n. found (slice_get (take n components) key.0)) (sym (add-one home))
   where
     found : Option Component → Option SplitPort
-    found there = port_named (ports_found there) key.1.now
+    found there = port_named (ports_found there) key.1
 
     or-none : (one : Option SplitPort) → option_or one None ≡ one
     or-none None = refl
     or-none (Some port) = refl
 
     by : (b : Bool) → nat_eq home key.0 ≡ b
-        → option_or (port_named (ports_found (slice_get (take home components) key.0)) key.1.now) (cond b (port_named one.ports key.1.now) None) ≡ port_named (ports_found (slice_get (take (suc home) components) key.0)) key.1.now
+        → option_or (port_named (ports_found (slice_get (take home components) key.0)) key.1) (cond b (port_named one.ports key.1) None) ≡ port_named (ports_found (slice_get (take (suc home) components) key.0)) key.1
     by true same =
         let at : home ≡ key.0 = eqb-true home key.0 same in
-        ap (λ (there : Option Component). option_or (port_named (ports_found there) key.1.now) (port_named one.ports key.1.now))
+        ap (λ (there : Option Component). option_or (port_named (ports_found there) key.1) (port_named one.ports key.1))
         (ap (λ n. slice_get (take home components) n) (sym at) ∙ at-none components home)
-        ∙ sym (ap (λ (there : Option Component). port_named (ports_found there) key.1.now) (ap (λ n. slice_get (take (suc home) components) n) (sym at) ∙ at-same components home one within is))
+        ∙ sym (ap (λ (there : Option Component). port_named (ports_found there) key.1) (ap (λ n. slice_get (take (suc home) components) n) (sym at) ∙ at-same components home one within is))
     by false apart =
-        or-none _ ∙ sym (ap (λ (there : Option Component). port_named (ports_found there) key.1.now)
+        or-none _ ∙ sym (ap (λ (there : Option Component). port_named (ports_found there) key.1)
         (at-other components home key.0 (λ e. let same = eq-eqb home key.0 e in absurd (let clash : true ≡ false = sym same ∙ apart in cc))))

@@ -1,6 +1,7 @@
-ghost use Rattle.std.specs.Prelude.{nat_eq};
-ghost use Rattle.indexmap.specs.IndexMap.{get};
-ghost use Rattle.vhdl_writer.specs.Finding.{FindsNets, FindsPorts, is_same_home};
+ghost use Rattle.std.specs.Ordering.{nat_cmp};
+ghost use Rattle.std.specs.BTreeMap.{get};
+ghost use Rattle.til_resolve.specs.Ordered.{by_key};
+ghost use Rattle.vhdl_writer.specs.Finding.{FindsNets, FindsPorts};
 
 use crate::component::Component;
 use crate::tables::{NetsOf, Ports};
@@ -15,6 +16,6 @@ pub(crate) struct Design<'d> {
     pub(crate) impls: &'d [ImplNets],
     pub(crate) ports_by_name: Ports<'d>,
     pub(crate) nets_by_number: NetsOf<'d>,
-    ghost ports: { FindsPorts (get is_same_home ports_by_name) components.now },
-    ghost nets: { FindsNets (get nat_eq nets_by_number) impls.now },
+    ghost ports: { FindsPorts (get by_key ports_by_name) components.now },
+    ghost nets: { FindsNets (get nat_cmp nets_by_number) impls.now },
 }

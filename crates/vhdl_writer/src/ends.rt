@@ -2,14 +2,14 @@
 
 ghost use Rattle.std.specs.Prelude.{◌≡◌};
 ghost use Rattle.std.specs.Option.{option_copied};
-ghost use Rattle.indexmap.specs.IndexMap.{get};
+ghost use Rattle.std.specs.BTreeMap.{get};
 ghost use Rattle.link_check.specs.Ends.{instance_named};
 ghost use Rattle.vhdl_writer.specs.Architecture as spec;
 ghost use Rattle.vhdl_writer.specs.Finding.{port_named};
 
 use crate::component::{PortStream, SplitPort};
 use crate::inside::Inside;
-use til_resolve::{Instance, LinkEnd};
+use til_resolve::{Instance, LinkEnd, OrderedName};
 use tydi_base::Name;
 
 impl<'d> Inside<'_, 'd> {
@@ -37,7 +37,7 @@ impl<'d> Inside<'_, 'd> {
     fn instance(&self, name: &'d Name) -> Option<&'d Instance>
         ensures { option_copied result ≡ instance_named self.now.instances.now name.now }
     {
-        self.instances_by_name.get(&name).copied()
+        self.instances_by_name.get(&OrderedName::new(name)).copied()
     }
 
     /// The streams of the port of a name in the component of a number; none where there is no such port.
@@ -54,6 +54,8 @@ impl<'d> Inside<'_, 'd> {
     fn port(&self, home: usize, name: &'d Name) -> Option<&'d SplitPort>
         ensures { option_copied result ≡ port_named (spec.ports_at self.now.components.now home) name.now }
     {
-        self.ports_by_name.get(&(home, name)).copied()
+        self.ports_by_name
+            .get(&(home, OrderedName::new(name)))
+            .copied()
     }
 }

@@ -1,5 +1,6 @@
-ghost use Rattle.indexmap.specs.IndexMap.{get};
-ghost use Rattle.vhdl_writer.specs.Finding.{AreFound, is_same_home, is_same_lent};
+ghost use Rattle.std.specs.BTreeMap.{get};
+ghost use Rattle.til_resolve.specs.Ordered.{by_key, by_name};
+ghost use Rattle.vhdl_writer.specs.Finding.{AreFound};
 
 use crate::component::Component;
 use crate::tables::{Instances, Ports};
@@ -14,5 +15,5 @@ pub(crate) struct Inside<'i, 'd> {
     pub(crate) instances: &'d [Instance],
     pub(crate) ports_by_name: &'i Ports<'d>,
     pub(crate) instances_by_name: Instances<'d>,
-    ghost found: { AreFound components.now instances.now (get is_same_home ports_by_name.now) (get is_same_lent instances_by_name) },
+    ghost found: { AreFound components.now instances.now (get by_key ports_by_name.now) (get by_name instances_by_name) },
 }
