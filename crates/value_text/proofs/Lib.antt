@@ -1,5 +1,8 @@
 mod WordLemmas
 mod WrittenLemmas
+mod InsideLemmas
+mod PendingLemmas
+mod LineLemmas
 mod TokenLemmas
 mod SyntaxRules
 mod LeafLemmas

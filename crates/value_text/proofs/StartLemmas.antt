@@ -1,13 +1,12 @@
 -- A text has no more leaves than runs of word bytes and `{`.
-use Rattle.std.proofs.Common.{◌≡◌, ◌∙◌, ℕ, zero, suc, ◌+◌, ◌≤◌, max, Bool, true, false, ◌==◌, not, ◌&&◌, ◌||◌, cond, nat_lt, List, [], ◌∷◌, length, map, drop, get_or, None, refl, sym, ap, arith}
+use Rattle.std.proofs.Common.{◌≡◌, ◌∙◌, ℕ, zero, suc, ◌+◌, ◌≤◌, max, Bool, true, false, ◌==◌, not, ◌&&◌, cond, List, [], ◌∷◌, length, map, drop, get_or, None, refl, sym, ap, arith}
 use Rattle.std.specs.List.{filter}
-use Rattle.std.proofs.lemmas.Bool.Decides.{nat_tests}
 use Rattle.value_text.specs.declared.token.TokenKind.{TokenKind}
 use Rattle.value_text.specs.declared.token.TokenKind.TheVariants as kinds
 use Rattle.value_text.specs.Leaves.{begins_leaf, behind, is_empty, leaves_of, surplus}
 use Rattle.value_text.specs.Starts.{begins, starts}
-use Rattle.value_text.specs.Tokens.{PlainToken, after_gap, after_token, begins_comment, but_first, gap_from, is_space, is_word_byte, kind_at, kind_of, next_token, takes_next, token_at, token_in, tokens_of, tokens_within, with_next, word_length}
-use Rattle.value_text.specs.Words.{is_leaf, is_word}
+use Rattle.value_text.specs.Tokens.{PlainToken, after_gap, after_token, begins_comment, but_first, gap_from, is_space, is_word_byte, kind_at, kind_of, next_token, takes_next, token_at, tokens_of, tokens_within, with_next, word_length}
+use Rattle.value_text.specs.Words.{is_word}
 
 -- ---- a text without bytes at its front has no more starts
 

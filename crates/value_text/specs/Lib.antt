@@ -1,4 +1,8 @@
 pub mod Canonical
+pub mod Items
+pub mod Inside
+pub mod Pending
+pub mod Pieces
 pub mod Tokens
 pub mod Source
 pub mod Starts

@@ -4,27 +4,35 @@
 //! stands on `tydi_reading`, `type_split` and `logical_value`.
 #![tactic(auto)]
 
-mod elements;
+mod beginning;
 mod fault;
+mod filling;
 mod form;
+mod inside;
+mod items;
 mod laws;
 mod leaves;
 mod lexing;
 mod listed_words;
 mod opening;
+mod pending;
+mod pieces;
 mod port;
 mod printing;
 mod reading;
+mod starting;
+mod stepping;
 mod steps;
 mod stops;
 mod syntax;
 mod token;
 mod tokens;
 mod typed;
-mod users;
+mod word;
 mod words;
 
 pub use fault::ValueFault;
 pub use laws::{values_are_read_as_printed, values_that_are_read_fit};
-pub use printing::print;
+pub use pieces::ValuePieces;
+pub use printing::{print, text_length};
 pub use reading::read;

@@ -1,4 +1,4 @@
-use Rattle.std.proofs.Common.{◌≤◌, sym, arith}
+use Rattle.std.proofs.Common.{sym, arith}
 use Rattle.std.proofs.lemmas.Bool.Decides.{nat_tests}
 use Rattle.value_text.proofs.StartLemmas.{no_surplus}
 use Rattle.value_text.proofs.leaves.surplus_leaf.Goals as goal

@@ -1,0 +1,10 @@
+use Rattle.std.proofs.Common.{◌≡◌, ◌++◌}
+use Rattle.value_text.specs.Pending.{rest_of, steps_of}
+use Rattle.value_text.proofs.filling.write_all.Given as goal
+
+-- the text that is written, and that of the parts that are left, are all
+abbrev pub invariant-steps : goal.invariant-steps
+invariant-steps l = l.initial.out ++ rest_of l.initial.left ≡ l.out ++ rest_of l.left
+
+abbrev pub decreases-steps : goal.decreases-steps
+decreases-steps l = steps_of l.left

@@ -1,0 +1,108 @@
+//! Things that are gone through once, lent or of one's own.
+
+ghost use Rattle.std.specs.Prelude.{◌≡◌, ◌∷◌, [], reverse, MatchOption};
+ghost use Rattle.value_text.specs.Items.{item_of, items_of};
+
+use tydi_base::List;
+
+/// The rest of things that are gone through once, from the first on.
+#[derive(Drop)]
+pub(crate) enum Items<'v, T> {
+    /// They are lent.
+    Lent(&'v [T]),
+    /// They are its own, the last of them first.
+    Own(List<T>),
+}
+
+/// One of them.
+#[derive(Drop)]
+pub(crate) enum Item<'v, T> {
+    Lent(&'v T),
+    Own(T),
+}
+
+/// The first of things, and those after it.
+#[derive(Drop)]
+pub(crate) struct Taken<'v, T> {
+    pub(crate) one: Item<'v, T>,
+    pub(crate) more: Items<'v, T>,
+}
+
+/// The same elements, the last of them first.
+pub(crate) fn reversed<T: Drop>(list: List<T>) -> List<T>
+    ensures { result ≡ reverse list }
+{
+    let mut elements = list.into_vec();
+    elements.as_mut_slice().reverse();
+    List::from_vec(elements)
+}
+
+impl<'v, T: Drop> Items<'v, T> {
+    /// Things of its own.
+    pub(crate) fn own(list: List<T>) -> Items<'v, T>
+        ensures { items_of result ≡ list }
+    {
+        Items::Own(reversed(list))
+    }
+
+    /// Takes the first. None exactly where there is none.
+    pub(crate) fn take(self) -> Option<Taken<'v, T>>
+        ensures { MatchOption result (items_of self.entry ≡ []) (λ taken. items_of self.entry ≡ item_of taken.one ∷ items_of taken.more) }
+    {
+        match self {
+            Items::Lent(left) => return first_lent(left),
+            Items::Own(left) => last_own(left),
+        }
+    }
+}
+
+/// The first of what is lent.
+fn first_lent<'v, T: Drop>(left: &'v [T]) -> Option<Taken<'v, T>>
+    ensures { MatchOption result (left.now ≡ []) (λ taken. left.now ≡ item_of taken.one ∷ items_of taken.more) }
+{
+    match left.split_first() {
+        Some((one, more)) => Some(Taken {
+            one: Item::Lent(one),
+            more: Items::Lent(more),
+        }),
+        None => None,
+    }
+}
+
+/// The last of these.
+fn last_own<'v, T: Drop>(list: List<T>) -> Option<Taken<'v, T>>
+    ensures { MatchOption result (list ≡ []) (λ taken. reverse list ≡ item_of taken.one ∷ items_of taken.more) }
+{
+    let mut left = list;
+    match left.pop() {
+        Some(one) => Some(Taken {
+            one: Item::Own(one),
+            more: Items::Own(left),
+        }),
+        None => None,
+    }
+}
+
+impl<'v, T: Drop> Item<'v, T> {
+    /// The thing.
+    pub(crate) fn get(&self) -> &T
+        ensures { result.now ≡ item_of self.now }
+    {
+        match self {
+            Item::Lent(one) => one,
+            Item::Own(one) => one,
+        }
+    }
+}
+
+impl<'v, T: Drop> Item<'v, List<T>> {
+    /// The elements of a list.
+    pub(crate) fn elements(self) -> Items<'v, T>
+        ensures { items_of result ≡ item_of self.entry }
+    {
+        match self {
+            Item::Lent(list) => return Items::Lent(list.as_slice()),
+            Item::Own(list) => Items::own(list),
+        }
+    }
+}

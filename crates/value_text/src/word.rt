@@ -1,0 +1,35 @@
+//! The text of a word.
+
+ghost use Rattle.std.specs.Prelude.{◌≡◌, ◌++◌, ◌<◌, length, nat_lt, cond, Some, None, codes};
+ghost use Rattle.tydi_base.specs.Bits.{number_of_bits};
+ghost use Rattle.value_text.specs.Canonical.{short_number, word_text};
+
+use tydi_base::{Bits, Hex, List, Memory, Written, emit};
+
+/// The widest word that is written in decimal, in bits.
+const WIDEST_DECIMAL: usize = 128;
+
+/// A word: in decimal up to 128 bits, and else in hexadecimal after `0x`.
+#[derive(Clone, Copy)]
+pub(crate) struct Word<'a>(pub &'a Bits);
+
+impl Written for Word<'_> {
+    ghost text = { λ word. word_text word.0.now };
+
+    fn write_to(&self, out: &mut List<u8>) -> Result<(), Memory> {
+        match decimal_of(self.0) {
+            Some(number) => emit!(out; number),
+            None => emit!(out; "0x", Hex(self.0)),
+        }
+    }
+}
+
+/// The number of a word that is written in decimal.
+fn decimal_of(word: &Bits) -> Option<u128>
+    ensures { result ≡ short_number word.now }
+{
+    if word.len() > WIDEST_DECIMAL {
+        return None;
+    }
+    word.number()
+}
