@@ -13,3 +13,5 @@ mod DumpLemmas
 mod ParserLemmas
 mod ReaderLemmas
 pub mod LawLemmas
+mod WideLemmas
+mod TraceLemmas

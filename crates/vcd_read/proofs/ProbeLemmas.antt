@@ -182,6 +182,14 @@ no-user : (size : ℕ) → nat_lt 0 size ≡ false → bits_of size 0 ≡ []
 unfolding bits_of
 no-user size none = let zero : size ≡ 0 = grind (arith, nat_tests, none) in ap (λ n. bits_of n 0) zero
 
+-- the number of the last lane is one that the bits of an index spell
+few : (p : Parameters) → p.lanes - 1 < 2 ^ index_width p.lanes
+few p = let enough = (index_width-least p.lanes).enough in let some : 0 < 2 ^ index_width p.lanes = pow_pos (index_width p.lanes) in
+    omega (arith, enough, some)
+
+all_ones : (p : Parameters) → 2 ^ p.lanes - 1 < 2 ^ p.lanes
+all_ones p = pow-sub-lt p.lanes (omega arith)
+
 module _ (words : Words) (probe : Probe) (probed : IsProbed probe) where
   abbrev p : Parameters
   p = probe.params
@@ -191,13 +199,6 @@ module _ (words : Words) (probe : Probe) (probed : IsProbed probe) where
 
   abbrev values : Signal → List Bool
   values signal = known_bits (sample signal)
-
-  few : p.lanes - 1 < 2 ^ index_width p.lanes
-  few = let enough = (index_width-least p.lanes).enough in let some : 0 < 2 ^ index_width p.lanes = pow_pos (index_width p.lanes) in
-      omega (arith, enough, some)
-
-  all_ones : 2 ^ p.lanes - 1 < 2 ^ p.lanes
-  all_ones = pow-sub-lt p.lanes (omega arith)
 
   -- the payload of the row
   pub transfer-is : list_all (is_told p sample) payload_signals ≡ true →
@@ -211,8 +212,8 @@ module _ (words : Words) (probe : Probe) (probed : IsProbed probe) where
       (c ∙ word-one (has_content p) probe.content words _ (probed signals.Content) (no-bits p.lanes p.element))
       (l ∙ word-one (has_last p) probe.last words _ (probed signals.Last) (no-bits p.lanes p.dims))
       (s ∙ number-one (has_stai p) probe.stai words (index_width p.lanes) 0 (probed signals.Stai) (told-stai p sample told) (pow_pos (index_width p.lanes)))
-      (e ∙ number-one (has_endi p) probe.endi words (index_width p.lanes) (p.lanes - 1) (probed signals.Endi) (told-endi p sample told) few)
-      (b ∙ number-one (has_strb p) probe.strb words p.lanes (2 ^ p.lanes - 1) (probed signals.Strb) (told-strb p sample told) all_ones)
+      (e ∙ number-one (has_endi p) probe.endi words (index_width p.lanes) (p.lanes - 1) (probed signals.Endi) (told-endi p sample told) (few p))
+      (b ∙ number-one (has_strb p) probe.strb words p.lanes (2 ^ p.lanes - 1) (probed signals.Strb) (told-strb p sample told) (all_ones p))
       (u ∙ word-one (has_user p) probe.user words _ (probed signals.User) (no-user p.user))
 
   -- a number has few bits
@@ -236,47 +237,52 @@ module _ (words : Words) (probe : Probe) (probed : IsProbed probe) where
     unfolding number_in
     short-strb = short-by 128 p.lanes narrow (word_by words probe.strb) (fits signals.Strb)
 
-  -- ---- the stream can show it
+-- ---- the stream can show it
 
-  module _ (fits : FitsProbe words probe) (told : list_all (is_told p sample) payload_signals ≡ true) where
-    -- the word of a signal that is told has its width
-    wide-by : (present : Bool) (word : Option (List Bool)) (width default : ℕ) → (not present || is_some word) ≡ true
-        → IfSome word (λ bits. length bits ≡ width)
-        → length (if present then known_bits word else bits_of width default) ≡ width
-    unfolding known_bits
-    wide-by true (Some bits) width default told fits = fits
-    wide-by true None width default told fits = absurd (let e = told in cc)
-    wide-by false word width default told fits = length-bits_of width default
+-- the words of a sample, of which a signal that is of bits has its width, and in which the payload is told
+module _ (p : Parameters) (sample : Sample) (fits : (signal : Signal) → IfSome (sample signal) (λ bits. length bits ≡ bits_of_signal p signal))
+    (told : list_all (is_told p sample) payload_signals ≡ true) where
+  abbrev words_of : Signal → List Bool
+  words_of signal = known_bits (sample signal)
 
-    long : (signal : Signal) → is_told p sample signal ≡ true → length (word_in p values signal) ≡ bits_of_signal p signal
-    long signal told = wide-by (is_present p signal) (sample signal) (bits_of_signal p signal) (default_number p (default_of signal)) told (fits signal)
+  -- the word of a signal that is told has its width
+  wide-by : (present : Bool) (word : Option (List Bool)) (width default : ℕ) → (not present || is_some word) ≡ true
+      → IfSome word (λ bits. length bits ≡ width)
+      → length (if present then known_bits word else bits_of width default) ≡ width
+  unfolding known_bits
+  wide-by true (Some bits) width default told fits = fits
+  wide-by true None width default told fits = absurd (let e = told in cc)
+  wide-by false word width default told fits = length-bits_of width default
 
-    small : (signal : Signal) → is_told p sample signal ≡ true → number_of_bits (word_in p values signal) < 2 ^ bits_of_signal p signal
-    small signal told = subst (λ w. number_of_bits (word_in p values signal) < 2 ^ w) (long signal told) (number_of_bits-below (word_in p values signal))
+  long : (signal : Signal) → is_told p sample signal ≡ true → length (word_in p words_of signal) ≡ bits_of_signal p signal
+  long signal told = wide-by (is_present p signal) (sample signal) (bits_of_signal p signal) (default_number p (default_of signal)) told (fits signal)
 
-    default-is : (signal : Signal) (default : ℕ) → default ≡ default_number p (default_of signal) → default < 2 ^ bits_of_signal p signal
-        → is_present p signal ≡ false → number_of_bits (word_in p values signal) ≡ default
-    default-is signal default is less absent =
-        ap (λ (there : Bool). number_of_bits (if there then values signal else bits_of (bits_of_signal p signal)
-        (default_number p (default_of signal)))) absent
-        ∙ ap (λ n. number_of_bits (bits_of (bits_of_signal p signal) n)) (sym is) ∙ number_of_bits-bits_of (bits_of_signal p signal) default less
+  small : (signal : Signal) → is_told p sample signal ≡ true → number_of_bits (word_in p words_of signal) < 2 ^ bits_of_signal p signal
+  small signal told = subst (λ w. number_of_bits (word_in p words_of signal) < 2 ^ w) (long signal told) (number_of_bits-below (word_in p words_of signal))
 
-    pub transfer-shows : Shows p (transfer_in p values)
-    transfer-shows = record {
-      fits = record {
-        content = long signals.Content (told-content p sample told);
-        last = long signals.Last (told-last p sample told);
-        stai = small signals.Stai (told-stai p sample told);
-        endi = small signals.Endi (told-endi p sample told);
-        strb = small signals.Strb (told-strb p sample told);
-        user = long signals.User (told-user p sample told);
-      };
-      defaults = record {
-        stai = default-is signals.Stai 0 refl (pow_pos (index_width p.lanes));
-        endi = default-is signals.Endi (p.lanes - 1) refl few;
-        strb = default-is signals.Strb (2 ^ p.lanes - 1) refl all_ones;
-      };
-    }
+  default-is : (signal : Signal) (default : ℕ) → default ≡ default_number p (default_of signal) → default < 2 ^ bits_of_signal p signal
+      → is_present p signal ≡ false → number_of_bits (word_in p words_of signal) ≡ default
+  default-is signal default is less absent =
+      ap (λ (there : Bool). number_of_bits (if there then words_of signal else bits_of (bits_of_signal p signal)
+      (default_number p (default_of signal)))) absent
+      ∙ ap (λ n. number_of_bits (bits_of (bits_of_signal p signal) n)) (sym is) ∙ number_of_bits-bits_of (bits_of_signal p signal) default less
+
+  pub transfer-shows : Shows p (transfer_in p words_of)
+  transfer-shows = record {
+    fits = record {
+      content = long signals.Content (told-content p sample told);
+      last = long signals.Last (told-last p sample told);
+      stai = small signals.Stai (told-stai p sample told);
+      endi = small signals.Endi (told-endi p sample told);
+      strb = small signals.Strb (told-strb p sample told);
+      user = long signals.User (told-user p sample told);
+    };
+    defaults = record {
+      stai = default-is signals.Stai 0 refl (pow_pos (index_width p.lanes));
+      endi = default-is signals.Endi (p.lanes - 1) refl (few p);
+      strb = default-is signals.Strb (2 ^ p.lanes - 1) refl (all_ones p);
+    };
+  }
 
 -- ---- the row
 

@@ -1,5 +1,6 @@
--- The laws of the errors of dumps (this project's own).
-use Rattle.std.specs.Prelude.{◌≡◌, ℕ, ◌<◌, List, length, Err}
+-- The laws of dumps: which errors they have, and which traces they show (this project's own).
+use Rattle.std.specs.Prelude.{◌≡◌, ℕ, ◌<◌, true, List, length, Ok, Err}
+use Rattle.cycle_trace.specs.Trace.{IsTrace, TraceText, are_heads}
 use Rattle.vcd_read.specs.Shown.{shown}
 use Rattle.vcd_read.specs.Wanted.{Wanted}
 use Rattle.vcd_read.specs.declared.fault.VcdFault.{VcdFault}
@@ -16,3 +17,7 @@ IsOfDump streams fault = Unit {0}
 -- each error of a text is one of a dump
 abbrev pub FaultsNameStreams : Type 0
 FaultsNameStreams = (wanted : Wanted) (text : List ℕ) (fault : VcdFault) → shown wanted text ≡ Err fault → IsOfDump (length wanted.heads) fault
+
+-- a text of which a trace is shown: it has the wanted heads, and is a trace, each row of which shows what its stream can show
+abbrev pub DumpsShowTraces : Type 0
+DumpsShowTraces = (wanted : Wanted) (text : List ℕ) (t : TraceText) → are_heads wanted.heads ≡ true → shown wanted text ≡ Ok t → (t.heads ≡ wanted.heads) × IsTrace t

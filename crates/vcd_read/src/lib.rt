@@ -33,5 +33,5 @@ mod words;
 
 pub use dump_text::DumpText;
 pub use fault::VcdFault;
-pub use laws::faults_name_streams;
+pub use laws::{dumps_show_traces, faults_name_streams};
 pub use reader::VcdReader;

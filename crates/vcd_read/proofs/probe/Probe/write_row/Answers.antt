@@ -25,9 +25,9 @@ transfer-requires-clause-told c =
 pub write-requires-2 : goal.write-requires-2
 unfolding number_in
 write-requires-2 c =
-    let self = c.args.self.now in let words = words_before c.args.wires.now in let sample = sample_by words self in
+    let self = c.args.self.now in let sample = sample_by (words_before c.args.wires.now) self in
     subst (Shows self.params) (sym c.in_ok-transfer.ensures)
-    (transfer-shows words self c.requires.probed c.requires.fits (payload-told self.params sample c.is_high.result c.requires.makes c.is_high.ensures
+    (transfer-shows self.params sample c.requires.fits (payload-told self.params sample c.is_high.result c.requires.makes c.is_high.ensures
     c.if-not-is_high.false))
 
 pub returns : goal.returns
