@@ -1,0 +1,9 @@
+pub mod Longest
+pub mod Plans
+pub mod Jobs
+pub mod Summaries
+pub mod Sums
+pub mod Starting
+pub mod Found
+pub mod Handing
+pub mod Laws
