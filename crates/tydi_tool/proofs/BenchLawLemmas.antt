@@ -37,7 +37,7 @@ use Rattle.tydi_tool.specs.Outcome.{output_answer, output_limit, output_too_long
 use Rattle.tydi_tool.specs.Ports.{port_named, split_at}
 use Rattle.tydi_tool.specs.Projects.{ReadsProject}
 use Rattle.tydi_tool.specs.Refusals.{Refusal}
-use Rattle.tydi_tool.specs.Tests.{AreShort, test_named, tested_port}
+use Rattle.tydi_tool.specs.Tests.{AreShort, HasPortWord, test_named, tested_port}
 use Rattle.tydi_tool.specs.Texts.{ReadsPlan, ReadsValue}
 use Rattle.tydi_tool.specs.Words.{Bench, Drive, FileWord, Request, Sim, Testbench, project_file, text_file}
 use Rattle.tydi_tool.proofs.CauseLemmas.{exactly, says-simulated, says_text}
@@ -46,6 +46,7 @@ use Rattle.tydi_tool.proofs.DriveLawLemmas.{accepted-driven, may-drive, may-driv
 use Rattle.tydi_tool.proofs.FormLemmas.{IsPortFormed}
 use Rattle.tydi_tool.proofs.ProjectLemmas.{ReadsProject-once}
 use Rattle.tydi_tool.proofs.TestLemmas.{test-inside, tested-formed, tests-short}
+use Rattle.tydi_tool.proofs.TestWordLemmas.{has-port_word}
 
 -- ---- texts
 
@@ -230,19 +231,20 @@ refused-benches known project port value plan line own = (
 
 -- ---- `testbench` and `bench`
 
-module _ (known after : Files) (project port value plan test : List ℕ) (holds : HoldsTexts known after (drive_words project port value plan) test) where
+module _ (known after : Files) (project port value plan test : List ℕ) (holds : HoldsTexts known after project value plan test) (worded : HasPortWord holds.read holds.declared)
+    (names : port_named holds.read port ≡ tested_port holds.read holds.declared) where
   abbrev words : DriveWords
   words = drive_words project port value plan
 
   -- the texts are within the limit of a file
   short : AreShort holds.declared
-  short = tests-short project holds.project.bytes holds.read holds.project.reads holds.project.file.within holds.declared (test-inside holds.read test holds.declared holds.test_is)
+  short = tests-short project holds.project_is.bytes holds.read holds.project_is.reads holds.project_is.file.within holds.declared (test-inside holds.read test holds.declared holds.test_is)
 
   -- the project is read in one way
   same-read : (bytes : List ℕ) (read : PlainProject) → known project ≡ Some bytes → ReadsProject project bytes (Ok read) → read ≡ holds.read
   same-read bytes read there reads =
-      let same : bytes ≡ holds.project.bytes = same_bytes bytes holds.project.bytes (sym there ∙ holds.project.file.there) in
-      (ReadsProject-once project).same holds.project.bytes read holds.read (subst (λ (l : List ℕ). ReadsProject project l (Ok read)) same reads) holds.project.reads
+      let same : bytes ≡ holds.project_is.bytes = same_bytes bytes holds.project_is.bytes (sym there ∙ holds.project_is.file.there) in
+      (ReadsProject-once project).same holds.project_is.bytes read holds.read (subst (λ (l : List ℕ). ReadsProject project l (Ok read)) same reads) holds.project_is.reads
 
   -- the files drive the port of the test
   files-drive : (split : PlainSplit) (v : PortValue) (p : Plan) → HasTestDrive known (test_words project test) split v p → HasDrive after words split v p
@@ -251,12 +253,12 @@ module _ (known after : Files) (project port value plan test : List ℕ) (holds 
       split_is = record {
         ltype = has.at.split_is.ltype;
         port = record {
-          bytes = holds.project.bytes;
-          file = record { there = holds.same ∙ holds.project.file.there; within = holds.project.file.within };
+          bytes = holds.project_is.bytes;
+          file = record { there = holds.same ∙ holds.project_is.file.there; within = holds.project_is.file.within };
           read = holds.read;
-          reads = holds.project.reads;
-          found = holds.port;
-          named = holds.named;
+          reads = holds.project_is.reads;
+          found = worded.port;
+          named = names ∙ worded.drives;
           type_is = type_is;
         };
         apart = has.at.split_is.apart;
@@ -264,10 +266,10 @@ module _ (known after : Files) (project port value plan test : List ℕ) (holds 
       };
       carried = has.at.carried;
     };
-    value_is = record { bytes = holds.declared.value; file = record { there = holds.value; within = omega (arith, short.value) }; reads = subst (λ (t : Test). IsValue split t.value v) declared has.value_is };
+    value_is = record { bytes = holds.declared.value; file = record { there = holds.value_is; within = omega (arith, short.value) }; reads = subst (λ (t : Test). IsValue split t.value v) declared has.value_is };
     plan_is = record {
       bytes = holds.declared.plan;
-      file = record { there = holds.plan; within = omega (arith, short.plan) };
+      file = record { there = holds.plan_is; within = omega (arith, short.plan) };
       reads = subst (λ (t : Test). plan_of split.streams t.plan ≡ Ok p) declared has.plan_is;
     };
   }
@@ -278,12 +280,12 @@ module _ (known after : Files) (project port value plan test : List ℕ) (holds 
       declared : has.test ≡ holds.declared
       declared = same_test has.test holds.declared (sym (subst (λ (r : PlainProject). test_named r test ≡ Some has.test) read has.at.split_is.port.named) ∙ holds.test_is)
 
-      found : has.at.split_is.port.found ≡ holds.port
-      found = same_port has.at.split_is.port.found holds.port
+      found : has.at.split_is.port.found ≡ worded.port
+      found = same_port has.at.split_is.port.found worded.port
           (sym (subst (λ (t : Test). tested_port holds.read t ≡ Some has.at.split_is.port.found) declared
-          (subst (λ (r : PlainProject). tested_port r has.test ≡ Some has.at.split_is.port.found) read has.at.split_is.port.drives)) ∙ holds.drives)
+          (subst (λ (r : PlainProject). tested_port r has.test ≡ Some has.at.split_is.port.found) read has.at.split_is.port.drives)) ∙ worded.drives)
 
-      type_is : has.at.split_is.ltype ≡ holds.port.ltype
+      type_is : has.at.split_is.ltype ≡ worded.port.ltype
       type_is = has.at.split_is.port.type_is ∙ ap (λ (one : PlainPort). one.ltype) found
 
   -- and the test drives the port of the files
@@ -293,49 +295,55 @@ module _ (known after : Files) (project port value plan test : List ℕ) (holds 
     at = record {
       split_is = record {
         ltype = has.at.split_is.ltype;
-        port = record { read = holds.read; project = holds.project; named = holds.test_is; found = holds.port; drives = holds.drives; type_is = type_is };
+        port = record { read = holds.read; project = holds.project_is; named = holds.test_is; found = worded.port; drives = worded.drives; type_is = type_is };
         apart = has.at.split_is.apart;
         is = has.at.split_is.is;
       };
       carried = has.at.carried;
     };
-    value_is = subst (λ (l : List ℕ). IsValue split l v) (same_bytes has.value_is.bytes holds.declared.value (sym has.value_is.file.there ∙ holds.value)) has.value_is.reads;
-    plan_is = subst (λ (l : List ℕ). plan_of split.streams l ≡ Ok p) (same_bytes has.plan_is.bytes holds.declared.plan (sym has.plan_is.file.there ∙ holds.plan)) has.plan_is.reads;
+    value_is = subst (λ (l : List ℕ). IsValue split l v) (same_bytes has.value_is.bytes holds.declared.value (sym has.value_is.file.there ∙ holds.value_is)) has.value_is.reads;
+    plan_is = subst (λ (l : List ℕ). plan_of split.streams l ≡ Ok p) (same_bytes has.plan_is.bytes holds.declared.plan (sym has.plan_is.file.there ∙ holds.plan_is)) has.plan_is.reads;
   }
     where
       read : has.at.split_is.port.read ≡ holds.read
       read = same-read has.at.split_is.port.bytes has.at.split_is.port.read (sym holds.same ∙ has.at.split_is.port.file.there) has.at.split_is.port.reads
 
-      found : has.at.split_is.port.found ≡ holds.port
-      found = same_port has.at.split_is.port.found holds.port
-          (sym (subst (λ (r : PlainProject). port_named r port ≡ Some has.at.split_is.port.found) read has.at.split_is.port.named) ∙ holds.named)
+      found : has.at.split_is.port.found ≡ worded.port
+      found = same_port has.at.split_is.port.found worded.port
+          (sym (subst (λ (r : PlainProject). port_named r port ≡ Some has.at.split_is.port.found) read has.at.split_is.port.named) ∙ names ∙ worded.drives)
 
-      type_is : has.at.split_is.ltype ≡ holds.port.ltype
+      type_is : has.at.split_is.ltype ≡ worded.port.ltype
       type_is = has.at.split_is.port.type_is ∙ ap (λ (one : PlainPort). one.ltype) found
 
-pub alike-benches : TestbenchesAreBenches
-alike-benches known after project port value plan test holds text = (only, back)
-  where
-    only : Says (Some known) (Some (Testbench project test)) (answers.Done text) → Says (Some after) (Some (Bench project port value plan)) (answers.Done text)
-    only says =
-        let cause = (exactly rows.AText known (Testbench project test) (answers.Done text)).0 (says, refl) in
-        let is = cause.is in
-        let other : TextCause after (Bench project port value plan) (answers.Done text) = record {
-          text = cause.text;
-          is = record { split = is.split; value = is.value; plan = is.plan; all = files-drive known after project port value plan test holds is.split is.value is.plan is.all; is = is.is };
-          within = cause.within;
-          said = cause.said;
-        } in
-        ((exactly rows.AText after (Bench project port value plan) (answers.Done text)).1 other).0
+  alike : (text : List ℕ) → Says (Some known) (Some (Testbench project test)) (answers.Done text) ↔ Says (Some after) (Some (Bench project port value plan)) (answers.Done text)
+  alike text = (only, back)
+    where
+      only : Says (Some known) (Some (Testbench project test)) (answers.Done text) → Says (Some after) (Some (Bench project port value plan)) (answers.Done text)
+      only says =
+          let cause = (exactly rows.AText known (Testbench project test) (answers.Done text)).0 (says, refl) in
+          let is = cause.is in
+          let other : TextCause after (Bench project port value plan) (answers.Done text) = record {
+            text = cause.text;
+            is = record { split = is.split; value = is.value; plan = is.plan; all = files-drive is.split is.value is.plan is.all; is = is.is };
+            within = cause.within;
+            said = cause.said;
+          } in
+          ((exactly rows.AText after (Bench project port value plan) (answers.Done text)).1 other).0
 
-    back : Says (Some after) (Some (Bench project port value plan)) (answers.Done text) → Says (Some known) (Some (Testbench project test)) (answers.Done text)
-    back says =
-        let cause = (exactly rows.AText after (Bench project port value plan) (answers.Done text)).0 (says, refl) in
-        let is = cause.is in
-        let other : TextCause known (Testbench project test) (answers.Done text) = record {
-          text = cause.text;
-          is = record { split = is.split; value = is.value; plan = is.plan; all = test-drives known after project port value plan test holds is.split is.value is.plan is.all; is = is.is };
-          within = cause.within;
-          said = cause.said;
-        } in
-        ((exactly rows.AText known (Testbench project test) (answers.Done text)).1 other).0
+      back : Says (Some after) (Some (Bench project port value plan)) (answers.Done text) → Says (Some known) (Some (Testbench project test)) (answers.Done text)
+      back says =
+          let cause = (exactly rows.AText after (Bench project port value plan) (answers.Done text)).0 (says, refl) in
+          let is = cause.is in
+          let other : TextCause known (Testbench project test) (answers.Done text) = record {
+            text = cause.text;
+            is = record { split = is.split; value = is.value; plan = is.plan; all = test-drives is.split is.value is.plan is.all; is = is.is };
+            within = cause.within;
+            said = cause.said;
+          } in
+          ((exactly rows.AText known (Testbench project test) (answers.Done text)).1 other).0
+
+pub alike-benches : TestbenchesAreBenches
+alike-benches known after project value plan test holds = (worded, λ port text names. alike known after project port value plan test holds worded names text)
+  where
+    worded : HasPortWord holds.read holds.declared
+    worded = has-port_word project holds.project_is.bytes holds.read holds.project_is.reads holds.declared (test-inside holds.read test holds.declared holds.test_is)

@@ -50,7 +50,7 @@ module _ {X F : Type 0} (refusal : F → Option Refusal) where
   result-lines (Err fault) one other p q = RefusesBy-line X (refusal fault) one other p q
 
   -- some answer, where each error has a refusal
-  result-some : (read : Result X F) → ((fault : F) → read ≡ Err fault → refusal fault ≡ None → ⊥) → HasSome (Result X (List ℕ)) (ReadsResult refusal read)
+  pub result-some : (read : Result X F) → ((fault : F) → read ≡ Err fault → refusal fault ≡ None → ⊥) → HasSome (Result X (List ℕ)) (ReadsResult refusal read)
   result-some (Ok found) told none = none (Ok found) refl
   result-some (Err fault) told none = by (refusal fault) refl none
     where

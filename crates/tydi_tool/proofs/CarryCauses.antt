@@ -26,7 +26,7 @@ use Rattle.tydi_tool.specs.Outcome.{output_answer}
 use Rattle.tydi_tool.specs.Projects.{ReadsProject}
 use Rattle.tydi_tool.specs.Reading.{ReadsResult, RefusesBy}
 use Rattle.tydi_tool.specs.Refusals.{refusal_line, refusal_of_trace}
-use Rattle.tydi_tool.specs.Words.{Request, Carry, Check, Decode, Drive, Link, Read, Sim, Split, Vhdl, Bench, Testbench, project_file, trace_file}
+use Rattle.tydi_tool.specs.Words.{Request, Carry, Check, Decode, Drive, Link, Read, Sim, Split, Vhdl, Bench, Testbench, project_file, trace_file, Vcd, Gen}
 use Rattle.tydi_tool.proofs.ArrivalLemmas.{cycles-read, read-cycles}
 use Rattle.tydi_tool.proofs.CauseLines.{by_line, line_of, link_text, one_word, trace_text, two_words}
 use Rattle.tydi_tool.proofs.CauseSteps.{Told, gives_text, reaches-read, refuses_project, says-read, says-refused, told-file}
@@ -123,7 +123,7 @@ module _ (known : Files) (project top from to trace : List ℕ) (a : Answer) whe
         by (Ok t) is refused = absurd cc
         by (Err fault) is refused = (
           rows.TextFault,
-          record {
+          inl (record {
             line = line;
             faulty = inr (inr (inr (inr (inr (inr (inl (record {
               words = of_carry words trace;
@@ -137,7 +137,7 @@ module _ (known : Files) (project top from to trace : List ℕ) (a : Answer) whe
               told = sym (trace_text trace fault) ∙ line_of TraceText (refusal_of_trace trace fault) line refused;
             })))))));
             said = said;
-          },
+          }),
         )
 
     -- the trace is read
@@ -189,6 +189,8 @@ from_carried_words known (Drive project port value plan) words a named said = ab
 from_carried_words known (Decode project port trace) words a named said = absurd cc
 from_carried_words known (Bench project port value plan) words a named said = absurd cc
 from_carried_words known (Testbench project test) words a named said = absurd cc
+from_carried_words known (Vcd project port scope file) words a named said = absurd cc
+from_carried_words known (Gen project port seed count) words a named said = absurd cc
 from_carried_words known (Carry project top from to trace) words a named said =
     subst (λ (w : CarryWords). SaysBy (Some known) (carry_ask w.design w.trace) a) (sym
     (same_carry (of_carry (of_design project top from to) trace) words named)) said

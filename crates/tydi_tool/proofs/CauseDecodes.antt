@@ -45,7 +45,7 @@ module _ (known : Files) (words : DecodeWords) where
         by (Ok t) is refused = absurd refused
         by (Err fault) is refused = (
           rows.TextFault,
-          record {
+          inl (record {
             line = line;
             faulty = inr (inr (inr (inr (inr (inl (record {
               words = words;
@@ -59,7 +59,7 @@ module _ (known : Files) (words : DecodeWords) where
               told = sym (trace_text words.trace fault) ∙ line_of Outcome (refusal_of_trace words.trace fault) line refused;
             }))))));
             said = said;
-          },
+          }),
         )
 
     -- the trace is read, and its outcome says the answer

@@ -41,10 +41,11 @@ use Rattle.tydi_tool.specs.Causes.{TooLongCause, NotUtf8Cause, LexerCause, Parse
 use Rattle.tydi_tool.specs.Causes.{TextFaultCause, CountNotMultipleCause, NotFinishedCause, LinkFaultCause, CheckedOffence, CheckedUnfinished, OffenceCause}
 use Rattle.tydi_tool.specs.Causes.{UnfinishedCause, DecodeWords, decoded_in, link_line, ChecksLinks, PortClashes, SourceClashes, DesignClashCause}
 use Rattle.tydi_tool.specs.Causes.{at_port, IsUndriven, PortUncarried, TestClashes, TestUncarried}
-use Rattle.tydi_tool.specs.Commands.{ask_of, Says, check_ask, outcome_ask, carried_ask, link_ask, planned_ask, port_ask, run_ask, sim_ask, of_design}
+use Rattle.tydi_tool.specs.Commands.{ask_of, Says, check_ask, dump_ask, outcome_ask, carried_ask, link_ask, planned_ask, port_ask, run_ask, sim_ask, of_design}
 use Rattle.tydi_tool.specs.Commands.{vhdl_ask}
 use Rattle.tydi_tool.specs.Drives.{TellsBench, TellsDriven, TellsMade, carried, path_of, refusal_of_driving}
 use Rattle.tydi_tool.specs.Files.{NoFile, TooLong}
+use Rattle.tydi_tool.specs.Jobs.{TellsJob}
 use Rattle.tydi_tool.specs.Lines.{legal_text}
 use Rattle.tydi_tool.specs.Outcome.{output_answer, output_limit, output_too_long_line}
 use Rattle.tydi_tool.specs.Ports.{split_at, split_unless}
@@ -86,6 +87,8 @@ use Rattle.tydi_tool.proofs.CauseSteps.{told-carried, told-file, told-planned, t
 use Rattle.tydi_tool.proofs.CarryCauses.{of_carry, says-unread, says_carried_fault, says_carried_text, says_no_path, says_no_streamlet, says_other_header}
 use Rattle.tydi_tool.proofs.CarryCauses.{says_source_clash, says_unlinked, told_carry}
 use Rattle.tydi_tool.proofs.DriveLemmas.{Made}
+use Rattle.tydi_tool.proofs.DumpCauses.{of_dump, says-dump_text, says_dump_fault, told-sampled}
+use Rattle.tydi_tool.proofs.JobCauses.{of_job, says-job_count, says-no_job, says-summary, told-job}
 use Rattle.tydi_tool.proofs.MadeCauses.{tells-made, tells-unmade, told-made}
 use Rattle.tydi_tool.proofs.TestCauses.{bench_by, of_test, says_no_test, says_test_clash, says_test_plan, says_test_reason, says_test_uncarried, says_test_value, says_testbench_text, told_testbench}
 use Rattle.tydi_tool.proofs.FileLemmas.{file_of-long, file_of-missing}
@@ -112,7 +115,7 @@ refuses_trace known request word bytes line a trace refused said = by (trace_of 
     by (Ok t) is refused = absurd refused
     by (Err fault) is refused = (
       rows.TextFault,
-      record {
+      inl (record {
         line = line;
         faulty = inl (record {
           word = word;
@@ -123,7 +126,7 @@ refuses_trace known request word bytes line a trace refused said = by (trace_of 
           told = sym (trace_text word fault) ∙ line_of Survey (refusal_of_trace word fault) line refused;
         });
         said = said;
-      },
+      }),
     )
 
 -- a trace is surveyed
@@ -200,7 +203,7 @@ refuses_bench known bench run bytes line a file refused said = by (bench_of byte
     by (Ok found) is refused = absurd cc
     by (Err fault) is refused = (
       rows.TextFault,
-      record {
+      inl (record {
         line = line;
         faulty = inr (inr (inr (inl (record {
           words = record { bench = bench; run = run };
@@ -212,7 +215,7 @@ refuses_bench known bench run bytes line a file refused said = by (bench_of byte
           told = sym (bench_text bench fault) ∙ line_of Bench (refusal_of_bench bench fault) line refused;
         }))));
         said = said;
-      },
+      }),
     )
 
 -- the text of a run is refused
@@ -224,7 +227,7 @@ refuses_run known bench run read has bytes line a file refused said = by (run_of
     by (Ok found) is refused = absurd cc
     by (Err fault) is refused = (
       rows.TextFault,
-      record {
+      inl (record {
         line = line;
         faulty = inr (inr (inr (inr (inl (record {
           words = record { bench = bench; run = run };
@@ -238,7 +241,7 @@ refuses_run known bench run read has bytes line a file refused said = by (run_of
           told = sym (run_text run fault) ∙ line_of SimRun (refusal_of_run run fault) line refused;
         })))));
         said = said;
-      },
+      }),
     )
 
 -- ---- how each command goes on after the steps that it shares with others
@@ -253,11 +256,16 @@ driven_next value plan split = planned_ask value plan split (TellsDriven split)
 abbrev benched_next : (value plan : List ℕ) → PlainSplit → Ask
 benched_next value plan split = planned_ask value plan split (TellsBench split)
 
+abbrev job_next : (seed count : ℕ) → PlainSplit → Ask
+job_next seed count split = Ends (TellsJob split seed count)
+
 abbrev port_next : Request → PlainSplit → Ask
 port_next (Split project port) split = split_end split
 port_next (Drive project port value plan) split = goes_on (carried split) (λ done. driven_next value plan split)
 port_next (Decode project port trace) split = goes_on (carried split) (λ done. outcome_ask trace split)
 port_next (requests.Bench project port value plan) split = goes_on (carried split) (λ done. benched_next value plan split)
+port_next (requests.Vcd project port scope file) split = dump_ask scope file split
+port_next (requests.Gen project port seed count) split = goes_on (carried split) (λ done. job_next seed count split)
 port_next request split = Ends (λ a. ⊥)
 
 -- with the split of a port that is carried
@@ -265,6 +273,7 @@ abbrev carried_next : Request → PlainSplit → Ask
 carried_next (Drive project port value plan) split = driven_next value plan split
 carried_next (Decode project port trace) split = outcome_ask trace split
 carried_next (requests.Bench project port value plan) split = benched_next value plan split
+carried_next (requests.Gen project port seed count) split = job_next seed count split
 carried_next request split = Ends (λ a. ⊥)
 
 -- with a value and a plan of its port
@@ -392,6 +401,13 @@ told known (requests.Bench project port value plan) a says =
     (λ read planned all tells. drives_port known (requests.Bench project port value plan) (of_drive project port value plan) split read planned (bench_by split) a refl all
     (λ text is. record { split = split; value = read; plan = planned; all = all; is = is }) tells) said) says
 told known (requests.Testbench project test) a says = told_testbench known project test a says
+told known (requests.Vcd project port scope file) a says =
+    told-port known (of_project project port) (dump_ask scope file) (requests.Vcd project port scope file) a refl refl refl (inl refl)
+    (λ split has said. told-sampled known (of_dump project port scope file) (requests.Vcd project port scope file) a refl split has refl
+    (λ text is tells. gives_text known (requests.Vcd project port scope file) text a is tells) said) says
+told known (requests.Gen project port seed count) a says =
+    told-carried known (of_project project port) (job_next seed count) (requests.Gen project port seed count) a refl refl refl refl (inl refl)
+    (λ split at said. told-job known (of_job project port seed count) (requests.Gen project port seed count) a refl split at (λ text is. is) said) says
 
 -- ---- a cause gives its answer
 
@@ -422,12 +438,16 @@ from_port known (Vhdl project) words a named said = absurd cc
 from_port known (requests.Testbench project test) words a named said = absurd cc
 from_port known (Split project port) words a named said =
     subst (λ (w : PortWords). SaysBy (Some known) (port_ask w.project w.port split_end) a) (sym (same_words (of_project project port) words named)) said
+from_port known (requests.Vcd project port scope file) words a named said =
+    subst (λ (w : PortWords). SaysBy (Some known) (port_ask w.project w.port (dump_ask scope file)) a) (sym (same_words (of_project project port) words named)) said
 from_port known (Drive project port value plan) words a named said =
     subst (λ (w : PortWords). SaysBy (Some known) (carried_ask w.project w.port (driven_next value plan)) a) (sym (same_words (of_project project port) words named)) said
 from_port known (Decode project port trace) words a named said =
     subst (λ (w : PortWords). SaysBy (Some known) (carried_ask w.project w.port (outcome_ask trace)) a) (sym (same_words (of_project project port) words named)) said
 from_port known (requests.Bench project port value plan) words a named said =
     subst (λ (w : PortWords). SaysBy (Some known) (carried_ask w.project w.port (benched_next value plan)) a) (sym (same_words (of_project project port) words named)) said
+from_port known (requests.Gen project port seed count) words a named said =
+    subst (λ (w : PortWords). SaysBy (Some known) (carried_ask w.project w.port (job_next seed count)) a) (sym (same_words (of_project project port) words named)) said
 
 -- the same of a port that has to be carried
 from_carried : (known : Files) (request : Request) (words : PortWords) (a : Answer) → carried_in request ≡ Some words → SaysBy (Some known) (carried_ask words.project words.port (carried_next request)) a
@@ -439,6 +459,7 @@ from_carried known (Link project) words a named said = absurd cc
 from_carried known (Carry project top from to trace) words a named said = absurd cc
 from_carried known (Vhdl project) words a named said = absurd cc
 from_carried known (requests.Testbench project test) words a named said = absurd cc
+from_carried known (requests.Vcd project port scope file) words a named said = absurd cc
 from_carried known (Split project port) words a named said = absurd cc
 from_carried known (Drive project port value plan) words a named said =
     subst (λ (w : PortWords). SaysBy (Some known) (carried_ask w.project w.port (driven_next value plan)) a) (sym (same_words (of_project project port) words named)) said
@@ -446,6 +467,8 @@ from_carried known (Decode project port trace) words a named said =
     subst (λ (w : PortWords). SaysBy (Some known) (carried_ask w.project w.port (outcome_ask trace)) a) (sym (same_words (of_project project port) words named)) said
 from_carried known (requests.Bench project port value plan) words a named said =
     subst (λ (w : PortWords). SaysBy (Some known) (carried_ask w.project w.port (benched_next value plan)) a) (sym (same_words (of_project project port) words named)) said
+from_carried known (requests.Gen project port seed count) words a named said =
+    subst (λ (w : PortWords). SaysBy (Some known) (carried_ask w.project w.port (job_next seed count)) a) (sym (same_words (of_project project port) words named)) said
 
 -- the same of a port that is driven
 abbrev drives_by : Request → DriveWords → Ask
@@ -459,6 +482,8 @@ from_driven known (Link project) words a named said = absurd cc
 from_driven known (Carry project top from to trace) words a named said = absurd cc
 from_driven known (Vhdl project) words a named said = absurd cc
 from_driven known (requests.Testbench project test) words a named said = absurd cc
+from_driven known (requests.Vcd project port scope file) words a named said = absurd cc
+from_driven known (requests.Gen project port seed count) words a named said = absurd cc
 from_driven known (Split project port) words a named said = absurd cc
 from_driven known (Decode project port trace) words a named said = absurd cc
 from_driven known (Drive project port value plan) words a named said =
@@ -475,6 +500,8 @@ from_decoded known (Link project) words a named said = absurd cc
 from_decoded known (Vhdl project) words a named said = absurd cc
 from_decoded known (requests.Bench project port value plan) words a named said = absurd cc
 from_decoded known (requests.Testbench project test) words a named said = absurd cc
+from_decoded known (requests.Vcd project port scope file) words a named said = absurd cc
+from_decoded known (requests.Gen project port seed count) words a named said = absurd cc
 from_decoded known (Split project port) words a named said = absurd cc
 from_decoded known (Drive project port value plan) words a named said = absurd cc
 from_decoded known (Carry project top from to trace) words a named said = absurd cc
@@ -535,6 +562,16 @@ says_project known (requests.Bench name port value plan) word bytes line a proje
     from_port known (requests.Bench name port value plan) (of_project name port) a refl
     (refused_in_port known (of_project name port) (port_next (requests.Bench name port value plan)) bytes line a
     (subst (λ (w : List ℕ). HasBytes known w 4194304 bytes) (sym same) project.file) (subst (λ (w : List ℕ). ReadsProject w bytes (Err line)) (sym same) refused) said)
+says_project known (requests.Vcd name port scope file) word bytes line a project refused said =
+    let same = same_name name word project.word_is in
+    from_port known (requests.Vcd name port scope file) (of_project name port) a refl
+    (refused_in_port known (of_project name port) (port_next (requests.Vcd name port scope file)) bytes line a
+    (subst (λ (w : List ℕ). HasBytes known w 4194304 bytes) (sym same) project.file) (subst (λ (w : List ℕ). ReadsProject w bytes (Err line)) (sym same) refused) said)
+says_project known (requests.Gen name port seed count) word bytes line a project refused said =
+    let same = same_name name word project.word_is in
+    from_port known (requests.Gen name port seed count) (of_project name port) a refl
+    (refused_in_port known (of_project name port) (port_next (requests.Gen name port seed count)) bytes line a
+    (subst (λ (w : List ℕ). HasBytes known w 4194304 bytes) (sym same) project.file) (subst (λ (w : List ℕ). ReadsProject w bytes (Err line)) (sym same) refused) said)
 says_project known (requests.Testbench name test) word bytes line a project refused said =
     let same = same_name name word project.word_is in
     says-refused known (project_file name) (ReadsProject name) (λ read. Ends (TellsTest read test)) a bytes line
@@ -563,8 +600,12 @@ says_tree known (Vhdl name) word bytes line a project refused said =
     says_project known (Vhdl name) word bytes line a (record { word_is = project.word_is; file = project.file }) (inl refused) said
 says_tree known (requests.Bench name port value plan) word bytes line a project refused said =
     says_project known (requests.Bench name port value plan) word bytes line a (record { word_is = project.word_is; file = project.file }) (inl refused) said
+says_tree known (requests.Vcd name port scope file) word bytes line a project refused said =
+    says_project known (requests.Vcd name port scope file) word bytes line a (record { word_is = project.word_is; file = project.file }) (inl refused) said
 says_tree known (requests.Testbench name test) word bytes line a project refused said =
     says_project known (requests.Testbench name test) word bytes line a (record { word_is = project.word_is; file = project.file }) (inl refused) said
+says_tree known (requests.Gen name port seed count) word bytes line a project refused said =
+    says_project known (requests.Gen name port seed count) word bytes line a (record { word_is = project.word_is; file = project.file }) (inl refused) said
 
 says_not_utf8 : (known : Files) (request : Request) (a : Answer) → NotUtf8Cause known request a → SaysBy (Some known) (ask_of request) a
 says_not_utf8 known request a cause =
@@ -645,6 +686,8 @@ says_trace_fault known (Carry name top from to trace) line a has said = absurd (
 says_trace_fault known (Vhdl name) line a has said = absurd (no_word has.word has.trace.word_is)
 says_trace_fault known (requests.Bench name port value plan) line a has said = absurd (no_word has.word has.trace.word_is)
 says_trace_fault known (requests.Testbench name test) line a has said = absurd (no_word has.word has.trace.word_is)
+says_trace_fault known (requests.Vcd name port scope file) line a has said = absurd (no_word has.word has.trace.word_is)
+says_trace_fault known (requests.Gen name port seed count) line a has said = absurd (no_word has.word has.trace.word_is)
 says_trace_fault known (Split name port) line a has said = absurd (no_word has.word has.trace.word_is)
 says_trace_fault known (Drive name port value plan) line a has said = absurd (no_word has.word has.trace.word_is)
 says_trace_fault known (Decode name port trace) line a has said = absurd (no_word has.word has.trace.word_is)
@@ -684,6 +727,8 @@ from_simulated known (Carry project top from to trace) words a named said = absu
 from_simulated known (Vhdl project) words a named said = absurd cc
 from_simulated known (requests.Bench project port value plan) words a named said = absurd cc
 from_simulated known (requests.Testbench project test) words a named said = absurd cc
+from_simulated known (requests.Vcd project port scope file) words a named said = absurd cc
+from_simulated known (requests.Gen project port seed count) words a named said = absurd cc
 from_simulated known (Sim bench run) words a named said =
     subst (λ (w : SimWords). SaysBy (Some known) (sim_ask w.bench w.run) a) (sym (same_simulated (record { bench = bench; run = run }) words named)) said
 
@@ -727,7 +772,8 @@ says_text_fault known request line a (inr (inr (inr (inr (inl has))))) said = sa
 says_text_fault known request line a (inr (inr (inr (inr (inr (inl has)))))) said = from_decoded known request has.words a has.named (says-port_trace_fault known has.words request line a has refl said)
 says_text_fault known request line a (inr (inr (inr (inr (inr (inr (inl has))))))) said = says_carried_fault known request line a has said
 says_text_fault known request line a (inr (inr (inr (inr (inr (inr (inr (inl has)))))))) said = says_test_value known request a line has said
-says_text_fault known request line a (inr (inr (inr (inr (inr (inr (inr (inr has)))))))) said = says_test_plan known request a line has said
+says_text_fault known request line a (inr (inr (inr (inr (inr (inr (inr (inr (inl has))))))))) said = says_test_plan known request a line has said
+says_text_fault known request line a (inr (inr (inr (inr (inr (inr (inr (inr (inr has))))))))) said = says_dump_fault known request line a has said
 
 -- a port that is not driven
 says_file_reason : (known : Files) (request : Request) (split : PlainSplit) (reason : Undriven) (a : Answer) → HasReason known request split reason
@@ -745,6 +791,8 @@ says_file_reason known request split reason a has said =
     ends (Split project port) named = absurd cc
     ends (Decode project port trace) named = absurd cc
     ends (requests.Testbench project test) named = absurd cc
+    ends (requests.Vcd project port scope file) named = absurd cc
+    ends (requests.Gen project port seed count) named = absurd cc
     ends (Drive project port value plan) named = tells-unmade split has.value has.plan (trace_by split has.plan) a reason has.is said
     ends (requests.Bench project port value plan) named = tells-unmade split has.value has.plan (bench_by split) a reason has.is said
 
@@ -791,6 +839,8 @@ says_design_clash known (Split name port) a cause = absurd (no_word cause.word c
 says_design_clash known (Drive name port value plan) a cause = absurd (no_word cause.word cause.named)
 says_design_clash known (requests.Bench name port value plan) a cause = absurd (no_word cause.word cause.named)
 says_design_clash known (requests.Testbench name test) a cause = absurd (no_word cause.word cause.named)
+says_design_clash known (requests.Vcd name port scope file) a cause = absurd (no_word cause.word cause.named)
+says_design_clash known (requests.Gen name port seed count) a cause = absurd (no_word cause.word cause.named)
 says_design_clash known (Link name) a cause = absurd (no_word cause.word cause.named)
 says_design_clash known (Decode name port trace) a cause = absurd (no_word cause.word cause.named)
 says_design_clash known (Carry name top from to trace) a cause = absurd (no_word cause.word cause.named)
@@ -812,6 +862,8 @@ says_link_fault known (Split name port) a cause = absurd cause.checks
 says_link_fault known (Drive name port value plan) a cause = absurd cause.checks
 says_link_fault known (requests.Bench name port value plan) a cause = absurd cause.checks
 says_link_fault known (requests.Testbench name test) a cause = absurd cause.checks
+says_link_fault known (requests.Vcd name port scope file) a cause = absurd cause.checks
+says_link_fault known (requests.Gen name port seed count) a cause = absurd cause.checks
 says_link_fault known (Decode name port trace) a cause = absurd cause.checks
 says_link_fault known (Carry name top from to trace) a cause =
     let same = cause.checks.0 in
@@ -854,7 +906,9 @@ checked_offence known (Decode name port trace) a cause = absurd (no_word cause.w
 checked_offence known (Carry name top from to trace) a cause = absurd (no_word cause.word cause.trace.word_is)
 checked_offence known (Vhdl name) a cause = absurd (no_word cause.word cause.trace.word_is)
 checked_offence known (requests.Bench name port value plan) a cause = absurd (no_word cause.word cause.trace.word_is)
+checked_offence known (requests.Vcd name port scope file) a cause = absurd (no_word cause.word cause.trace.word_is)
 checked_offence known (requests.Testbench name test) a cause = absurd (no_word cause.word cause.trace.word_is)
+checked_offence known (requests.Gen name port seed count) a cause = absurd (no_word cause.word cause.trace.word_is)
 checked_offence known (Check trace) a cause =
     let t = cause.read in
     says_surveyed known trace cause.bytes t (survey_of (Some cause.first) (first_unfinished 0 (streams_of t)) (counts_of (streams_of t))) a
@@ -871,7 +925,9 @@ checked_unfinished known (Decode name port trace) a cause = absurd (no_word caus
 checked_unfinished known (Carry name top from to trace) a cause = absurd (no_word cause.word cause.trace.word_is)
 checked_unfinished known (Vhdl name) a cause = absurd (no_word cause.word cause.trace.word_is)
 checked_unfinished known (requests.Bench name port value plan) a cause = absurd (no_word cause.word cause.trace.word_is)
+checked_unfinished known (requests.Vcd name port scope file) a cause = absurd (no_word cause.word cause.trace.word_is)
 checked_unfinished known (requests.Testbench name test) a cause = absurd (no_word cause.word cause.trace.word_is)
+checked_unfinished known (requests.Gen name port seed count) a cause = absurd (no_word cause.word cause.trace.word_is)
 checked_unfinished known (Check trace) a cause =
     let t = cause.read in
     says_surveyed known trace cause.bytes t (survey_of None (Some cause.left) (counts_of (streams_of t))) a
@@ -911,6 +967,8 @@ says_text known (requests.Bench name port value plan) text a is said =
     says-planned known (of_drive name port value plan) TellsBench a is.split is.value is.plan is.all
     (tells-made is.split (bench_text_of is.split (plain_port is.value) is.plan) text a is.is said)
 says_text known (requests.Testbench name test) text a is said = says_testbench_text known (of_test name test) text a is said
+says_text known (requests.Vcd name port scope file) text a is said = says-dump_text known (of_dump name port scope file) text a is said
+says_text known (requests.Gen name port seed count) text a is said = says-summary known (of_job name port seed count) text a is said
 
 answer_over : (text : List ℕ) → 67108864 < length text → output_answer text ≡ answers.Refused (codes "tydi: OutputTooLong\n")
 answer_over text long = ap (λ (b : Bool). cond b (answers.Refused output_too_long_line) (answers.Done text)) (over_test output_limit (length text) long)
@@ -930,9 +988,11 @@ comes rows.NoStreamlet known request a cause = says_no_streamlet known request a
 comes rows.NameClash known request a (inl cause) = says_name_clash known request a cause
 comes rows.NameClash known request a (inr cause) = says_design_clash known request a cause
 comes rows.NoCarrier known request a cause = says_no_carrier known request a cause
-comes rows.TextFault known request a cause = says_text_fault known request cause.line a cause.faulty cause.said
+comes rows.TextFault known request a (inl cause) = says_text_fault known request cause.line a cause.faulty cause.said
+comes rows.TextFault known request a (inr cause) = says-no_job known request a cause
 comes rows.OtherHeader known request a (inl cause) = from_decoded known request cause.words a cause.named (says-other_header known request a cause)
-comes rows.CountNotMultiple known request a cause = says_count known request a cause
+comes rows.CountNotMultiple known request a (inl cause) = says_count known request a cause
+comes rows.CountNotMultiple known request a (inr cause) = says-job_count known request a cause
 comes rows.NotFinished known request a cause = says_not_finished known request a cause
 comes rows.NotLinked known request a cause = says_link_fault known request a cause
 comes rows.NoPath known request a cause = says_no_path known request a cause

@@ -23,17 +23,23 @@ use Rattle.vhdl_text.specs.declared.fault.VhdlFault.{VhdlFault}
 use Rattle.vhdl_text.specs.declared.fault.VhdlFault.TheVariants as benching
 use Rattle.vhdl_meaning.specs.declared.run.RunFault.{RunFault}
 use Rattle.vhdl_meaning.specs.declared.run.RunFault.TheVariants as running
+use Rattle.type_split.specs.Streams.{PlainSplit}
+use Rattle.vcd_read.specs.declared.fault.VcdFault.{VcdFault}
+use Rattle.vcd_read.specs.declared.fault.VcdFault.TheVariants as dumping
+use Rattle.vhdl_text.specs.Text.{signal_word}
 use Rattle.link_check.specs.declared.difference.Why.{Why}
 use Rattle.link_check.specs.declared.difference.Why.TheVariants as whys
 use Rattle.link_check.specs.declared.fault.LinkFault.{LinkFault}
 use Rattle.link_check.specs.declared.fault.LinkFault.TheVariants as linking
+use Rattle.port_gen.specs.Jobs.{NoJob, NotDriven, TooManyCycles, TooManyLeaves}
 use Rattle.tydi_base.specs.Path.{path_text}
 use Rattle.tydi_tool.specs.Links.{refusal_of_linking, why_name}
 use Rattle.tydi_tool.specs.declared.answer.Answer.{Answer}
 use Rattle.tydi_tool.specs.declared.answer.Answer.TheVariants as answers
 use Rattle.tydi_tool.specs.Causes as rows
-use Rattle.tydi_tool.specs.Causes.{Row, row_of, at_place, lexer_line, parser_line, type_fault_text, resolver_line, trace_line, value_line, plan_line, bench_line, run_line, why_text, link_line, unfinished_line, CausedBy, HasTextFault}
+use Rattle.tydi_tool.specs.Causes.{Row, row_of, at_place, lexer_line, parser_line, type_fault_text, resolver_line, trace_line, value_line, plan_line, bench_line, run_line, dump_line, why_text, link_line, unfinished_line, CausedBy, HasTextFault, job_line}
 use Rattle.tydi_tool.specs.Drives.{path_of}
+use Rattle.tydi_tool.specs.Dumps.{refusal_of_dump}
 use Rattle.tydi_tool.specs.Reading.{RefusesBy}
 use Rattle.tydi_tool.specs.Refusals.{Refusal, At, of_file_with, refusal_line, refusal_of_bench, refusal_of_lexing, refusal_of_plan, refusal_of_resolving, refusal_of_run, refusal_of_trace, refusal_of_value, type_fault_name}
 use Rattle.tydi_tool.specs.Reports.{path_of_stream}
@@ -164,6 +170,19 @@ run_text word (running.TooManyCycles place) = ap Some (two_words (codes "tydi: "
 run_text word (running.TooManyOrders place) = ap Some (two_words (codes "tydi: ") (codes "TooManyOrders") (codes " ") word (at_place place) (codes "\n"))
 run_text word running.Memory = refl
 
+pub dump_text : (split : PlainSplit) (word : List ℕ) (fault : VcdFault) → option_map refusal_line (refusal_of_dump split word fault) ≡ dump_line split word fault
+dump_text split word (dumping.Syntax offset) = ap Some (two_words (codes "tydi: ") (codes "Syntax") (codes " ") word (decimal offset) (codes "\n"))
+dump_text split word (dumping.TimeBack offset) = ap Some (two_words (codes "tydi: ") (codes "TimeBack") (codes " ") word (decimal offset) (codes "\n"))
+dump_text split word dumping.NoClock = ap Some (one_word (codes "tydi: ") (codes "NoClock") (codes " ") word (codes "\n"))
+dump_text split word (dumping.NoSignal stream signal) =
+    ap Some (three_words (codes "tydi: ") (codes "NoSignal") (codes " ") word (path_text (path_of split stream)) (signal_word signal) (codes "\n"))
+dump_text split word (dumping.OtherWidth stream signal) =
+    ap Some (three_words (codes "tydi: ") (codes "OtherWidth") (codes " ") word (path_text (path_of split stream)) (signal_word signal) (codes "\n"))
+dump_text split word dumping.TooManyCycles = ap Some (one_word (codes "tydi: ") (codes "TooManyCycles") (codes " ") word (codes "\n"))
+dump_text split word (dumping.NotBit cycle stream) =
+    ap Some (three_words (codes "tydi: ") (codes "NotBit") (codes " ") word (decimal cycle) (path_text (path_of split stream)) (codes "\n"))
+dump_text split word dumping.Memory = refl
+
 why_same : (difference : Why) → why_name difference ≡ why_text difference
 why_same whys.Shape = refl
 why_same whys.Throughput = refl
@@ -281,6 +300,16 @@ run_row word line (running.TooManyCycles place) told = row_by rows.TextFault _ l
 run_row word line (running.TooManyOrders place) told = row_by rows.TextFault _ line told refl
 run_row word line running.Memory told = absurd cc
 
+dump_row : (split : PlainSplit) (word line : List ℕ) (fault : VcdFault) → dump_line split word fault ≡ Some line → row_of (answers.Refused line) ≡ Some rows.TextFault
+dump_row split word line (dumping.Syntax offset) told = row_by rows.TextFault _ line told refl
+dump_row split word line (dumping.TimeBack offset) told = row_by rows.TextFault _ line told refl
+dump_row split word line dumping.NoClock told = row_by rows.TextFault _ line told refl
+dump_row split word line (dumping.NoSignal stream signal) told = row_by rows.TextFault _ line told refl
+dump_row split word line (dumping.OtherWidth stream signal) told = row_by rows.TextFault _ line told refl
+dump_row split word line dumping.TooManyCycles told = row_by rows.TextFault _ line told refl
+dump_row split word line (dumping.NotBit cycle stream) told = row_by rows.TextFault _ line told refl
+dump_row split word line dumping.Memory told = absurd cc
+
 text_row : (known : Files) (request : Request) (line : List ℕ) → HasTextFault known request line → row_of (answers.Refused line) ≡ Some rows.TextFault
 text_row known request line (inl trace) = trace_row trace.word line trace.fault trace.told
 text_row known request line (inr (inl value)) = value_row value.words.value line value.fault value.told
@@ -290,7 +319,13 @@ text_row known request line (inr (inr (inr (inr (inl run))))) = run_row run.word
 text_row known request line (inr (inr (inr (inr (inr (inl trace)))))) = trace_row trace.words.trace line trace.fault trace.told
 text_row known request line (inr (inr (inr (inr (inr (inr (inl trace))))))) = trace_row trace.words.trace line trace.fault trace.told
 text_row known request line (inr (inr (inr (inr (inr (inr (inr (inl value)))))))) = value_row (value.words.test ++ codes " value") line value.fault value.told
-text_row known request line (inr (inr (inr (inr (inr (inr (inr (inr plan)))))))) = plan_row (plan.words.test ++ codes " plan") line plan.fault plan.told
+text_row known request line (inr (inr (inr (inr (inr (inr (inr (inr (inl plan))))))))) = plan_row (plan.words.test ++ codes " plan") line plan.fault plan.told
+text_row known request line (inr (inr (inr (inr (inr (inr (inr (inr (inr dump))))))))) = dump_row dump.split dump.words.file line dump.fault dump.told
+
+job_row : (line : List ℕ) (reason : NoJob) → job_line reason ≡ Some line → row_of (answers.Refused line) ≡ Some rows.TextFault
+job_row line TooManyLeaves told = row_by rows.TextFault _ line told refl
+job_row line (NotDriven reason) told = absurd cc
+job_row line TooManyCycles told = row_by rows.TextFault _ line told refl
 
 link_row : (word line : List ℕ) (fault : LinkFault) → link_line word fault ≡ Some line → row_of (answers.Refused line) ≡ Some rows.NotLinked
 link_row word line (linking.UnknownEnd place) told = row_by rows.NotLinked _ line told refl
@@ -318,10 +353,12 @@ caused_row rows.NoStreamlet known request a cause = row_as a _ rows.NoStreamlet 
 caused_row rows.NameClash known request a (inl cause) = row_as a _ rows.NameClash cause.said refl
 caused_row rows.NameClash known request a (inr cause) = row_as a _ rows.NameClash cause.said refl
 caused_row rows.NoCarrier known request a cause = row_as a _ rows.NoCarrier cause.said refl
-caused_row rows.TextFault known request a cause = row_as a _ rows.TextFault cause.said (text_row known request cause.line cause.faulty)
+caused_row rows.TextFault known request a (inl cause) = row_as a _ rows.TextFault cause.said (text_row known request cause.line cause.faulty)
+caused_row rows.TextFault known request a (inr cause) = row_as a _ rows.TextFault cause.said (job_row cause.line cause.reason cause.told)
 caused_row rows.OtherHeader known request a (inl cause) = row_as a _ rows.OtherHeader cause.said refl
 caused_row rows.OtherHeader known request a (inr cause) = row_as a _ rows.OtherHeader cause.said refl
-caused_row rows.CountNotMultiple known request a cause = row_as a _ rows.CountNotMultiple cause.said refl
+caused_row rows.CountNotMultiple known request a (inl cause) = row_as a _ rows.CountNotMultiple cause.said refl
+caused_row rows.CountNotMultiple known request a (inr cause) = row_as a _ rows.CountNotMultiple cause.said refl
 caused_row rows.NotFinished known request a cause = row_as a _ rows.NotFinished cause.said refl
 caused_row rows.NotLinked known request a cause = row_as a _ rows.NotLinked cause.said (link_row cause.word cause.line cause.fault cause.told)
 caused_row rows.NoPath known request a cause = row_as a _ rows.NoPath cause.said refl

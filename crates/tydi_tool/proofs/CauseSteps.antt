@@ -391,7 +391,7 @@ module _ (known : Files) (words : DriveWords) (Tells : PlainSplit → PortValue 
         → a ≡ answers.Refused line → Told known request a
     refuses_value split at bytes line file refused said = (
       rows.TextFault,
-      record {
+      inl (record {
         line = line;
         faulty = inr (inl (record {
           words = words;
@@ -405,7 +405,7 @@ module _ (known : Files) (words : DriveWords) (Tells : PlainSplit → PortValue 
           told = sym (value_text words.value refused.0) ∙ line_of PortValue (refusal_of_value words.value refused.0) line refused.1.1;
         }));
         said = said;
-      },
+      }),
     )
 
     -- the text of the plan is refused
@@ -414,7 +414,7 @@ module _ (known : Files) (words : DriveWords) (Tells : PlainSplit → PortValue 
     refuses_plan split at value has bytes line file refused said =
         let fault = plan-fault words.plan split bytes line refused in (
           rows.TextFault,
-          record {
+          inl (record {
             line = line;
             faulty = inr (inr (inl (record {
               words = words;
@@ -430,7 +430,7 @@ module _ (known : Files) (words : DriveWords) (Tells : PlainSplit → PortValue 
               told = fault.1.1;
             })));
             said = said;
-          },
+          }),
         )
 
     -- a value and a plan that are read, and what the end says of them

@@ -7,18 +7,21 @@ use Rattle.link_check.specs.Laws.{AnswersAreOfTheProject}
 use Rattle.til_parser.specs.Canonical.{canonical}
 use Rattle.tydi_tool.specs.declared.answer.Answer.{Answer}
 use Rattle.tydi_tool.specs.Ask.{Ends, SaysBy}
-use Rattle.tydi_tool.specs.Commands.{ask_of, outcome_ask, planned_ask, of_design}
+use Rattle.tydi_tool.specs.Commands.{ask_of, dump_ask, outcome_ask, planned_ask, of_design}
 use Rattle.tydi_tool.specs.Drives.{TellsBench, TellsDriven}
+use Rattle.tydi_tool.specs.Jobs.{TellsJob}
 use Rattle.tydi_tool.specs.Laws.{AsksAlways, AsksOnce, HasSome}
 use Rattle.tydi_tool.specs.Outcome.{output_answer}
 use Rattle.split_text.specs.Text.{split_text}
-use Rattle.tydi_tool.specs.Words.{Request, Check, Decode, Drive, Link, Read, Sim, Split, Carry, Vhdl, Bench, Testbench}
+use Rattle.tydi_tool.specs.Words.{Request, Check, Decode, Drive, Link, Read, Sim, Split, Carry, Vhdl, Bench, Testbench, Vcd, Gen}
 use Rattle.bench_run.specs.Traces.{trace_text_of}
 use Rattle.tydi_tool.proofs.BenchLemmas.{ReadsBench-once, ReadsBench-some, ReadsRun-once, ReadsRun-some}
 use Rattle.tydi_tool.proofs.AnswerLemmas.{ReadsTrace-once, ReadsTree-once, Reports-one, SaysBy-one}
 use Rattle.tydi_tool.proofs.ReadingLemmas.{IsFoundAmong-read}
 use Rattle.tydi_tool.proofs.DecodeLemmas.{HasOutcomes, outcome-always, outcome-once}
 use Rattle.tydi_tool.proofs.EntityLemmas.{design-one, design-some}
+use Rattle.tydi_tool.proofs.DumpLemmas.{dump-always, dump-once}
+use Rattle.vcd_read.specs.Laws.{FaultsNameStreams}
 use Rattle.logical_value.specs.Tree.{plain_port}
 use Rattle.port_bench.specs.Benches.{bench_text_of}
 use Rattle.port_drive.specs.Text.{drive_text}
@@ -27,6 +30,7 @@ use Rattle.tydi_tool.proofs.TestAnswers.{test-one, test-some}
 use Rattle.link_check.specs.CarryLaws.{ChainsKeepTypes}
 use Rattle.tydi_tool.proofs.ArrivalLemmas.{ReadsCycles-once, ReadsCycles-some, arrived-one, arrived-some}
 use Rattle.tydi_tool.proofs.DesignLemmas.{ReadsDesign-once, ReadsDesign-some}
+use Rattle.tydi_tool.proofs.JobLemmas.{job-one, job-some}
 use Rattle.tydi_tool.proofs.LinkLemmas.{linked-one, linked-some}
 use Rattle.tydi_tool.proofs.ProjectLemmas.{ReadsProject-once, ReadsProject-some, ReadsProject-sound}
 use Rattle.tydi_tool.proofs.StepLemmas.{carried-always, carried-once, port-always, port-once}
@@ -53,27 +57,29 @@ asks_once (Vhdl project) = (ReadsProject-once project, λ bytes read reads. desi
 asks_once (Bench project port value plan) =
     carried-once project port (λ split. planned_ask value plan split (TellsBench split)) (λ split can. planned-once value plan split (TellsBench split) (λ v p a b x y. made-one split (bench_text_of split (plain_port v) p) a b x y))
 asks_once (Testbench project test) = (ReadsProject-once project, λ bytes read reads. test-one read test)
+asks_once (Vcd project port scope file) = port-once project port (dump_ask scope file) (λ split is. dump-once scope file split)
+asks_once (Gen project port seed count) = carried-once project port (λ split. Ends (TellsJob split seed count)) (λ split can a b p q. job-one split seed count a b p q)
 
 -- one answer
 pub SaysBy-request : (told : Files) (request : Request) (a b : Answer) → SaysBy (Some told) (ask_of request) a → SaysBy (Some told) (ask_of request) b → a ≡ b
 SaysBy-request told request a b p q = SaysBy-one told (ask_of request) a b (asks_once request) p q
 
-asks_always : AnswersAreOfTheProject → HasOutcomes → ChainsKeepTypes → (request : Request) → AsksAlways (ask_of request)
-asks_always checks outcomes chains (Check trace) = (
+asks_always : AnswersAreOfTheProject → HasOutcomes → ChainsKeepTypes → FaultsNameStreams → (request : Request) → AsksAlways (ask_of request)
+asks_always checks outcomes chains dumps (Check trace) = (
   λ bytes. ReadsReading-some trace bytes (trace_of bytes) refl,
   λ bytes survey reads none. let a = Reports-some survey.heads survey.found (IsFoundAmong-read trace bytes survey reads) in none a.0 a.1,
 )
-asks_always checks outcomes chains (Read project) = (λ bytes. ReadsCoded-some project bytes (is_utf8 bytes) refl, λ bytes ast reads none. none (output_answer (canonical ast)) refl)
-asks_always checks outcomes chains (Split project port) = port-always project port (λ split. Ends (λ a. a ≡ output_answer (split_text split))) (λ split is none. none (output_answer (split_text split)) refl)
-asks_always checks outcomes chains (Drive project port value plan) =
+asks_always checks outcomes chains dumps (Read project) = (λ bytes. ReadsCoded-some project bytes (is_utf8 bytes) refl, λ bytes ast reads none. none (output_answer (canonical ast)) refl)
+asks_always checks outcomes chains dumps (Split project port) = port-always project port (λ split. Ends (λ a. a ≡ output_answer (split_text split))) (λ split is none. none (output_answer (split_text split)) refl)
+asks_always checks outcomes chains dumps (Drive project port value plan) =
     carried-always project port (λ split. planned_ask value plan split (TellsDriven split)) (λ split can. planned-always value plan split (TellsDriven split) (λ v p. made-some split (drive_text split (plain_port v) p)))
-asks_always checks outcomes chains (Decode project port trace) = carried-always project port (outcome_ask trace) (outcome-always outcomes trace)
-asks_always checks outcomes chains (Sim bench run) = (
+asks_always checks outcomes chains dumps (Decode project port trace) = carried-always project port (outcome_ask trace) (outcome-always outcomes trace)
+asks_always checks outcomes chains dumps (Sim bench run) = (
   λ bytes. ReadsBench-some bench bytes,
   λ bytes read reads. (λ run_bytes. ReadsRun-some run read run_bytes, λ run_bytes made said none. none (output_answer (trace_text_of read made)) refl),
 )
-asks_always checks outcomes chains (Link project) = (ReadsProject-some project, λ bytes read reads. linked-some checks project read)
-asks_always checks outcomes chains (Carry project top from to trace) = (
+asks_always checks outcomes chains dumps (Link project) = (ReadsProject-some project, λ bytes read reads. linked-some checks project read)
+asks_always checks outcomes chains dumps (Carry project top from to trace) = (
   ReadsDesign-some checks chains (of_design project top from to),
   λ bytes heads reads. (
     ReadsCycles-some trace,
@@ -81,11 +87,13 @@ asks_always checks outcomes chains (Carry project top from to trace) = (
         heads t,
   ),
 )
-asks_always checks outcomes chains (Vhdl project) = (ReadsProject-some project, λ bytes read reads. design-some checks project read)
-asks_always checks outcomes chains (Bench project port value plan) =
+asks_always checks outcomes chains dumps (Vhdl project) = (ReadsProject-some project, λ bytes read reads. design-some checks project read)
+asks_always checks outcomes chains dumps (Bench project port value plan) =
     carried-always project port (λ split. planned_ask value plan split (TellsBench split)) (λ split can. planned-always value plan split (TellsBench split) (λ v p. made-some split (bench_text_of split (plain_port v) p)))
-asks_always checks outcomes chains (Testbench project test) = (ReadsProject-some project, λ bytes read reads. test-some read test (ReadsProject-sound project bytes read reads))
+asks_always checks outcomes chains dumps (Testbench project test) = (ReadsProject-some project, λ bytes read reads. test-some read test (ReadsProject-sound project bytes read reads))
+asks_always checks outcomes chains dumps (Vcd project port scope file) = port-always project port (dump_ask scope file) (λ split is. dump-always dumps scope file split)
+asks_always checks outcomes chains dumps (Gen project port seed count) = carried-always project port (λ split. Ends (TellsJob split seed count)) (λ split can. job-some split seed count)
 
 -- some answer
-pub SaysBy-request-some : AnswersAreOfTheProject → HasOutcomes → ChainsKeepTypes → (told : Files) (request : Request) → HasSome Answer (SaysBy (Some told) (ask_of request))
-SaysBy-request-some checks outcomes chains told request = SaysBy-some told (ask_of request) (asks_always checks outcomes chains request)
+pub SaysBy-request-some : AnswersAreOfTheProject → HasOutcomes → ChainsKeepTypes → FaultsNameStreams → (told : Files) (request : Request) → HasSome Answer (SaysBy (Some told) (ask_of request))
+SaysBy-request-some checks outcomes chains dumps told request = SaysBy-some told (ask_of request) (asks_always checks outcomes chains dumps request)

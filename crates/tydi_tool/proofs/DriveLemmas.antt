@@ -96,7 +96,7 @@ run-within number p items plan reason is = by (is_multiple p items) is
     by false is = sym (ap stream_of (same_reason {A = StreamRun} (CountNotMultiple number (length items) p.lanes) reason is))
 
 module _ (split : PlainSplit) (value : List (List Tree)) where
-  runs-within : (number : ℕ) (streams : List Phys) (plans : List StreamPlan) (reason : Undriven) → runs_from split value number streams plans ≡ Err reason → stream_of reason < number + length streams
+  pub runs-within : (number : ℕ) (streams : List Phys) (plans : List StreamPlan) (reason : Undriven) → runs_from split value number streams plans ≡ Err reason → stream_of reason < number + length streams
   unfolding joined
   runs-within number [] plans reason is = absurd (no_reason [] reason is)
   runs-within number (stream ∷ streams) [] reason is = absurd (no_reason [] reason is)

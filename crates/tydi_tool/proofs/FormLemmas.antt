@@ -49,7 +49,7 @@ pub each-append : {A : Type 0} (Is : A → Type 0) (xs ys : List A) → EachIs I
 each-append Is [] ys front back = back
 each-append Is (x ∷ xs) ys front back = (front.0, each-append Is xs ys front.1 back)
 
-each-at : {A : Type 0} (Is : A → Type 0) (xs : List A) (number : ℕ) (other : A) → EachIs Is xs → Is other → Is (get_or xs number other)
+pub each-at : {A : Type 0} (Is : A → Type 0) (xs : List A) (number : ℕ) (other : A) → EachIs Is xs → Is other → Is (get_or xs number other)
 each-at Is [] zero other each is = is
 each-at Is [] (suc number) other each is = is
 each-at Is (x ∷ xs) zero other each is = each.0

@@ -14,10 +14,16 @@ pub mod DeliveryLemmas
 pub mod DesignLemmas
 pub mod DesignSteps
 pub mod EntityLemmas
+pub mod DumpLemmas
+pub mod DumpCauses
+pub mod DumpLawLemmas
 pub mod DriveLawLemmas
 pub mod DriveLemmas
 pub mod FileLemmas
 pub mod FormLemmas
+pub mod JobCauses
+pub mod JobLawLemmas
+pub mod JobLemmas
 pub mod LinkLemmas
 pub mod LoadingLemmas
 pub mod NameLemmas
@@ -36,6 +42,7 @@ pub mod TraceFileLemmas
 pub mod WiringLawLemmas
 mod BenchLemmas
 pub mod TestLemmas
+mod TestWordLemmas
 pub mod TestAnswers
 pub mod TestCauses
 pub mod MadeCauses

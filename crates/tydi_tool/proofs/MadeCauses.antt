@@ -32,14 +32,14 @@ module _ (split : PlainSplit) (value : PortValue) (plan : Plan) (write : List St
           gives_text known request (write runs) a (texts (write runs) (ap (λ (r : Result (List StreamRun) Undriven). r >>= λ some. Ok (write some)) is)) says
       by (Err (driving.CountNotMultiple stream count lanes)) is says = (
         rows.CountNotMultiple,
-        record {
+        inl (record {
           split = split;
           stream = stream;
           count = count;
           lanes = lanes;
           reason = reasons (driving.CountNotMultiple stream count lanes) is;
           said = says ∙ ap answers.Refused (three_words (codes "tydi: ") (codes "CountNotMultiple") (codes " ") (path_text (path_of split stream)) (decimal count) (decimal lanes) (codes "\n"));
-        },
+        }),
       )
       by (Err (driving.NotFinished stream left)) is says = (
         rows.NotFinished,

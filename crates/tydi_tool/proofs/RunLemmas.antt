@@ -8,25 +8,29 @@ use Rattle.tydi_tool.specs.declared.answer.Reply.TheVariants as replies
 use Rattle.tydi_tool.specs.declared.status.Status.{Status}
 use Rattle.tydi_tool.specs.declared.status.Status.TheVariants as statuses
 use Rattle.tydi_tool.specs.Drives.{TellsBench, TellsDriven}
-use Rattle.tydi_tool.specs.Words.{Request, Check, Decode, Drive, Link, Read, Sim, Split, FileWord, file_words, text_file, trace_file, Carry, Vhdl, Bench, Testbench}
+use Rattle.tydi_tool.specs.Words.{Request, Check, Decode, Drive, Link, Read, Sim, Split, FileWord, file_words, text_file, trace_file, Carry, Vhdl, Bench, Testbench, Vcd, dump_file, Gen}
 use Rattle.split_text.specs.Text.{split_text}
 use Rattle.tydi_tool.specs.Outcome.{out_of_answer, output_answer, out_of, err_of, status_of, status_of_answer, usage_line, memory_line, write_fault_line}
 use Rattle.tydi_tool.specs.Delivery.{Adds, AddsFront, AddsPart, TakesLine, IsLined, IsCut, IsWritten, OutFails, OutWants, Delivers}
 use Rattle.tydi_tool.specs.Ask.{AsksFor, AsksSome, Decides, Ends}
-use Rattle.tydi_tool.specs.Commands.{ask_of, Says, outcome_ask, planned_ask}
+use Rattle.tydi_tool.specs.Commands.{ask_of, Says, dump_ask, outcome_ask, planned_ask}
 use Rattle.tydi_tool.specs.Started.{IsPulledOut, IsGivenOne, NamesStarted, StartsWithin, Leaves}
 use Rattle.tydi_tool.specs.Run.{Runs, EndsAsked, EndsUnasked, EndsInAnswer, IsAnswered, IsComplete, IsCaused, ReportsRead, OutFront, OutPart, IsRefusal}
-use Rattle.tydi_tool.specs.Run.{IsLine, ErrFront, LeavesOut, LeavesErr, StartedAtEnd, UsageExactly, WritesReadBack, WritesTrace, WritesValue, WritesCarried, WritesWired, WritesLines}
+use Rattle.tydi_tool.specs.Run.{IsLine, ErrFront, LeavesOut, LeavesErr, StartedAtEnd, UsageExactly, WritesReadBack, WritesTrace, WritesValue, WritesCarried, WritesWired, WritesLines, WritesSampled, WritesJob}
 use Rattle.tydi_tool.proofs.CauseLemmas.{told}
 use Rattle.tydi_tool.proofs.CauseLines.{one_word}
 use Rattle.tydi_tool.proofs.DecodeLemmas.{outcome-for}
 use Rattle.tydi_tool.proofs.DecodeLawLemmas.{driven-read_back, written-carried}
 use Rattle.tydi_tool.proofs.DriveLawLemmas.{written-driven}
 use Rattle.tydi_tool.proofs.DriveLemmas.{planned-for}
+use Rattle.tydi_tool.proofs.DumpLemmas.{dump-for}
 use Rattle.tydi_tool.specs.DecodeLaw.{IsReadBack, WritesDecoded, decode_words}
 use Rattle.tydi_tool.specs.BenchLaw.{WritesBench, WritesTestbench, WrittenBenchesDrive, WrittenTestbenchesDrive, test_words}
 use Rattle.tydi_tool.specs.CarryLaw.{WritesArrived, WrittenTracesArrive, carry_words}
+use Rattle.tydi_tool.specs.JobLaw.{WritesSummary, WrittenSummariesAreOfJobs, job_words}
+use Rattle.tydi_tool.specs.Jobs.{TellsJob}
 use Rattle.tydi_tool.specs.DriveLaw.{WritesDriven, drive_words}
+use Rattle.tydi_tool.specs.DumpLaw.{WritesShown, WrittenDumpsAreShown, dump_words}
 use Rattle.tydi_tool.specs.WiringLaw.{WritesDesign, WrittenDesignsAreWired}
 use Rattle.tydi_tool.proofs.CommandLemmas.{SaysBy-request}
 use Rattle.tydi_tool.proofs.AskLemmas.{SaysBy-decided}
@@ -50,6 +54,8 @@ asks_for (Vhdl project) = (refl, λ x. tt)
 asks_for (Bench project port value plan) =
     carried-for project port (text_file value ∷ text_file plan ∷ []) (λ split. planned_ask value plan split (TellsBench split)) (λ split. planned-for value plan split (TellsBench split))
 asks_for (Testbench project test) = (refl, λ x. tt)
+asks_for (Vcd project port scope file) = port-for project port (dump_file file ∷ []) (dump_ask scope file) (dump-for scope file)
+asks_for (Gen project port seed count) = carried-for project port [] (λ split. Ends (TellsJob split seed count)) (λ split. tt)
 
 asks_some : (request : Request) → AsksSome (ask_of request)
 asks_some (Check trace) = tt
@@ -63,6 +69,8 @@ asks_some (Carry project top from to trace) = tt
 asks_some (Vhdl project) = tt
 asks_some (Bench project port value plan) = tt
 asks_some (Testbench project test) = tt
+asks_some (Vcd project port scope file) = tt
+asks_some (Gen project port seed count) = tt
 
 -- ---- a run of a command
 
@@ -324,6 +332,8 @@ WritesTrace-answered (Some known) (Some (Carry project top from to trace)) statu
 WritesTrace-answered (Some known) (Some (Vhdl project)) status out_old out_new err_old err_new a done = tt
 WritesTrace-answered (Some known) (Some (Bench project port value plan)) status out_old out_new err_old err_new a done = tt
 WritesTrace-answered (Some known) (Some (Testbench project test)) status out_old out_new err_old err_new a done = tt
+WritesTrace-answered (Some known) (Some (Vcd project port scope file)) status out_old out_new err_old err_new a done = tt
+WritesTrace-answered (Some known) (Some (Gen project port seed count)) status out_old out_new err_old err_new a done = tt
 WritesTrace-answered (Some known) (Some (Drive project port value plan)) status out_old out_new err_old err_new a done =
     written_text (Drive project port value plan) known (WritesDriven known (drive_words project port value plan)) (λ text says. (written-driven known project port value plan text says).1)
     status out_old out_new err_old err_new a done
@@ -342,6 +352,8 @@ WritesReadBack-answered (Some known) (Some (Link project)) status out_old out_ne
 WritesReadBack-answered (Some known) (Some (Vhdl project)) status out_old out_new err_old err_new a done = tt
 WritesReadBack-answered (Some known) (Some (Bench project port value plan)) status out_old out_new err_old err_new a done = tt
 WritesReadBack-answered (Some known) (Some (Testbench project test)) status out_old out_new err_old err_new a done = tt
+WritesReadBack-answered (Some known) (Some (Vcd project port scope file)) status out_old out_new err_old err_new a done = tt
+WritesReadBack-answered (Some known) (Some (Gen project port seed count)) status out_old out_new err_old err_new a done = tt
 WritesReadBack-answered (Some known) (Some (Carry project top from to trace)) status out_old out_new err_old err_new a done = tt
 WritesReadBack-answered (Some known) (Some (Drive project port value plan)) status out_old out_new err_old err_new a done =
     written_text (Drive project port value plan) known (IsReadBack known (drive_words project port value plan)) (λ text says. driven-read_back known project port value plan text says)
@@ -361,6 +373,8 @@ WritesValue-answered (Some known) (Some (Link project)) status out_old out_new e
 WritesValue-answered (Some known) (Some (Vhdl project)) status out_old out_new err_old err_new a done = tt
 WritesValue-answered (Some known) (Some (Bench project port value plan)) status out_old out_new err_old err_new a done = tt
 WritesValue-answered (Some known) (Some (Testbench project test)) status out_old out_new err_old err_new a done = tt
+WritesValue-answered (Some known) (Some (Vcd project port scope file)) status out_old out_new err_old err_new a done = tt
+WritesValue-answered (Some known) (Some (Gen project port seed count)) status out_old out_new err_old err_new a done = tt
 WritesValue-answered (Some known) (Some (Carry project top from to trace)) status out_old out_new err_old err_new a done = tt
 WritesValue-answered (Some known) (Some (Decode project port trace)) status out_old out_new err_old err_new a done =
     written_text (Decode project port trace) known (WritesDecoded known (decode_words project port trace)) (λ text says. (written-carried known project port trace text says).1)
@@ -380,6 +394,8 @@ WritesCarried-answered arrive (Some known) (Some (Drive project port value plan)
 WritesCarried-answered arrive (Some known) (Some (Vhdl project)) status out_old out_new err_old err_new a done = tt
 WritesCarried-answered arrive (Some known) (Some (Bench project port value plan)) status out_old out_new err_old err_new a done = tt
 WritesCarried-answered arrive (Some known) (Some (Testbench project test)) status out_old out_new err_old err_new a done = tt
+WritesCarried-answered arrive (Some known) (Some (Vcd project port scope file)) status out_old out_new err_old err_new a done = tt
+WritesCarried-answered arrive (Some known) (Some (Gen project port seed count)) status out_old out_new err_old err_new a done = tt
 WritesCarried-answered arrive (Some known) (Some (Decode project port trace)) status out_old out_new err_old err_new a done = tt
 WritesCarried-answered arrive (Some known) (Some (Sim bench run)) status out_old out_new err_old err_new a done = tt
 WritesCarried-answered arrive (Some known) (Some (Link project)) status out_old out_new err_old err_new a done = tt
@@ -418,12 +434,34 @@ WritesLines-answered bench test (Some known) (Some (Sim bench_word run)) status 
 WritesLines-answered bench test (Some known) (Some (Link project)) status out_old out_new err_old err_new a done = tt
 WritesLines-answered bench test (Some known) (Some (Carry project top from to trace)) status out_old out_new err_old err_new a done = tt
 WritesLines-answered bench test (Some known) (Some (Vhdl project)) status out_old out_new err_old err_new a done = tt
+WritesLines-answered bench test (Some known) (Some (Vcd project port scope file)) status out_old out_new err_old err_new a done = tt
 WritesLines-answered bench test (Some known) (Some (Bench project port value plan)) status out_old out_new err_old err_new a done =
     written_text (Bench project port value plan) known (WritesBench known (drive_words project port value plan)) (λ text says. (bench known project port value plan text says).1)
     status out_old out_new err_old err_new a done
 WritesLines-answered bench test (Some known) (Some (Testbench project word)) status out_old out_new err_old err_new a done =
     written_text (Testbench project word) known (WritesTestbench known (test_words project word)) (λ text says. (test known project word text says).1)
     status out_old out_new err_old err_new a done
+WritesLines-answered bench test (Some known) (Some (Gen project port seed count)) status out_old out_new err_old err_new a done = tt
+
+-- where a job of a port is made, out has the text of its summary
+pub WritesJob-answered : WrittenSummariesAreOfJobs → (files : Option Files) (request : Option Request) (status : Status) (out_old out_new err_old err_new : Option (List ℕ)) →
+    IsAnswered files request status out_old out_new err_old err_new → status ≡ statuses.Done → IfSome files (λ known. WritesJob known request out_old out_new)
+WritesJob-answered jobs None request status out_old out_new err_old err_new a done = tt
+WritesJob-answered jobs (Some known) (Some (Gen project port seed count)) status out_old out_new err_old err_new a done =
+    written_text (Gen project port seed count) known (WritesSummary known (job_words project port seed count)) (λ text says. (jobs known project port text seed count says).1)
+    status out_old out_new err_old err_new a done
+WritesJob-answered jobs (Some known) request status out_old out_new err_old err_new a done = tt
+
+-- where a dump is sampled, out has the text of the trace that it shows
+pub WritesSampled-answered : WrittenDumpsAreShown → (files : Option Files) (request : Option Request) (status : Status)
+    (out_old out_new err_old err_new : Option (List ℕ)) →
+    IsAnswered files request status out_old out_new err_old err_new → status ≡ statuses.Done
+    → IfSome files (λ known. WritesSampled known request out_old out_new)
+WritesSampled-answered shown None request status out_old out_new err_old err_new a done = tt
+WritesSampled-answered shown (Some known) (Some (Vcd project port scope file)) status out_old out_new err_old err_new a done =
+    written_text (Vcd project port scope file) known (WritesShown known (dump_words project port scope file))
+    (λ text says. (shown known project port scope file text says).1) status out_old out_new err_old err_new a done
+WritesSampled-answered shown (Some known) request status out_old out_new err_old err_new a done = tt
 
 -- where the answer is a refusal, nothing goes to out
 no_out : (a : Answer) → IsRefusal a → out_of_answer a ≡ []

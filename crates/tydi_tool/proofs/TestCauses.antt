@@ -29,7 +29,7 @@ use Rattle.tydi_tool.specs.Projects.{ReadsProject}
 use Rattle.tydi_tool.specs.Refusals.{Refusal, refusal_line, refusal_of_value}
 use Rattle.tydi_tool.specs.Tests.{TellsFound, TellsPlanned, TellsPort, TellsSplit, TellsTest, TellsTexts, TellsTyped, plan_word, test_named, tested_port, value_word}
 use Rattle.tydi_tool.specs.Texts.{ReadsValue}
-use Rattle.tydi_tool.specs.Words.{Request, Bench, Carry, Check, Decode, Drive, Link, Read, Sim, Split, Testbench, Vhdl, project_file}
+use Rattle.tydi_tool.specs.Words.{Request, Bench, Carry, Check, Decode, Drive, Link, Read, Sim, Split, Testbench, Vhdl, project_file, Vcd, Gen}
 use Rattle.tydi_tool.proofs.CauseLines.{by_line, line_of, one_word, value_text}
 use Rattle.tydi_tool.proofs.CauseSteps.{Told, plan-fault, plan-refused, refuses_project, says-read, told-file}
 use Rattle.tydi_tool.proofs.MadeCauses.{tells-made, tells-unmade, told-made}
@@ -67,9 +67,9 @@ module _ (known : Files) (project test : List ℕ) (a : Answer) where
       told-planned value reads (inl refused) =
           let fault = plan-fault (plan_word test) split found.plan refused.0 refused.1.0 in (
             rows.TextFault,
-            record {
+            inl (record {
               line = refused.0;
-              faulty = inr (inr (inr (inr (inr (inr (inr (inr (record {
+              faulty = inr (inr (inr (inr (inr (inr (inr (inr (inl (record {
                 words = words;
                 named = refl;
                 test = found;
@@ -80,9 +80,9 @@ module _ (known : Files) (project test : List ℕ) (a : Answer) where
                 fault = fault.0;
                 reads = fault.1.0;
                 told = fault.1.1;
-              }))))))));
+              })))))))));
               said = refused.1.1;
-            },
+            }),
           )
       told-planned value reads (inr read) =
           told-driven value read.0 (record { test = found; at = at; value_is = reads; plan_is = plan-read (plan_word test) split found.plan read.0 read.1.0 }) read.1.1
@@ -91,7 +91,7 @@ module _ (known : Files) (project test : List ℕ) (a : Answer) where
       told-texts : TellsTexts test split found a → Told known command a
       told-texts (inl refused) = (
         rows.TextFault,
-        record {
+        inl (record {
           line = refused.0;
           faulty = inr (inr (inr (inr (inr (inr (inr (inl (record {
             words = words;
@@ -104,7 +104,7 @@ module _ (known : Files) (project test : List ℕ) (a : Answer) where
             told = sym (value_text (value_word test) refused.1.0.0) ∙ line_of PortValue (refusal_of_value (value_word test) refused.1.0.0) refused.0 refused.1.0.1.1;
           }))))))));
           said = refused.1.1;
-        },
+        }),
       )
       told-texts (inr read) = told-planned read.0 read.1.0 read.1.1
 
@@ -184,6 +184,8 @@ from_tested known (Link project) words a named said = absurd cc
 from_tested known (Carry project top from to trace) words a named said = absurd cc
 from_tested known (Vhdl project) words a named said = absurd cc
 from_tested known (Bench project port value plan) words a named said = absurd cc
+from_tested known (Vcd project port scope file) words a named said = absurd cc
+from_tested known (Gen project port seed count) words a named said = absurd cc
 from_tested known (Testbench project test) words a named said =
     subst (λ (w : TestWords). SaysBy (Some known) (testbench_ask w.project w.test) a) (sym (same_tested (of_test project test) words named)) said
 

@@ -12,7 +12,7 @@ use Rattle.port_bench.specs.Laws.{IsPortBench, IsRunOfPlan}
 use Rattle.port_drive.specs.Drives.{drive_of}
 use Rattle.port_drive.specs.Laws.{IsDriven, trace_of}
 use Rattle.port_drive.specs.Text.{written_text}
-use Rattle.til_resolve.specs.PlainProject.{PlainPort, PlainProject}
+use Rattle.til_resolve.specs.PlainProject.{PlainProject}
 use Rattle.til_resolve.specs.declared.project.Test.{Test}
 use Rattle.type_split.specs.Streams.{PlainSplit}
 use Rattle.vhdl_meaning.specs.RunLaws.{FitsBench}
@@ -25,7 +25,7 @@ use Rattle.tydi_tool.specs.Commands.{Says}
 use Rattle.tydi_tool.specs.DriveLaw.{Accepts, drive_words}
 use Rattle.tydi_tool.specs.Outcome.{output_answer, output_too_long_line}
 use Rattle.tydi_tool.specs.Ports.{port_named}
-use Rattle.tydi_tool.specs.Tests.{test_named, tested_port}
+use Rattle.tydi_tool.specs.Tests.{HasPortWord, test_named, tested_port}
 use Rattle.tydi_tool.specs.Words.{Bench, Drive, Sim, Testbench}
 
 -- the words of a declared test
@@ -91,20 +91,22 @@ abbrev pub BenchesAreRefusedAsDrives : Type 0
 BenchesAreRefusedAsDrives = (known : Files) (project port value plan line : List ℕ) → line ≢ output_too_long_line →
     Says (Some known) (Some (Bench project port value plan)) (answers.Refused line) ↔ Says (Some known) (Some (Drive project port value plan)) (answers.Refused line)
 
--- a project has a declared test, which drives the port that a word of `bench` names, and two files have the texts that the test holds
-pub record HoldsTexts (known after : Files) (words : DriveWords) (test : List ℕ) : Type 0 where
+-- a project has a declared test, and two files have the texts that the test holds
+pub record HoldsTexts (known after : Files) (project value plan test : List ℕ) : Type 0 where
   pub read : PlainProject
-  pub project : HasRead known words.at.project read
-  pub same : after words.at.project ≡ known words.at.project
+  pub project_is : HasRead known project read
+  pub same : after project ≡ known project
   pub declared : Test
   pub test_is : test_named read test ≡ Some declared
-  pub port : PlainPort
-  pub drives : tested_port read declared ≡ Some port
-  pub named : port_named read words.at.port ≡ Some port
-  pub value : after words.value ≡ Some declared.value
-  pub plan : after words.plan ≡ Some declared.plan
+  pub value_is : after value ≡ Some declared.value
+  pub plan_is : after plan ≡ Some declared.plan
 
--- then `testbench` writes what `bench` writes of these files
+-- then `testbench` writes what `bench` writes of these files, for each word that names the port of the test
+abbrev pub WritesAlike : (known after : Files) (project value plan test : List ℕ) → HoldsTexts known after project value plan test → Type 0
+WritesAlike known after project value plan test holds = (port text : List ℕ) → port_named holds.read port ≡ tested_port holds.read holds.declared →
+    Says (Some known) (Some (Testbench project test)) (answers.Done text) ↔ Says (Some after) (Some (Bench project port value plan)) (answers.Done text)
+
+-- and the port that the test drives has such a word
 abbrev pub TestbenchesAreBenches : Type 0
-TestbenchesAreBenches = (known after : Files) (project port value plan test : List ℕ) → HoldsTexts known after (drive_words project port value plan) test →
-    (text : List ℕ) → Says (Some known) (Some (Testbench project test)) (answers.Done text) ↔ Says (Some after) (Some (Bench project port value plan)) (answers.Done text)
+TestbenchesAreBenches = (known after : Files) (project value plan test : List ℕ) → (holds : HoldsTexts known after project value plan test) →
+    HasPortWord holds.read holds.declared × WritesAlike known after project value plan test holds

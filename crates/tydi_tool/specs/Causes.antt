@@ -46,6 +46,8 @@ use Rattle.port_bench.specs.Benches.{bench_text_of}
 use Rattle.port_drive.specs.Drives as driving
 use Rattle.port_drive.specs.Drives.{Undriven, drive_of, heads_of}
 use Rattle.port_drive.specs.Text.{drive_text}
+use Rattle.port_gen.specs.Jobs.{NoJob, NotDriven, TooManyCycles, TooManyLeaves, job_of}
+use Rattle.port_gen.specs.Summaries.{Summary, summary_of}
 use Rattle.split_text.specs.Text.{split_text}
 use Rattle.value_text.specs.Reading.{IsFaulty, IsValue}
 use Rattle.value_text.specs.declared.fault.ValueFault.{ValueFault}
@@ -62,6 +64,7 @@ use Rattle.tydi_tool.specs.declared.answer.Answer.TheVariants as answers
 use Rattle.tydi_tool.specs.Ask.{Ask, Ends, Asks}
 use Rattle.tydi_tool.specs.Commands.{ask_of, Says}
 use Rattle.tydi_tool.specs.Drives.{path_of}
+use Rattle.tydi_tool.specs.Dumps.{wanted_of}
 use Rattle.tydi_tool.specs.Files.{file_of}
 use Rattle.tydi_tool.specs.Lines.{counts_text}
 use Rattle.tydi_tool.specs.Ports.{port_named}
@@ -91,6 +94,10 @@ use Rattle.link_check.specs.Carry.{FirstOther, carried}
 use Rattle.link_check.specs.declared.end_heads.EndHeads.{EndHeads}
 use Rattle.port_drive.specs.Text.{written_text}
 use Rattle.tydi_tool.specs.Designs.{AreJoined, DesignWords, HasClash, HasNoClash, ReadsDesign, leaf_at, top_at}
+use Rattle.vcd_read.specs.Shown.{shown}
+use Rattle.vcd_read.specs.declared.fault.VcdFault.{VcdFault}
+use Rattle.vcd_read.specs.declared.fault.VcdFault.TheVariants as dumping
+use Rattle.vhdl_text.specs.Text.{signal_word}
 use Rattle.vhdl_writer.specs.Architecture.{architectures}
 use Rattle.vhdl_writer.specs.Designs.{design_text}
 use Rattle.vhdl_writer.specs.PortClashes.{first_clash}
@@ -142,6 +149,8 @@ rows_of_faults =
     ∷ (codes "MaskTooWide", TextFault) ∷ (codes "UserTooWide", TextFault)
     ∷ (codes "NotForm", TextFault) ∷ (codes "UnknownSignal", TextFault) ∷ (codes "TwoDrivers", TextFault)
     ∷ (codes "NotOrder", TextFault) ∷ (codes "TooManyOrders", TextFault)
+    ∷ (codes "TimeBack", TextFault) ∷ (codes "NoClock", TextFault) ∷ (codes "NoSignal", TextFault)
+    ∷ (codes "OtherWidth", TextFault) ∷ (codes "NotBit", TextFault)
     ∷ (codes "OtherHeader", OtherHeader) ∷ (codes "CountNotMultiple", CountNotMultiple) ∷ (codes "NotFinished", NotFinished)
     ∷ (codes "UnknownEnd", NotLinked) ∷ (codes "SameSide", NotLinked) ∷ (codes "NotCompatible", NotLinked)
     ∷ (codes "LinkedTwice", NotLinked) ∷ (codes "Unlinked", NotLinked) ∷ (codes "DesignTooLarge", NotLinked)
@@ -194,6 +203,8 @@ project_of (Carry project top from to trace) = Some project
 project_of (Vhdl project) = Some project
 project_of (requests.Bench project port value plan) = Some project
 project_of (requests.Testbench project test) = Some project
+project_of (requests.Vcd project port scope file) = Some project
+project_of (requests.Gen project port seed count) = Some project
 
 -- the project that a command resolves
 abbrev pub resolved_of : Request → Option (List ℕ)
@@ -208,6 +219,8 @@ resolved_of (Carry project top from to trace) = Some project
 resolved_of (Vhdl project) = Some project
 resolved_of (requests.Bench project port value plan) = Some project
 resolved_of (requests.Testbench project test) = Some project
+resolved_of (requests.Vcd project port scope file) = Some project
+resolved_of (requests.Gen project port seed count) = Some project
 
 -- the trace that a command reads before it reads anything else
 abbrev pub trace_in : Request → Option (List ℕ)
@@ -225,6 +238,8 @@ port_in (Split project port) = Some (record { project = project; port = port })
 port_in (Drive project port value plan) = Some (record { project = project; port = port })
 port_in (Decode project port trace) = Some (record { project = project; port = port })
 port_in (requests.Bench project port value plan) = Some (record { project = project; port = port })
+port_in (requests.Vcd project port scope file) = Some (record { project = project; port = port })
+port_in (requests.Gen project port seed count) = Some (record { project = project; port = port })
 port_in request = None
 
 -- the port that a command begins with, each of whose nodes has to be carried
@@ -232,6 +247,7 @@ abbrev pub carried_in : Request → Option PortWords
 carried_in (Drive project port value plan) = Some (record { project = project; port = port })
 carried_in (Decode project port trace) = Some (record { project = project; port = port })
 carried_in (requests.Bench project port value plan) = Some (record { project = project; port = port })
+carried_in (requests.Gen project port seed count) = Some (record { project = project; port = port })
 carried_in request = None
 
 -- a port of a project, a value of it and a plan of its streams
@@ -304,6 +320,28 @@ pub record TestWords : Type 0 where
 abbrev pub tested_in : Request → Option TestWords
 tested_in (requests.Testbench project test) = Some (record { project = project; test = test })
 tested_in request = None
+
+-- a port of a project, and a dump of its signals in a scope
+pub record DumpWords : Type 0 where
+  pub at : PortWords
+  pub scope : List ℕ
+  pub file : List ℕ
+
+-- the port that a command samples, with the scope and the file of the dump
+abbrev pub sampled_in : Request → Option DumpWords
+sampled_in (requests.Vcd project port scope file) = Some (record { at = record { project = project; port = port }; scope = scope; file = file })
+sampled_in request = None
+
+-- a port of a project, a seed and a count
+pub record JobWords : Type 0 where
+  pub at : PortWords
+  pub seed : ℕ
+  pub count : ℕ
+
+-- the port that a command makes a job of
+abbrev pub generated_in : Request → Option JobWords
+generated_in (requests.Gen project port seed count) = Some (record { at = record { project = project; port = port }; seed = seed; count = count })
+generated_in request = None
 
 -- a text of at most so many bytes that a command reads by this word
 pub record HasText (known : Files) (named : Option (List ℕ)) (limit : ℕ) (word bytes : List ℕ) : Type 0 where
@@ -433,6 +471,13 @@ pub record HasTrace (known : Files) (word : List ℕ) (t : TraceText) : Type 0 w
   pub file : HasBytes known word 67108864 bytes
   pub reads : trace_of bytes ≡ Ok t
 
+-- all that a command needs to sample a port is there: the port, and a file of at most 64 MiB with the text of a dump that shows this trace of it
+pub record HasDump (known : Files) (words : DumpWords) (split : PlainSplit) (t : TraceText) : Type 0 where
+  pub at : HasSplit known words.at split
+  pub bytes : List ℕ
+  pub file : HasBytes known words.file 67108864 bytes
+  pub shows : shown (wanted_of words.scope split) bytes ≡ Ok t
+
 -- ---- the lines
 
 -- a place in a text, as it stands in a line
@@ -527,6 +572,19 @@ run_line word (running.TooManyCycles place) = Some (codes "tydi: TooManyCycles "
 run_line word (running.TooManyOrders place) = Some (codes "tydi: TooManyOrders " ++ word ++ codes " " ++ at_place place ++ codes "\n")
 run_line word running.Memory = None
 
+abbrev pub dump_line : PlainSplit → List ℕ → VcdFault → Option (List ℕ)
+dump_line split word (dumping.Syntax offset) = Some (codes "tydi: Syntax " ++ word ++ codes " " ++ decimal offset ++ codes "\n")
+dump_line split word (dumping.TimeBack offset) = Some (codes "tydi: TimeBack " ++ word ++ codes " " ++ decimal offset ++ codes "\n")
+dump_line split word dumping.NoClock = Some (codes "tydi: NoClock " ++ word ++ codes "\n")
+dump_line split word (dumping.NoSignal stream signal) =
+    Some (codes "tydi: NoSignal " ++ word ++ codes " " ++ path_text (path_of split stream) ++ codes " " ++ signal_word signal ++ codes "\n")
+dump_line split word (dumping.OtherWidth stream signal) =
+    Some (codes "tydi: OtherWidth " ++ word ++ codes " " ++ path_text (path_of split stream) ++ codes " " ++ signal_word signal ++ codes "\n")
+dump_line split word dumping.TooManyCycles = Some (codes "tydi: TooManyCycles " ++ word ++ codes "\n")
+dump_line split word (dumping.NotBit cycle stream) =
+    Some (codes "tydi: NotBit " ++ word ++ codes " " ++ decimal cycle ++ codes " " ++ path_text (path_of split stream) ++ codes "\n")
+dump_line split word dumping.Memory = None
+
 abbrev pub why_text : Why → List ℕ
 why_text whys.Shape = codes "Shape"
 why_text whys.Throughput = codes "Throughput"
@@ -546,6 +604,12 @@ link_line word (linking.LinkedTwice place) = Some (codes "tydi: LinkedTwice " ++
 link_line word (linking.Unlinked place) = Some (codes "tydi: Unlinked " ++ word ++ codes " " ++ at_place place ++ codes "\n")
 link_line word linking.DesignTooLarge = Some (codes "tydi: DesignTooLarge " ++ word ++ codes "\n")
 link_line word linking.Memory = None
+
+-- the line of a port without a job that names no stream
+abbrev pub job_line : NoJob → Option (List ℕ)
+job_line TooManyLeaves = Some (codes "tydi: TooManyLeaves\n")
+job_line (NotDriven reason) = None
+job_line TooManyCycles = Some (codes "tydi: TooManyCycles\n")
 
 -- the line of a stream that does not end whole
 abbrev pub unfinished_line : List (List ℕ) → End → Option (List ℕ)
@@ -816,6 +880,18 @@ pub record HasTestPlanFault (known : Files) (request : Request) (line : List ℕ
   pub reads : plan_of split.streams test.plan ≡ Err fault
   pub told : plan_line (words.test ++ codes " plan") fault ≡ Some line
 
+-- the port is there, and the text of the dump shows no trace of it, with this line
+pub record HasDumpFault (known : Files) (request : Request) (line : List ℕ) : Type 0 where
+  pub words : DumpWords
+  pub named : sampled_in request ≡ Some words
+  pub split : PlainSplit
+  pub at : HasSplit known words.at split
+  pub bytes : List ℕ
+  pub file : HasBytes known words.file 67108864 bytes
+  pub fault : VcdFault
+  pub reads : shown (wanted_of words.scope split) bytes ≡ Err fault
+  pub told : dump_line split words.file fault ≡ Some line
+
 -- an error of one of these texts, with this line
 abbrev pub HasTextFault : Files → Request → List ℕ → Type 0
 HasTextFault known request line =
@@ -827,13 +903,34 @@ HasTextFault known request line =
     ⊎ (HasPortTraceFault known request line
     ⊎ (HasCarriedFault known request line
     ⊎ (HasTestValueFault known request line
-    ⊎ HasTestPlanFault known request line)))))))
+    ⊎ (HasTestPlanFault known request line
+    ⊎ HasDumpFault known request line))))))))
 
--- the text of a trace, a value, a plan, a bench or a run has no reading, be it a file's or a declared test's
+-- the text of a trace, a value, a plan, a bench, a run or a dump has no reading, be it a file's or a declared test's
 pub record TextFaultCause (known : Files) (request : Request) (a : Answer) : Type 0 where
   pub line : List ℕ
   pub faulty : HasTextFault known request line
   pub said : a ≡ answers.Refused line
+
+-- each node of the port is carried, and a seed and a count make no job of it, for this reason
+pub record HasNoJob (known : Files) (request : Request) (split : PlainSplit) (reason : NoJob) : Type 0 where
+  pub words : JobWords
+  pub named : generated_in request ≡ Some words
+  pub at : HasCarried known words.at split
+  pub is : job_of split words.seed words.count ≡ Err reason
+
+-- the value of the job has too many leaves, or the job has too many cycles
+pub record NoJobCause (known : Files) (request : Request) (a : Answer) : Type 0 where
+  pub split : PlainSplit
+  pub reason : NoJob
+  pub none : HasNoJob known request split reason
+  pub line : List ℕ
+  pub told : job_line reason ≡ Some line
+  pub said : a ≡ answers.Refused line
+
+-- a text has no reading, or a port has no job for a reason that bears the name of an error of texts
+abbrev pub FaultCause : Files → Request → Answer → Type 0
+FaultCause known request a = TextFaultCause known request a ⊎ NoJobCause known request a
 
 -- the value and the plan of two files do not drive the port, for this reason
 pub record HasReason (known : Files) (request : Request) (split : PlainSplit) (reason : Undriven) : Type 0 where
@@ -865,6 +962,19 @@ pub record CountNotMultipleCause (known : Files) (request : Request) (a : Answer
   pub lanes : ℕ
   pub reason : IsUndriven known request split (driving.CountNotMultiple stream count lanes)
   pub said : a ≡ answers.Refused (codes "tydi: CountNotMultiple " ++ path_text (path_of split stream) ++ codes " " ++ decimal count ++ codes " " ++ decimal lanes ++ codes "\n")
+
+-- the lanes of a stream do not divide its elements of a job, and this is the first such stream
+pub record JobNotMultipleCause (known : Files) (request : Request) (a : Answer) : Type 0 where
+  pub split : PlainSplit
+  pub stream : ℕ
+  pub count : ℕ
+  pub lanes : ℕ
+  pub none : HasNoJob known request split (NotDriven (driving.CountNotMultiple stream count lanes))
+  pub said : a ≡ answers.Refused (codes "tydi: CountNotMultiple " ++ path_text (path_of split stream) ++ codes " " ++ decimal count ++ codes " " ++ decimal lanes ++ codes "\n")
+
+-- the same of the items of a value that a command is given, or of those of a job
+abbrev pub CountCause : Files → Request → Answer → Type 0
+CountCause known request a = CountNotMultipleCause known request a ⊎ JobNotMultipleCause known request a
 
 -- the run of a stream leaves so many transfers after the cycles of the plan, and this is the first such stream
 pub record NotFinishedCause (known : Files) (request : Request) (a : Answer) : Type 0 where
@@ -1110,6 +1220,21 @@ pub record IsTestbenchText (known : Files) (words : TestWords) (text : List ℕ)
   pub all : HasTestDrive known words split value plan
   pub is : bench_text_of split (plain_port value) plan ≡ Ok text
 
+-- the dump shows a trace of the port, and this is its text
+pub record IsDumpText (known : Files) (words : DumpWords) (text : List ℕ) : Type 0 where
+  pub split : PlainSplit
+  pub t : TraceText
+  pub all : HasDump known words split t
+  pub is : text ≡ written_text t
+
+-- each node of the port is carried, a seed and a count make a job of it, and this is its summary
+pub record IsSummaryText (known : Files) (words : JobWords) (text : List ℕ) : Type 0 where
+  pub split : PlainSplit
+  pub at : HasCarried known words.at split
+  pub summary : Summary
+  pub summary_is : summary_of split words.seed words.count ≡ Ok summary
+  pub is : text ≡ counts_text (heads_of split) summary.counts ++ (codes "cycles " ++ decimal summary.cycles ++ codes "\ntext " ++ decimal summary.text ++ codes "\ntrace " ++ decimal summary.trace ++ codes "\n")
+
 -- the text that a command makes of the files
 abbrev pub IsTextOf : Files → Request → List ℕ → Type 0
 IsTextOf known (Check trace) text = IsLegalText known trace text
@@ -1124,6 +1249,9 @@ IsTextOf known (Carry project top from to trace) text =
 IsTextOf known (Vhdl project) text = IsVhdlText known project text
 IsTextOf known (requests.Bench project port value plan) text = IsBenchText known (record { at = record { project = project; port = port }; value = value; plan = plan }) text
 IsTextOf known (requests.Testbench project test) text = IsTestbenchText known (record { project = project; test = test }) text
+IsTextOf known (requests.Vcd project port scope file) text =
+    IsDumpText known (record { at = record { project = project; port = port }; scope = scope; file = file }) text
+IsTextOf known (requests.Gen project port seed count) text = IsSummaryText known (record { at = record { project = project; port = port }; seed = seed; count = count }) text
 
 -- the text is over 64 MiB
 pub record OutputTooLongCause (known : Files) (request : Request) (a : Answer) : Type 0 where
@@ -1150,9 +1278,9 @@ CausedBy NoPort known request a = NoPortCause known request a
 CausedBy NoStreamlet known request a = NoStreamletCause known request a
 CausedBy NameClash known request a = ClashCause known request a
 CausedBy NoCarrier known request a = NoCarrierCause known request a
-CausedBy TextFault known request a = TextFaultCause known request a
+CausedBy TextFault known request a = FaultCause known request a
 CausedBy OtherHeader known request a = OtherHeaderCause known request a
-CausedBy CountNotMultiple known request a = CountNotMultipleCause known request a
+CausedBy CountNotMultiple known request a = CountCause known request a
 CausedBy NotFinished known request a = NotFinishedCause known request a
 CausedBy NotLinked known request a = LinkFaultCause known request a
 CausedBy NoPath known request a = NoPathCause known request a

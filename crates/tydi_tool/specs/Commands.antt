@@ -21,11 +21,14 @@ use Rattle.tydi_tool.specs.Drives.{TellsBench, TellsDriven, TellsText, carried}
 use Rattle.tydi_tool.specs.Texts.{ReadsPlan, ReadsValue}
 use Rattle.tydi_tool.specs.Benches.{ReadsBench, ReadsRun}
 use Rattle.tydi_tool.specs.Entities.{TellsDesign}
+use Rattle.tydi_tool.specs.Jobs.{TellsJob}
 use Rattle.tydi_tool.specs.Links.{TellsLinked}
+use Rattle.tydi_tool.specs.Dumps.{ReadsDump}
 use Rattle.tydi_tool.specs.Words as requests
-use Rattle.tydi_tool.specs.Words.{Request, Check, Decode, Drive, Link, Read, Sim, Split, bench_file, trace_file, project_file, text_file, Carry, Vhdl}
+use Rattle.tydi_tool.specs.Words.{Request, Check, Decode, Drive, Link, Read, Sim, Split, bench_file, trace_file, project_file, text_file, Carry, Vhdl, dump_file}
 use Rattle.cycle_trace.specs.Trace.{TraceText}
 use Rattle.link_check.specs.declared.end_heads.EndHeads.{EndHeads}
+use Rattle.port_drive.specs.Text.{written_text}
 use Rattle.tydi_tool.specs.Arrivals.{ReadsCycles, TellsArrived}
 use Rattle.tydi_tool.specs.Designs.{DesignWords, ReadsDesign}
 use Rattle.tydi_tool.specs.Outcome.{output_answer}
@@ -122,6 +125,18 @@ bench_ask project port value plan = carried_ask project port (λ split. planned_
 abbrev pub testbench_ask : (project test : List ℕ) → Ask
 testbench_ask project test = project_ask project (λ read. Ends (TellsTest read test))
 
+-- a command that ends with a dump of the signals of a port: the trace that they show
+abbrev pub dump_ask : (scope file : List ℕ) → PlainSplit → Ask
+dump_ask scope file split = Asks (dump_file file) TraceText (ReadsDump scope file split) (λ t. Ends (λ a. a ≡ output_answer (written_text t)))
+
+-- `vcd PROJECT PORT SCOPE FILE`: the trace that the dump shows of the port. The project and its port are decided before the dump is started.
+abbrev pub vcd_ask : (project port scope file : List ℕ) → Ask
+vcd_ask project port scope file = port_ask project port (dump_ask scope file)
+
+-- `gen PROJECT PORT SEED COUNT`: the summary of a job
+abbrev pub gen_ask : (project port : List ℕ) (seed count : ℕ) → Ask
+gen_ask project port seed count = carried_ask project port (λ split. Ends (TellsJob split seed count))
+
 abbrev pub ask_of : Request → Ask
 ask_of (Check trace) = check_ask trace
 ask_of (Read project) = read_ask project
@@ -134,6 +149,8 @@ ask_of (Carry project top from to trace) = carry_ask (of_design project top from
 ask_of (Vhdl project) = vhdl_ask project
 ask_of (requests.Bench project port value plan) = bench_ask project port value plan
 ask_of (requests.Testbench project test) = testbench_ask project test
+ask_of (requests.Vcd project port scope file) = vcd_ask project port scope file
+ask_of (requests.Gen project port seed count) = gen_ask project port seed count
 
 -- the answer of the tool: none where the words spell no command
 abbrev pub Says : Option Files → Option Request → Answer → Type 0

@@ -10,9 +10,13 @@ pub mod DecodeFiles
 pub mod DecodeLaw
 pub mod Delivery
 pub mod Designs
+pub mod DumpLaw
+pub mod Dumps
 pub mod Entities
 pub mod Drives
 pub mod Files
+pub mod JobLaw
+pub mod Jobs
 pub mod Laws
 pub mod Lines
 pub mod Links

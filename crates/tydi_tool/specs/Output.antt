@@ -7,6 +7,8 @@ use Rattle.scheduler.specs.Planners.{rest_of, whole_of}
 use Rattle.scheduler.specs.declared.planner.Planner.{Planner}
 use Rattle.testbench.specs.TextLeft as lines
 use Rattle.testbench.specs.declared.bench_pieces.BenchPieces.{BenchPieces}
+use Rattle.vcd_read.specs.Kept.{bytes_of}
+use Rattle.value_text.specs.Pieces as values
 use Rattle.vhdl_writer.specs.Designs as designs
 use Rattle.tydi_tool.specs.declared.source.Source.{Source}
 use Rattle.tydi_tool.specs.declared.source.Source.TheVariants as sources
@@ -22,3 +24,5 @@ text_of (sources.Rows pieces) = text_left pieces
 text_of (sources.Cycles pieces) = benches.text_left pieces
 text_of (sources.Design pieces) = designs.text_left pieces
 text_of (sources.Lines pieces) = lines_left pieces
+text_of (sources.Dump text) = bytes_of text
+text_of (sources.Value pieces) = values.text_left pieces

@@ -9,9 +9,11 @@ use Rattle.tydi_tool.specs.declared.status.Status.{Status}
 use Rattle.tydi_tool.specs.declared.status.Status.TheVariants as statuses
 use Rattle.tydi_tool.specs.DecodeLaw.{IsReadBack, WritesDecoded, decode_words}
 use Rattle.tydi_tool.specs.DriveLaw.{WritesDriven, drive_words}
-use Rattle.tydi_tool.specs.Words.{Request, Check, Decode, Drive, Link, Read, Sim, Split, FileWord, file_words, Carry, Vhdl, Bench, Testbench}
+use Rattle.tydi_tool.specs.Words.{Request, Check, Decode, Drive, Link, Read, Sim, Split, FileWord, file_words, Carry, Vhdl, Bench, Testbench, Vcd, Gen}
 use Rattle.tydi_tool.specs.BenchLaw.{WritesBench, WritesTestbench, test_words}
 use Rattle.tydi_tool.specs.CarryLaw.{WritesArrived, carry_words}
+use Rattle.tydi_tool.specs.DumpLaw.{WritesShown, dump_words}
+use Rattle.tydi_tool.specs.JobLaw.{WritesSummary, job_words}
 use Rattle.tydi_tool.specs.WiringLaw.{WritesDesign}
 use Rattle.tydi_tool.specs.Outcome.{read_fault_line, out_of_answer, err_of_answer, status_of_answer, usage_line, memory_line, write_fault_line}
 use Rattle.tydi_tool.specs.Delivery.{Adds, AddsFront, AddsPart, TakesLine, Delivers}
@@ -182,6 +184,8 @@ WritesTrace known (Some (Carry project top from to trace)) out_old out_new = Uni
 WritesTrace known (Some (Vhdl project)) out_old out_new = Unit {0}
 WritesTrace known (Some (Bench project port value plan)) out_old out_new = Unit {0}
 WritesTrace known (Some (Testbench project test)) out_old out_new = Unit {0}
+WritesTrace known (Some (Vcd project port scope file)) out_old out_new = Unit {0}
+WritesTrace known (Some (Gen project port seed count)) out_old out_new = Unit {0}
 WritesTrace known (Some (Drive project port value plan)) out_old out_new =
     (text : List ℕ) × (WritesDriven known (drive_words project port value plan) text × Adds out_old out_new text)
 
@@ -217,3 +221,15 @@ WritesLines known (Some (Bench project port value plan)) out_old out_new =
 WritesLines known (Some (Testbench project test)) out_old out_new =
     (text : List ℕ) × (WritesTestbench known (test_words project test) text × Adds out_old out_new text)
 WritesLines known request out_old out_new = Unit {0}
+
+-- where the command samples a dump, out has exactly the text more of the trace that the dump shows of the port, which is read as this trace
+abbrev pub WritesSampled : Files → Option Request → (out_old out_new : Option (List ℕ)) → Type 0
+WritesSampled known (Some (Vcd project port scope file)) out_old out_new =
+    (text : List ℕ) × (WritesShown known (dump_words project port scope file) text × Adds out_old out_new text)
+WritesSampled known request out_old out_new = Unit {0}
+
+-- where the command makes a job of a port, out has exactly the text more of the summary of that job, which drives the port with a value and carries it
+abbrev pub WritesJob : Files → Option Request → (out_old out_new : Option (List ℕ)) → Type 0
+WritesJob known (Some (Gen project port seed count)) out_old out_new =
+    (text : List ℕ) × (WritesSummary known (job_words project port seed count) text × Adds out_old out_new text)
+WritesJob known request out_old out_new = Unit {0}

@@ -1,7 +1,7 @@
 -- Declared tests that words name, the ports that they drive, and the answer to a test: its testbench, or why it has none (this project's own).
-use Rattle.std.specs.Prelude.{◌≡◌, ℕ, ◌≤◌, true, List, ◌++◌, length, find, slice_get, Contains, Option, Some, None, option_and_then, codes}
+use Rattle.std.specs.Prelude.{◌≡◌, ℕ, ◌≤◌, true, List, [], ◌∷◌, ◌++◌, length, find, slice_get, Contains, Option, Some, None, option_and_then, codes}
 use Rattle.std.specs.Str.{bytes_eq}
-use Rattle.tydi_base.specs.Path.{path_at}
+use Rattle.tydi_base.specs.Path.{colon_text, path_at}
 use Rattle.logical_types.specs.Tree.{Ltype}
 use Rattle.logical_value.specs.declared.value.PortValue.{PortValue}
 use Rattle.plan_text.specs.declared.plan.Plan.{Plan}
@@ -12,7 +12,7 @@ use Rattle.tydi_tool.specs.declared.answer.Answer.{Answer}
 use Rattle.tydi_tool.specs.declared.answer.Answer.TheVariants as answers
 use Rattle.tydi_tool.specs.Ask.{SaysOfBytes, TellsOf}
 use Rattle.tydi_tool.specs.Drives.{TellsBench, carried}
-use Rattle.tydi_tool.specs.Ports.{split_unless}
+use Rattle.tydi_tool.specs.Ports.{port_named, split_unless}
 use Rattle.tydi_tool.specs.Refusals.{no_test, refusal_line}
 use Rattle.tydi_tool.specs.Texts.{ReadsPlan, ReadsValue}
 
@@ -23,6 +23,21 @@ test_named project word = option_and_then (plain_test_at project.tests) (path_at
 -- the port that a test drives: that of its name, of its streamlet
 abbrev pub tested_port : PlainProject → Test → Option PlainPort
 tested_port project test = option_and_then (λ (streamlet : PlainStreamlet). find (λ (port : PlainPort). bytes_eq port.name test.port) streamlet.ports) (slice_get project.streamlets test.streamlet)
+
+-- the word of the port of this name of a streamlet: the streamlet's path, with `::` between its names, a point, and the name
+abbrev pub port_word : Option PlainStreamlet → List ℕ → List ℕ
+port_word None name = []
+port_word (Some streamlet) name = colon_text streamlet.path ++ 46 ∷ name
+
+-- the word of the port that a test drives
+abbrev pub tested_word : PlainProject → Test → List ℕ
+tested_word project test = port_word (slice_get project.streamlets test.streamlet) test.port
+
+-- a test drives a port, and the word of that port names it
+pub record HasPortWord (project : PlainProject) (test : Test) : Type 0 where
+  pub port : PlainPort
+  pub drives : tested_port project test ≡ Some port
+  pub named : port_named project (tested_word project test) ≡ Some port
 
 -- the texts of a value and of a plan that a test of this word declares stand in lines by these words, in the place of files
 abbrev pub value_word : List ℕ → List ℕ

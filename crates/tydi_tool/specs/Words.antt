@@ -1,7 +1,10 @@
 -- The commands that words spell (this project's own).
-use Rattle.std.specs.Prelude.{ℕ, ◌*◌, ◌^◌, Bool, false, not, ◌==◌, ◌&&◌, if◌then◌else◌, List, [], ◌∷◌, Option, Some, None, codes, IsTrue}
-use Rattle.std.specs.List.{AllByRecursion}
+use Rattle.std.specs.Prelude.{ℕ, suc, ◌*◌, ◌^◌, Bool, false, not, ◌==◌, ◌&&◌, if◌then◌else◌, List, [], ◌∷◌, Option, Some, None, codes, IsTrue}
+use Rattle.std.specs.List.{AllByRecursion, list_all}
 use Rattle.std.specs.Str.{bytes_eq}
+use Rattle.tydi_base.specs.Name.{is_name}
+use Rattle.tydi_base.specs.Pieces.{pieces_of}
+use Rattle.tydi_base.specs.Decimal.{below, decimal_of}
 use Rattle.tydi_tool.specs.declared.words.Command.{Command}
 use Rattle.tydi_tool.specs.declared.words.Command.TheVariants as commands
 
@@ -18,6 +21,8 @@ pub data Request : Type 0 where
   Vhdl : List ℕ → Request
   Bench : List ℕ → List ℕ → List ℕ → List ℕ → Request
   Testbench : List ℕ → List ℕ → Request
+  Vcd : List ℕ → List ℕ → List ℕ → List ℕ → Request
+  Gen : List ℕ → List ℕ → (seed count : ℕ) → Request
 
 abbrev pub request_from : Command → Request
 request_from (commands.Check trace) = Check trace.now
@@ -31,6 +36,8 @@ request_from (commands.Carry project top from to trace) = Carry project.now top.
 request_from (commands.Vhdl project) = Vhdl project.now
 request_from (commands.Bench project port value plan) = Bench project.now port.now value.now plan.now
 request_from (commands.Testbench project test) = Testbench project.now test.now
+request_from (commands.Vcd project port scope file) = Vcd project.now port.now scope.now file.now
+request_from (commands.Gen project port seed count) = Gen project.now port.now seed count
 
 -- a word that is not empty and does not begin with `-`
 abbrev pub is_word : List ℕ → Bool
@@ -95,6 +102,31 @@ abbrev pub testbench_request : List (List ℕ) → Option Request
 testbench_request (project ∷ test ∷ []) = if is_word project && is_word test then Some (Testbench project test) else None
 testbench_request words = None
 
+-- a scope of a dump: names with a point between each two, one at least
+abbrev pub is_scope : List ℕ → Bool
+is_scope word = list_all is_name (pieces_of 46 word)
+
+-- `vcd PROJECT PORT SCOPE FILE`
+abbrev pub vcd_request : List (List ℕ) → Option Request
+vcd_request (project ∷ port ∷ scope ∷ file ∷ []) =
+    if (is_word project && is_word port) && is_scope scope && is_word file then Some (Vcd project port scope file) else None
+vcd_request words = None
+
+-- the number that a word spells in decimal, without leading zeros and of at most so much
+abbrev pub number_word : ℕ → List ℕ → Option ℕ
+number_word most word = below (suc most) (decimal_of word)
+
+-- a job of a port with a seed and a count, where both are there
+abbrev pub job_request : (project port : List ℕ) → Option ℕ → Option ℕ → Option Request
+job_request project port (Some seed) (Some count) = Some (Gen project port seed count)
+job_request project port (Some seed) None = None
+job_request project port None count = None
+
+-- `gen PROJECT PORT SEED COUNT`: a seed is at most 65,535, and a count at most 100,000
+abbrev pub gen_request : List (List ℕ) → Option Request
+gen_request (project ∷ port ∷ seed ∷ count ∷ []) = if is_word project && is_word port then job_request project port (number_word 65535 seed) (number_word 100000 count) else None
+gen_request words = None
+
 -- the command that the words spell: the command's own word, and then exactly its words
 abbrev pub request_of : List (List ℕ) → Option Request
 request_of [] = None
@@ -110,7 +142,9 @@ request_of (command ∷ words) =
     else (if bytes_eq command (codes "vhdl") then vhdl_request words
     else (if bytes_eq command (codes "bench") then bench_request words
     else (if bytes_eq command (codes "testbench") then testbench_request words
-    else None))))))))))
+    else (if bytes_eq command (codes "vcd") then vcd_request words
+    else (if bytes_eq command (codes "gen") then gen_request words
+    else None))))))))))))
 
 -- a file that a command names, and the most bytes that it may have
 pub record FileWord : Type 0 where
@@ -143,6 +177,10 @@ text_file word = record { word = word; limit = text_limit }
 abbrev pub bench_file : List ℕ → FileWord
 bench_file word = record { word = word; limit = trace_limit }
 
+-- a dump may have as many bytes as a trace
+abbrev pub dump_file : List ℕ → FileWord
+dump_file word = record { word = word; limit = trace_limit }
+
 -- the files of a command, in the order in which they are read
 abbrev pub file_words : Request → List FileWord
 file_words (Check trace) = trace_file trace ∷ []
@@ -156,6 +194,8 @@ file_words (Carry project top from to trace) = project_file project ∷ trace_fi
 file_words (Vhdl project) = project_file project ∷ []
 file_words (Bench project port value plan) = project_file project ∷ text_file value ∷ text_file plan ∷ []
 file_words (Testbench project test) = project_file project ∷ []
+file_words (Vcd project port scope file) = project_file project ∷ dump_file file ∷ []
+file_words (Gen project port seed count) = project_file project ∷ []
 
 -- the store may start each file of the command
 abbrev pub Allows : (List ℕ → Bool) → Option Request → Type 0

@@ -25,6 +25,7 @@ use crate::decode::decode;
 use crate::designs::DesignText;
 use crate::drive::{bench, drive};
 use crate::ending::{OUTPUT_LIMIT, answered, answered_front, too_long};
+use crate::jobs::generate;
 use crate::link::link;
 use crate::ports::split_of_port;
 use crate::projects::ProjectText;
@@ -32,6 +33,7 @@ use crate::reports::report;
 use crate::sim::sim;
 use crate::traces::TraceFile;
 use crate::trees::TreeText;
+use crate::vcd::vcd;
 use crate::vhdl::vhdl;
 use crate::words::Command;
 use split_text::{split_fits, split_text};
@@ -94,6 +96,18 @@ pub(crate) fn reply_to<S: Store>(alloc: Global, command: Command<'_>, store: &mu
             plan,
         } => bench(alloc, project, port, value, plan, store),
         Command::Testbench { project, test } => testbench(alloc, project, test, store),
+        Command::Vcd {
+            project,
+            port,
+            scope,
+            file,
+        } => vcd(alloc, project, port, scope, file, store),
+        Command::Gen {
+            project,
+            port,
+            seed,
+            count,
+        } => generate(alloc, project, port, seed, count, store),
     }
 }
 

@@ -1,11 +1,12 @@
 //! The command that decodes a port. It asks for the project and the trace, one after another, and ends with the value that the trace carries.
 
-ghost use Rattle.std.specs.Prelude.{◌≡◌, ◌<◌, length, IfOk, IsTrue};
+ghost use Rattle.std.specs.Prelude.{◌≡◌, ◌<◌, length, min, IfOk, IsTrue};
 ghost use Rattle.til_resolve.specs.PlainProject.{plain_project};
 ghost use Rattle.til_resolve.specs.SoundProject.{IsSoundProject};
 ghost use Rattle.trace_decode.specs.Standing.{CanDecode};
 ghost use Rattle.tydi_io.specs.Faults.{Rose};
 ghost use Rattle.type_split.specs.Streams.{IsPortSplit, plain_split};
+ghost use Rattle.tydi_base.specs.Lengths.{most_bytes};
 ghost use Rattle.tydi_tool.specs.Ask.{Decides, Judges, goes_on};
 ghost use Rattle.tydi_tool.specs.Commands.{decode_ask, outcome_ask};
 ghost use Rattle.tydi_tool.specs.DecodeFiles.{IsNewFor};
@@ -16,22 +17,25 @@ ghost use Rattle.tydi_tool.specs.Ports.{split_at};
 ghost use Rattle.logical_value.specs.Tree.{plain_port};
 ghost use Rattle.value_text.specs.Canonical.{canonical};
 
-use crate::answer::Reply;
+use crate::answer::{Answer, Reply};
 use crate::asking::ask;
 use crate::commands::{TRACE_LIMIT, ask_project};
 use crate::decode_file::DecodeFile;
 use crate::decoding::Decoding;
 use crate::drive::check_carried;
-use crate::ending::{answered, verdict};
+use crate::ending::{OUTPUT_LIMIT, verdict};
+use crate::output::Output;
 use crate::ports::split_of_port;
 use crate::refusal::{Detail, refused};
 use crate::reports::{offence, unfinished};
+use logical_value::PortValue;
 use std::alloc::Global;
 use til_resolve::Project;
 use trace_decode::Decoded;
-use tydi_base::{List, Memory, Path, Text, emit};
+use tydi_base::{Bits, List, Memory, Path, Text, emit};
 use tydi_io::Store;
 use type_split::Split;
+use value_text::{ValuePieces, text_length};
 
 /// `decode PROJECT PORT TRACE`.
 pub(crate) fn decode<S: Store>(
@@ -100,7 +104,7 @@ fn decode_with<S: Store>(
     alloc: Global,
     split: &Split<'_>,
     trace: &Text,
-    reader: DecodeFile<'_, '_, '_>,
+    reader: DecodeFile<'_>,
     store: &mut S,
 ) -> Reply
     requires trace { IsTrue (S.allowed store.old trace.now) }
@@ -109,36 +113,36 @@ fn decode_with<S: Store>(
         (outcome_ask trace.now (plain_split split.now)) result }
 {
     match ask(alloc, store, trace, TRACE_LIMIT, reader) {
-        Ok(found) => told(alloc, split, trace, &found),
+        Ok(found) => told(alloc, split, trace, found),
         Err(reply) => reply,
     }
 }
 
 /// The answer to the trace of this word, of which this was found.
-fn told(alloc: Global, split: &Split<'_>, trace: &Text, found: &Decoding) -> Reply
-    requires { NamesStream (length (plain_split split.now).streams) (outcome_in found.now) }
-    ensures { Judges (TellsOutcome (plain_split split.now) trace.now (outcome_in found.now)) result }
+fn told(alloc: Global, split: &Split<'_>, trace: &Text, found: Decoding) -> Reply
+    requires { NamesStream (length (plain_split split.now).streams) (outcome_in found) }
+    ensures { Judges (TellsOutcome (plain_split split.now) trace.now (outcome_in found)) result }
 {
     match found {
         Decoding::OtherHeader(place) => {
-            let details = [Detail::Word(trace), Detail::Number(*place as u64)];
+            let details = [Detail::Word(trace), Detail::Number(place as u64)];
             refused(alloc, "OtherHeader", &details)
         }
         Decoding::Offence {
             cycle,
             stream,
             rule,
-        } => verdict(offence(alloc, *cycle, stream_path(split, *stream), *rule)),
+        } => verdict(offence(alloc, cycle, stream_path(split, stream), rule)),
         Decoding::Unfinished { stream, end } => {
-            verdict(unfinished(alloc, stream_path(split, *stream), *end))
+            verdict(unfinished(alloc, stream_path(split, stream), end))
         }
-        Decoding::Disagree(path, packet) => verdict(disagreement(alloc, path, *packet)),
+        Decoding::Disagree(path, packet) => verdict(disagreement(alloc, &path, packet)),
         Decoding::Carried(decoded) => value_text(alloc, split, decoded),
     }
 }
 
 /// The path of the physical stream of this number.
-fn stream_path<'s>(split: &'s Split<'_>, stream: usize) -> &'s Path
+pub(crate) fn stream_path<'s>(split: &'s Split<'_>, stream: usize) -> &'s Path
     requires { stream < length split.now.streams }
     ensures { result.now ≡ path_of (plain_split split.now) stream }
 {
@@ -153,12 +157,34 @@ fn disagreement(alloc: Global, path: &Path, packet: u64) -> Result<List<u8>, Mem
     Ok(line)
 }
 
-/// The text of a value and of the user words of the transfers done.
-fn value_text(alloc: Global, split: &Split<'_>, decoded: &Decoded) -> Reply
-    ensures { Judges (λ a. a ≡ output_answer (canonical (plain_split split.now) (plain_port decoded.now.value) decoded.now.users)) result }
+/// The text of a value and of the user words of the transfers done, where it is not too long. Its length is known before any of it is
+/// written.
+fn value_text(alloc: Global, split: &Split<'_>, decoded: Decoded) -> Reply
+    ensures { Judges (λ a. a ≡ output_answer (canonical (plain_split split.now) (plain_port decoded.value) decoded.users)) result }
 {
-    answered(
-        alloc,
-        value_text::print(alloc, &decoded.value, split, decoded.users.as_slice()),
-    )
+    let Decoded { value, users } = decoded;
+    match text_length(alloc, &value, split, users.as_slice()) {
+        Ok(bytes) => value_of_length(alloc, split, value, users, bytes),
+        Err(Memory) => Reply::Memory,
+    }
+}
+
+/// The same, where the text has so many bytes.
+fn value_of_length(
+    alloc: Global,
+    split: &Split<'_>,
+    value: PortValue,
+    users: List<List<Bits>>,
+    bytes: u64,
+) -> Reply
+    requires { bytes ≡ min (length (canonical (plain_split split.now) (plain_port value) users)) most_bytes }
+    ensures { Judges (λ a. a ≡ output_answer (canonical (plain_split split.now) (plain_port value) users)) result }
+{
+    if bytes > OUTPUT_LIMIT {
+        return refused(alloc, "OutputTooLong", &[]);
+    }
+    match ValuePieces::new(alloc, value, split, users) {
+        Ok(pieces) => Reply::Says(Answer::Done(Output::value(pieces, bytes))),
+        Err(Memory) => Reply::Memory,
+    }
 }

@@ -19,14 +19,14 @@ use type_split::Split;
 
 /// Reads the text of the trace of this word as it comes, against a port.
 #[derive(Drop)]
-pub(crate) struct DecodeFile<'a, 's, 't> {
+pub(crate) struct DecodeFile<'a> {
     word: &'a Text,
-    decoder: TextDecoder<'s, 't>,
+    decoder: TextDecoder<'a, 'a>,
     fed: u64,
 }
 
-impl<'a, 's, 't> DecodeFile<'a, 's, 't> {
-    pub(crate) fn new(alloc: Global, word: &'a Text, split: &'s Split<'t>) -> DecodeFile<'a, 's, 't>
+impl<'a> DecodeFile<'a> {
+    pub(crate) fn new(alloc: Global, word: &'a Text, split: &'a Split<'a>) -> DecodeFile<'a>
         requires { CanDecode (plain_split split.now) }
         ensures { IsNewFor (plain_split split.now) word.now result }
     {
@@ -38,7 +38,7 @@ impl<'a, 's, 't> DecodeFile<'a, 's, 't> {
     }
 }
 
-impl Reader<Decoding> for DecodeFile<'_, '_, '_> {
+impl Reader<Decoding> for DecodeFile<'_> {
     ghost reads = { decodes_after };
 
     ghost fed = { λ file. file.fed };

@@ -100,7 +100,7 @@ fn benched(alloc: Global, bench: BenchText<Planner>) -> Reply
 }
 
 /// The reply to a value and a plan that do not drive a port, for this reason.
-fn undriven(alloc: Global, split: &Split<'_>, fault: DriveFault) -> Reply
+pub(crate) fn undriven(alloc: Global, split: &Split<'_>, fault: DriveFault) -> Reply
     requires { IfSome (reason_in fault) (λ reason. stream_of reason < length split.now.streams) }
     ensures { IsRefusedBy (option_map (refusal_of_driving (plain_split split.now)) (reason_in fault)) result }
 {

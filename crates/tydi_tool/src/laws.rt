@@ -1,9 +1,10 @@
 ghost use Rattle.tydi_tool.specs.Causes.{
   ClashCause,
-  CountNotMultipleCause,
+  CountCause,
   DisagreeCause,
   EachIsOfARow,
   ExactlyWhere,
+  FaultCause,
   LexerCause,
   LinkFaultCause,
   NoCarrierCause,
@@ -20,7 +21,6 @@ ghost use Rattle.tydi_tool.specs.Causes.{
   ParserCause,
   ResolverCause,
   TextCause,
-  TextFaultCause,
   TooLongCause,
   UnfinishedCause,
 };
@@ -35,6 +35,8 @@ ghost use Rattle.tydi_tool.specs.BenchLaw.{
 ghost use Rattle.tydi_tool.specs.DecodeLaw.{CarriedValuesAreWritten, DrivenValuesAreReadBack, LevelsKeepValues, WrittenValuesAreCarried};
 ghost use Rattle.tydi_tool.specs.CarryLaw.{LevelsRiseOnTheWay, WrittenTracesArrive};
 ghost use Rattle.tydi_tool.specs.DriveLaw.{AcceptedPortsAreDriven, WrittenTracesAreDriven};
+ghost use Rattle.tydi_tool.specs.DumpLaw.{ShownDumpsAreWritten, WrittenDumpsAreShown};
+ghost use Rattle.tydi_tool.specs.JobLaw.{WrittenSummariesAreOfJobs};
 ghost use Rattle.tydi_tool.specs.Laws.{OneAnswer, SomeAnswer};
 ghost use Rattle.tydi_tool.specs.WiringLaw.{WrittenDesignsAreWired};
 
@@ -43,8 +45,10 @@ use cycle_trace::traces_are_read_as_spelled;
 use link_check::{compatible_ports_carry, projects_have_one_answer};
 use port_bench::benches_show_their_runs;
 use port_drive::driven_texts_are_traces;
+use port_gen::jobs_are_carried;
 use trace_decode::texts_have_one_outcome;
 use value_text::values_are_read_as_printed;
+use vcd_read::{dumps_show_traces, faults_name_streams};
 use vhdl_writer::{checked_nets_carry, each_signal_is_assigned_once, first_clash_is_reported};
 
 /// The laws of answers: to given words and files there is an answer, and one.
@@ -55,6 +59,7 @@ pub fn answers_are_one()
     projects_have_one_answer();
     compatible_ports_carry();
     texts_have_one_outcome();
+    faults_name_streams();
 }
 
 /// The table of causes: each row's answer comes exactly where its cause stands in the words and the files, and each answer is of a
@@ -70,9 +75,9 @@ pub fn causes_are_told()
     ensures no_streamlet { ExactlyWhere rows.NoStreamlet NoStreamletCause }
     ensures name_clash { ExactlyWhere rows.NameClash ClashCause }
     ensures no_carrier { ExactlyWhere rows.NoCarrier NoCarrierCause }
-    ensures file_text { ExactlyWhere rows.TextFault TextFaultCause }
+    ensures file_text { ExactlyWhere rows.TextFault FaultCause }
     ensures other_header { ExactlyWhere rows.OtherHeader OtherHeaderCause }
-    ensures count_not_multiple { ExactlyWhere rows.CountNotMultiple CountNotMultipleCause }
+    ensures count_not_multiple { ExactlyWhere rows.CountNotMultiple CountCause }
     ensures not_finished { ExactlyWhere rows.NotFinished NotFinishedCause }
     ensures link_fault { ExactlyWhere rows.NotLinked LinkFaultCause }
     ensures no_path { ExactlyWhere rows.NoPath NoPathCause }
@@ -131,8 +136,8 @@ pub fn written_designs_are_wired()
 
 /// The laws of `bench` and of `testbench`. Each text that they write is that of the testbench which drives the port with the value by the plan: under
 /// any ready bits and any orders of its processes each stream shows the run of its planned transfers; and `sim` of it, with the cycles and the ready
-/// bits of the plan, gives what `drive` gives. `bench` accepts and refuses exactly what `drive` does, the length of the output aside. `testbench`
-/// writes what `bench` writes of the texts that the test holds.
+/// bits of the plan, gives what `drive` gives. `bench` accepts and refuses exactly what `drive` does, the length of the output aside. The port of
+/// each test has a word that names it, and with each such word `bench` writes of the texts that the test holds what `testbench` writes.
 pub fn benches_drive_ports()
     ensures written { WrittenBenchesDrive }
     ensures tested { WrittenTestbenchesDrive }
@@ -141,4 +146,26 @@ pub fn benches_drive_ports()
     ensures alike { TestbenchesAreBenches }
 {
     benches_show_their_runs();
+}
+
+/// The laws of `vcd`, over the words and the files alone. Each text that it writes is that of the trace that the dump shows of the port: the values of
+/// its signals just before each rising edge of the clock. The trace has the heads of the port, and the text is read as this trace. Where a dump
+/// shows a trace of a port, the answer is its text, if it is not too long.
+pub fn dumps_are_sampled()
+    ensures written { WrittenDumpsAreShown }
+    ensures shown { ShownDumpsAreWritten }
+{
+    traces_are_read_as_spelled();
+    driven_texts_are_traces();
+    dumps_show_traces();
+}
+
+/// The law of `gen`, over the words and the files alone. Each text that it writes is the summary of the job that the seed and the count make of
+/// the port. The job drives the port with a value of at most 1,000,000 leaves by a plan that is always ready; the text that `drive` makes of
+/// this value and plan is that of a trace, which breaks no rule, ends whole on each stream and carries the value. The summary has what a survey
+/// counts in this trace, its cycles, the length of the text of what it carries, and the sum of the bytes of its text.
+pub fn jobs_are_reported()
+    ensures { WrittenSummariesAreOfJobs }
+{
+    jobs_are_carried();
 }

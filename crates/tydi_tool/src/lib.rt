@@ -20,6 +20,7 @@ mod driven_text;
 mod driving;
 mod ending;
 mod gather;
+mod jobs;
 mod laws;
 mod link;
 mod loading;
@@ -37,13 +38,15 @@ mod status;
 mod texts;
 mod traces;
 mod trees;
+mod vcd;
+mod vcd_file;
 mod vhdl;
 mod words;
 
 pub use answer::{Answer, Reply};
 pub use laws::{
     answers_are_one, benches_drive_ports, carried_traces_arrive, causes_are_told, drives_are_legal,
-    values_are_read_back, written_designs_are_wired,
+    dumps_are_sampled, jobs_are_reported, values_are_read_back, written_designs_are_wired,
 };
 pub use output::Output;
 pub use running::run;

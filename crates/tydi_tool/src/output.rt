@@ -1,6 +1,8 @@
 ghost use Rattle.std.specs.Prelude.{◌≡◌, ◌<◌, ◌-◌, ◌++◌, length, OnOk};
 ghost use Rattle.bench_run.specs.TextLeft as benches;
 ghost use Rattle.port_drive.specs.PortText.{text_left};
+ghost use Rattle.vcd_read.specs.Kept.{bytes_of};
+ghost use Rattle.value_text.specs.Pieces as values;
 ghost use Rattle.vhdl_writer.specs.Designs as designs;
 ghost use Rattle.tydi_tool.specs.Output.{lines_left};
 
@@ -14,6 +16,8 @@ use std::marker::Model;
 use testbench::BenchPieces;
 use trace_pieces::TracePieces;
 use tydi_base::{List, Memory};
+use value_text::ValuePieces;
+use vcd_read::DumpText;
 use vhdl_writer::DesignPieces;
 
 /// A text for out, which is made piece by piece as it is written. Contracts see what is left of it.
@@ -88,6 +92,28 @@ impl Output {
     {
         Output {
             source: Source::Lines(pieces),
+            left,
+        }
+    }
+
+    /// The text of the trace that a dump shows.
+    pub(crate) fn dump(text: DumpText) -> Output
+        ensures { result ≡ bytes_of text }
+    {
+        let left = text.header.len() as u64 + text.rows.len() as u64;
+        Output {
+            source: Source::Dump(text),
+            left,
+        }
+    }
+
+    /// The text of the value of a port, which has so many bytes.
+    pub(crate) fn value(pieces: ValuePieces, left: u64) -> Output
+        requires { left ≡ length (values.text_left pieces) }
+        ensures { result ≡ values.text_left pieces }
+    {
+        Output {
+            source: Source::Value(pieces),
             left,
         }
     }

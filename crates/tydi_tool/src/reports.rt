@@ -2,7 +2,7 @@
 
 ghost use Rattle.std.specs.Prelude.{◌≡◌, ◌<◌, ◌++◌, length, IfOk, OnOk};
 ghost use Rattle.tydi_tool.specs.Ask.{Judges};
-ghost use Rattle.tydi_tool.specs.Lines.{offence_line, pending_line, unclosed_line, counts_line, legal_text};
+ghost use Rattle.tydi_tool.specs.Lines.{offence_line, pending_line, unclosed_line, counts_line, counts_text, legal_text};
 ghost use Rattle.tydi_tool.specs.Reports.{Reports, ReportsEnd, IsFoundAmong, IsUnfinished, path_of_stream};
 ghost use Rattle.tydi_tool.specs.declared.answer.Answer.TheVariants as answers;
 
@@ -49,10 +49,22 @@ fn legal(alloc: Global, heads: &[Head], counts: &[(u64, u64)]) -> Result<List<u8
     ensures { IfOk result (λ text. text ≡ legal_text heads.now counts.now) }
 {
     let mut text = List::from_slice(alloc, b"legal\n")?;
-    'streams: for (head, count) in heads.iter().zip(counts) {
-        push_counts(&head.path, count.0, count.1, &mut text)?;
-    }
+    push_all_counts(heads, counts, &mut text)?;
     Ok(text)
+}
+
+/// Adds the lines of the streams with these heads, each with its transfers and its packets.
+pub(crate) fn push_all_counts(
+    heads: &[Head],
+    counts: &[(u64, u64)],
+    text: &mut List<u8>,
+) -> Result<(), Memory>
+    ensures { OnOk result (text.new ≡ text.old ++ counts_text heads.now counts.now) }
+{
+    'streams: for (head, count) in heads.iter().zip(counts) {
+        push_counts(&head.path, count.0, count.1, text)?;
+    }
+    Ok(())
 }
 
 /// Adds the line of a stream with its transfers and its packets.

@@ -18,7 +18,9 @@ ghost use Rattle.tydi_tool.specs.Run.{
   IsRefusal,
   ErrFront,
   StartedAtEnd,
+  WritesJob,
   WritesReadBack,
+  WritesSampled,
   WritesCarried,
   WritesWired,
   WritesLines,
@@ -30,7 +32,10 @@ ghost use Rattle.tydi_tool.specs.declared.status.Status.TheVariants as statuses;
 
 use crate::commands::reply_to;
 use crate::delivery::{deliver, deliver_line};
-use crate::laws::{benches_drive_ports, carried_traces_arrive, written_designs_are_wired};
+use crate::laws::{
+    benches_drive_ports, carried_traces_arrive, dumps_are_sampled, jobs_are_reported,
+    written_designs_are_wired,
+};
 use crate::status::Status;
 use crate::words::words_of;
 use std::alloc::Global;
@@ -89,6 +94,13 @@ pub fn run<S: Store, O: Sink, E: Sink>(
     // orders of its processes it shows the run of the planned transfers, and `sim` of it, under the plan's cycles and ready bits, gives what `drive` gives.
     ensures benched { result ≡ statuses.Done → IfSome (S.files store.old) (λ known. WritesLines known (request_of words.now) (O.taken out.old)
         (O.taken out.new)) }
+    // Where a dump is sampled, out has exactly the text of the trace that it shows of the port, which is read as this trace.
+    ensures sampled { result ≡ statuses.Done → IfSome (S.files store.old) (λ known. WritesSampled known (request_of words.now) (O.taken out.old)
+        (O.taken out.new)) }
+    // Where a job of a port is made, out has exactly the text of its summary. The job drives the port with a value by a plan that is always ready, and
+    // its trace breaks no rule, ends whole and carries the value.
+    ensures generated { result ≡ statuses.Done → IfSome (S.files store.old) (λ known. WritesJob known (request_of words.now) (O.taken out.old)
+        (O.taken out.new)) }
     // Where no count of faults rose, the run ends with that answer, as Usage, or for want of memory.
     ensures complete { (Rose (S.faults store.old) (S.faults store.new) → ⊥) →
         (Rose (O.faults out.old) (O.faults out.new) → ⊥) → (Rose (E.faults err.old) (E.faults err.new) → ⊥) →
@@ -111,6 +123,8 @@ pub fn run<S: Store, O: Sink, E: Sink>(
     carried_traces_arrive();
     written_designs_are_wired();
     benches_drive_ports();
+    dumps_are_sampled();
+    jobs_are_reported();
     run_words(alloc, words, store, out, err)
 }
 

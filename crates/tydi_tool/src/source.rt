@@ -4,6 +4,8 @@ use scheduler::Planner;
 use testbench::BenchPieces;
 use trace_pieces::TracePieces;
 use tydi_base::List;
+use value_text::ValuePieces;
+use vcd_read::DumpText;
 use vhdl_writer::DesignPieces;
 
 /// Where the pieces of a text come from.
@@ -19,4 +21,8 @@ pub(crate) enum Source {
     Design(DesignPieces),
     /// The testbench of a port, whose statements are made one after another.
     Lines(BenchPieces<Planner>),
+    /// The trace that a dump shows: its header, and its rows.
+    Dump(DumpText),
+    /// The value of a port, whose text is made part after part.
+    Value(ValuePieces),
 }

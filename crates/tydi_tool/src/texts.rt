@@ -18,12 +18,12 @@ use value_text::ValueFault;
 
 /// Reads the text of the value of this word, of the port that was split.
 #[derive(Clone, Copy, Drop)]
-pub(crate) struct ValueText<'a, 'p> {
+pub(crate) struct ValueText<'a> {
     pub(crate) word: &'a Text,
-    pub(crate) split: &'a Split<'p>,
+    pub(crate) split: &'a Split<'a>,
 }
 
-impl<'a, 'p> TextReader<PortValue> for ValueText<'a, 'p> {
+impl<'a> TextReader<PortValue> for ValueText<'a> {
     ghost reads = { λ text bytes read. ReadsValue text.word.now (plain_split text.split.now) bytes read };
 
     fn read(&self, alloc: Global, bytes: &[u8]) -> Result<PortValue, Reply> {
@@ -33,12 +33,12 @@ impl<'a, 'p> TextReader<PortValue> for ValueText<'a, 'p> {
 
 /// Reads the text of the plan of this word, of the port that was split.
 #[derive(Clone, Copy, Drop)]
-pub(crate) struct PlanText<'a, 'p> {
+pub(crate) struct PlanText<'a> {
     pub(crate) word: &'a Text,
-    pub(crate) split: &'a Split<'p>,
+    pub(crate) split: &'a Split<'a>,
 }
 
-impl<'a, 'p> TextReader<Plan> for PlanText<'a, 'p> {
+impl<'a> TextReader<Plan> for PlanText<'a> {
     ghost reads = { λ text bytes read. ReadsPlan text.word.now (plain_split text.split.now) bytes read };
 
     fn read(&self, alloc: Global, bytes: &[u8]) -> Result<Plan, Reply> {

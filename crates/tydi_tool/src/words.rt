@@ -1,4 +1,7 @@
-ghost use Rattle.std.specs.Prelude.{◌≡◌, ◌&&◌, option_map};
+ghost use Rattle.std.specs.Prelude.{◌≡◌, ◌≤◌, ◌<◌, ◌&&◌, IfSome, option_map};
+ghost use Rattle.std.specs.List.{list_all};
+ghost use Rattle.tydi_base.specs.Name.{is_name};
+ghost use Rattle.tydi_base.specs.Pieces.{pieces_of};
 ghost use Rattle.tydi_tool.specs.Words.{
   request_of,
   request_from,
@@ -14,9 +17,20 @@ ghost use Rattle.tydi_tool.specs.Words.{
   vhdl_request,
   bench_request,
   testbench_request,
+  vcd_request,
+  is_scope,
+  gen_request,
+  job_request,
+  number_word,
 };
 
-use tydi_base::Text;
+use tydi_base::{Text, first_piece, is_name, read_decimal};
+
+/// The greatest seed of a job.
+const MOST_SEED: u32 = 65_535;
+
+/// The greatest count of a job.
+const MOST_COUNT: u32 = 100_000;
 
 /// A command, with the words that belong to it.
 pub enum Command<'a> {
@@ -105,6 +119,28 @@ pub enum Command<'a> {
         /// The test, as `a::t`.
         test: &'a Text,
     },
+    /// Write the trace of a port that a value change dump shows.
+    Vcd {
+        /// The file of the project.
+        project: &'a Text,
+        /// The port, as `a::b::s.p`.
+        port: &'a Text,
+        /// The scope of its signals, as `top.bench`.
+        scope: &'a Text,
+        /// The file of the dump.
+        file: &'a Text,
+    },
+    /// Write the summary of a job that two numbers make.
+    Gen {
+        /// The file of the project.
+        project: &'a Text,
+        /// The port, as `a::b::s.p`.
+        port: &'a Text,
+        /// The seed.
+        seed: u16,
+        /// How many members each root has, at most 100,000.
+        count: u32,
+    },
 }
 
 /// The command that the words after the program's name spell. None exactly where they spell none. It takes no memory.
@@ -134,6 +170,10 @@ pub fn words_of<'a>(words: &'a [Text]) -> Option<Command<'a>>
         bench_of(rest)
     } else if command.as_str() == "testbench" {
         testbench_of(rest)
+    } else if command.as_str() == "vcd" {
+        vcd_of(rest)
+    } else if command.as_str() == "gen" {
+        gen_of(rest)
     } else {
         None
     }
@@ -271,6 +311,71 @@ fn testbench_of<'a>(words: &'a [Text]) -> Option<Command<'a>>
     }
 }
 
+fn vcd_of<'a>(words: &'a [Text]) -> Option<Command<'a>>
+    ensures { option_map request_from result ≡ vcd_request words.now }
+{
+    match words {
+        [project, port, scope, file]
+            if are_words(project, port) && is_scope(scope) && is_word(file) => {
+            Some(Command::Vcd {
+                project,
+                port,
+                scope,
+                file,
+            })
+        }
+        _ => None,
+    }
+}
+
+fn gen_of<'a>(words: &'a [Text]) -> Option<Command<'a>>
+    ensures { option_map request_from result ≡ gen_request words.now }
+{
+    match words {
+        [project, port, seed, count] if are_words(project, port) => {
+            job_of(
+                project,
+                port,
+                number_of(seed, MOST_SEED),
+                number_of(count, MOST_COUNT),
+            )
+        }
+        _ => None,
+    }
+}
+
+/// The job of a port with a seed and a count. None where one of them is not there.
+fn job_of<'a>(
+    project: &'a Text,
+    port: &'a Text,
+    seed: Option<u32>,
+    count: Option<u32>,
+) -> Option<Command<'a>>
+    requires { IfSome seed (λ number. number < 65536) }
+    ensures { option_map request_from result ≡ job_request project.now port.now seed count }
+{
+    match (seed, count) {
+        (Some(seed), Some(count)) => Some(Command::Gen {
+            project,
+            port,
+            seed: seed as u16,
+            count,
+        }),
+        _ => None,
+    }
+}
+
+/// The number that a word spells in decimal, without leading zeros. None exactly where it spells none, or one above the most.
+fn number_of(word: &Text, most: u32) -> Option<u32>
+    ensures value { result ≡ number_word most word.now }
+    ensures few { IfSome result (λ number. number ≤ most) }
+{
+    match read_decimal(word.as_bytes()) {
+        Some(number) if number <= u64::from(most) => Some(number as u32),
+        _ => None,
+    }
+}
+
 fn are_words(one: &Text, other: &Text) -> bool
     ensures { result ≡ (is_word one.now && is_word other.now) }
 {
@@ -285,4 +390,25 @@ fn is_word(word: &Text) -> bool
         [] | [b'-', ..] => false,
         _ => true,
     }
+}
+
+/// A word of names with a point between each two, one at least.
+fn is_scope(word: &Text) -> bool
+    ensures { result ≡ is_scope word.now }
+{
+    are_names(word.as_bytes())
+}
+
+/// Whether a text is names with a point between each two, one at least.
+fn are_names(text: &[u8]) -> bool
+    ensures { result ≡ list_all is_name (pieces_of 46 text.now) }
+{
+    let mut rest = text;
+    'names: while let Some((name, more)) = first_piece(rest, b'.') {
+        if !is_name(name) {
+            return false;
+        }
+        rest = more;
+    }
+    is_name(rest)
 }

@@ -63,10 +63,34 @@ returns-in-Vhdl g c = record {
       (sym c.in-Vhdl.is) c.vhdl.ensures.decided;
 }
 
+pub returns-in-Bench : goal.returns-in-Bench
+returns-in-Bench g c = record {
+  decided = subst (λ (command : Command). Decides
+      (g.S.Store.files c.args.store.now) (g.S.Store.started c.args.store.now) (g.S.Store.started c.bench.new.store)
+      (Rose (g.S.Store.faults c.args.store.now) (g.S.Store.faults c.bench.new.store)) (ask_of (request_from command)) c.bench.result)
+      (sym c.in-Bench.is) c.bench.ensures.decided;
+}
+
 pub returns-in-Testbench : goal.returns-in-Testbench
 returns-in-Testbench g c = record {
   decided = subst (λ (command : Command). Decides
       (g.S.Store.files c.args.store.now) (g.S.Store.started c.args.store.now) (g.S.Store.started c.testbench.new.store)
       (Rose (g.S.Store.faults c.args.store.now) (g.S.Store.faults c.testbench.new.store)) (ask_of (request_from command)) c.testbench.result)
       (sym c.in-Testbench.is) c.testbench.ensures.decided;
+}
+
+pub returns-in-Vcd : goal.returns-in-Vcd
+returns-in-Vcd g c = record {
+  decided = subst (λ (command : Command). Decides
+      (g.S.Store.files c.args.store.now) (g.S.Store.started c.args.store.now) (g.S.Store.started c.vcd.new.store)
+      (Rose (g.S.Store.faults c.args.store.now) (g.S.Store.faults c.vcd.new.store)) (ask_of (request_from command)) c.vcd.result)
+      (sym c.in-Vcd.is) c.vcd.ensures.decided;
+}
+
+pub returns-in-Gen : goal.returns-in-Gen
+returns-in-Gen g c = record {
+  decided = subst (λ (command : Command). Decides
+      (g.S.Store.files c.args.store.now) (g.S.Store.started c.args.store.now) (g.S.Store.started c.generate.new.store)
+      (Rose (g.S.Store.faults c.args.store.now) (g.S.Store.faults c.generate.new.store)) (ask_of (request_from command)) c.generate.result)
+      (sym c.in-Gen.is) c.generate.ensures.decided;
 }

@@ -14,4 +14,4 @@ pub returns-clause-refused : goal.returns-clause-refused
 returns-clause-refused c = λ known project port value plan line own. refused-benches known project port value plan line own
 
 pub returns-clause-alike : goal.returns-clause-alike
-returns-clause-alike c = λ known after project port value plan test holds text. alike-benches known after project port value plan test holds text
+returns-clause-alike c = alike-benches

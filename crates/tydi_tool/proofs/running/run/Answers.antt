@@ -1,7 +1,7 @@
 use Rattle.tydi_tool.proofs.RunLemmas.{is_done, IsAnswered-run, IsCaused-answered, IsComplete-run, ReportsRead-run, OutFront-run, OutPart-run}
 use Rattle.tydi_tool.proofs.RunLemmas.{LeavesOut-run, Refusal-run, ErrFront-run, LeavesErr-run, StartedAtEnd-run, WritesReadBack-answered}
 use Rattle.tydi_tool.proofs.RunLemmas.{WritesTrace-answered, WritesValue-answered, usage-run, read-run, write-run, write_line-run, memory-run}
-use Rattle.tydi_tool.proofs.RunLemmas.{WritesCarried-answered, WritesWired-answered, usage-exactly, WritesLines-answered}
+use Rattle.tydi_tool.proofs.RunLemmas.{WritesCarried-answered, WritesWired-answered, usage-exactly, WritesLines-answered, WritesSampled-answered, WritesJob-answered}
 use Rattle.tydi_tool.proofs.running.run.Goals as goal
 
 pub returns-clause-read_fault_line : goal.returns-clause-read_fault_line
@@ -75,6 +75,16 @@ pub returns-clause-benched : goal.returns-clause-benched
 returns-clause-benched g c = λ done.
     WritesLines-answered c.benches_drive_ports.ensures.written c.benches_drive_ports.ensures.tested _ _ _ _ _ _ _
     (IsAnswered-run _ _ _ _ _ _ _ _ _ _ _ _ c.run_words.ensures (is_done _ done)) done
+
+pub returns-clause-sampled : goal.returns-clause-sampled
+returns-clause-sampled g c = λ done.
+    WritesSampled-answered c.dumps_are_sampled.ensures.written _ _ _ _ _ _ _ (IsAnswered-run _ _ _ _ _ _ _ _ _ _ _ _ c.run_words.ensures (is_done _ done))
+    done
+
+pub returns-clause-generated : goal.returns-clause-generated
+returns-clause-generated g c = λ done.
+    WritesJob-answered c.jobs_are_reported.ensures _ _ _ _ _ _ _ (IsAnswered-run _ _ _ _ _ _ _ _ _ _ _ _ c.run_words.ensures (is_done _ done))
+    done
 
 pub returns-clause-usage : goal.returns-clause-usage
 returns-clause-usage g c = usage-exactly _ _ _ _ _ _ _ _ _ _ _ _ c.run_words.ensures

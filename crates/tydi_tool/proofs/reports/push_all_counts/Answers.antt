@@ -2,7 +2,7 @@ use Rattle.std.proofs.Common.{◌∙◌, ◌++◌, List, ℕ, sym, ap}
 use Rattle.std.proofs.lemmas.List.{append-nil}
 use Rattle.std.proofs.lemmas.Slice.Zip.{either_empty_from_Zip}
 use Rattle.tydi_tool.proofs.ReportLemmas.{counts_text-ended}
-use Rattle.tydi_tool.proofs.reports.legal.Goals as goal
+use Rattle.tydi_tool.proofs.reports.push_all_counts.Goals as goal
 
 pub returns : goal.returns
 returns c =
