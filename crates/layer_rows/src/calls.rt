@@ -3,8 +3,8 @@
 
 use crate::{
     architectures, checkers, decodes, fractions, levels, links, nests, plan_texts, projects,
-    readings, splits, streams, text_decodes, tokens, traces, traces_written, value_texts, values,
-    vhdl_runs, vhdl_texts, views, words,
+    readings, splits, streams, text_decodes, tokens, traces, traces_written, value_sweeps,
+    value_texts, values, vhdl_runs, vhdl_texts, views, words,
 };
 use std::alloc::Global;
 use std::process::Abort;
@@ -49,6 +49,7 @@ pub(crate) enum Call {
     Viewed,
     Decoded,
     TextDecoded,
+    Swept,
     Level,
     WideNumber,
     Binary,
@@ -135,6 +136,7 @@ fn tell(
         Call::Viewed => views::viewed(alloc, first, second, out),
         Call::Decoded => decodes::decoded(alloc, first, second, out),
         Call::TextDecoded => text_decodes::decoded(alloc, first, second, out),
+        Call::Swept => value_sweeps::swept(alloc, first, second, out),
         Call::ValueText => value_texts::value_text(alloc, first, second, out),
         Call::RawText => value_texts::raw_text(alloc, first, second, out),
         Call::ManyMembers => value_texts::many_members(alloc, first, second, out),

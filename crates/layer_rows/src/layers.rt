@@ -5,8 +5,8 @@ use crate::vhdl_tables::BENCH;
 use crate::vhdl_texts::check_front;
 use crate::{
     architectures, checkers, decodes, fractions, levels, link_tables, nests, plan_tables, projects,
-    readings, splits, streams, text_decodes, tokens, traces, traces_written, value_texts, values,
-    vhdl_tables, views, words,
+    readings, splits, streams, text_decodes, tokens, traces, traces_written, value_tables,
+    value_texts, values, vhdl_tables, views, words,
 };
 use bench_run::traces_of_benches;
 use complexity_rules::{
@@ -115,6 +115,13 @@ fn values_of_traces(rt: HostRuntime) {
     check_calls(&rt, &Call::Decoded, decodes::DECODED);
     check_calls(&rt, &Call::TextDecoded, decodes::DECODED);
     check_calls(&rt, &Call::TextDecoded, text_decodes::TEXT_DECODED);
+}
+
+#[test]
+fn small_values(rt: HostRuntime) {
+    check_calls(&rt, &Call::Swept, value_tables::ELEMENTS);
+    check_calls(&rt, &Call::Swept, value_tables::SYNCHRONICITIES);
+    check_calls(&rt, &Call::Swept, value_tables::NESTED);
 }
 
 #[test]

@@ -53,6 +53,10 @@ mod traces_written;
 #[cfg(test)]
 mod types;
 #[cfg(test)]
+mod value_sweeps;
+#[cfg(test)]
+mod value_tables;
+#[cfg(test)]
 mod value_texts;
 #[cfg(test)]
 mod values;

@@ -61,8 +61,8 @@ pub(crate) const TEXT_DECODED: &[(&str, &str, &str)] = &[
     (BYTES, "", "BadHeader 1"),
 ];
 
-// The outcome of a text for the port of a split, each of whose nodes is carried. The text comes in two pieces.
-fn write_outcome(
+/// The outcome of a text for the port of a split, each of whose nodes is carried. The text comes in two pieces.
+pub(crate) fn write_outcome(
     alloc: Global,
     split: &Split<'_>,
     text: &[u8],

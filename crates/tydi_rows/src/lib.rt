@@ -23,7 +23,13 @@ mod drive_tables;
 #[cfg(test)]
 mod drives;
 #[cfg(test)]
+mod dumps;
+#[cfg(test)]
 mod edge;
+#[cfg(test)]
+mod job_tables;
+#[cfg(test)]
+mod jobs;
 #[cfg(test)]
 mod link_rows;
 #[cfg(test)]
@@ -44,3 +50,5 @@ mod split_tables;
 mod tests;
 #[cfg(test)]
 mod trace_tables;
+#[cfg(test)]
+mod vcd_rows;

@@ -27,7 +27,7 @@ $ check t t
 ! tydi: Usage
 = 2
 # a command that is not built yet
-$ gen p n::s.p 1 2
+$ watch m t
 ! tydi: Usage
 = 2
 # no such file
