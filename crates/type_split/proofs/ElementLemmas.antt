@@ -1,12 +1,12 @@
 -- The types of the elements of the nodes of a type.
-use Rattle.std.proofs.Common.{◌≡◌, ℕ, suc, ◌+◌, ◌≤◌, List, [], ◌∷◌, ◌++◌, All, if◌then◌else◌, ap, sym, subst, arith}
+use Rattle.std.proofs.Common.{ℕ, suc, ◌+◌, ◌≤◌, List, [], ◌∷◌, ◌++◌, All, if◌then◌else◌, ap, sym, subst, arith}
 use Rattle.std.proofs.lemmas.List.Elements.{All-append, All-cons, All-nil}
 use Rattle.logical_types.specs.Faults.{ArePlain, IsPlain, IsValid}
 use Rattle.logical_types.specs.Size.{number_of_nodes}
 use Rattle.logical_types.specs.Size as size
 use Rattle.logical_types.specs.Tree.{Ltype, null, bits, group, union, stream, Parts, no_parts, part}
 use Rattle.logical_types.proofs.PlainTypes.{IsPlain-IsValid, ArePlain-group, ArePlain-union, IsPlain-first, IsPlain-inside, width-IsPlain}
-use Rattle.type_split.specs.Elements.{HasElements, IsElementType, NodesHaveElements}
+use Rattle.type_split.specs.Elements.{HasElements, NodesHaveElements}
 use Rattle.type_split.specs.Nodes.{is_physical, nodes_in, nodes_in_parts, nodes_of, number_of_physical, number_of_streams, node_at, outermost_place, place_inside}
 use Rattle.type_split.specs.Streams.{PlainSplit}
 use Rattle.type_split.specs.declared.place.Place.{Place}

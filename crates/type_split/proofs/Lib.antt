@@ -2,7 +2,7 @@ mod RateLemmas
 mod ValidLemmas
 pub mod CountLemmas
 mod SplitLemmas
-mod KeyLemmas
+mod ClashLemmas
 pub mod ElementLemmas
 pub mod StandingLemmas
 pub mod EndLemmas

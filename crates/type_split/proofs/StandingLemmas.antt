@@ -7,9 +7,9 @@ use Rattle.logical_types.specs.Tree.{Ltype, null, bits, group, union, stream, Pa
 use Rattle.logical_types.specs.Width.{width_of}
 use Rattle.logical_types.specs.declared.ltype.Sync.{Sync}
 use Rattle.logical_types.specs.declared.ltype.Sync.TheVariants as syncs
-use Rattle.type_split.specs.Carried.{is_tied, has_carried, have_carried, is_carried, uncarried_of, uncarried_paths}
+use Rattle.type_split.specs.Carried.{is_tied, has_carried, have_carried, is_carried, uncarried_paths}
 use Rattle.type_split.specs.Nodes.{StreamNode, is_physical, nodes_in, nodes_in_parts, nodes_of, number_of_physical, number_of_streams, node_at, outermost_place, place_inside}
-use Rattle.type_split.specs.Standing.{AreFrom, StandsAt, IsAround, HasDims, NodesStand, NodesHaveDims, roots_in, roots_in_parts, RootsInOrder, IsToldBy, IsTold, AreToldWhereCarried}
+use Rattle.type_split.specs.Standing.{AreFrom, StandsAt, IsAround, HasDims, NodesStand, NodesHaveDims, roots_in, roots_in_parts, RootsInOrder, IsToldBy, AreToldWhereCarried}
 use Rattle.type_split.specs.Streams.{gathered, split_of}
 use Rattle.type_split.specs.Streams as streams
 use Rattle.type_split.specs.declared.place.Place.{Place}

@@ -5,7 +5,6 @@
 #![tactic(auto)]
 
 mod carried;
-mod clash;
 mod counts;
 mod ends;
 mod fault;

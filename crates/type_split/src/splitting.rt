@@ -1,6 +1,6 @@
 //! The nodes of a port's type, found in one walk.
 
-ghost use Rattle.std.specs.Prelude.{◌≡◌, ◌∷◌, [], ◌||◌, nat_lt, length, if◌then◌else◌, Some, None};
+ghost use Rattle.std.specs.Prelude.{◌≡◌, ◌∷◌, [], ◌||◌, nat_lt, false, length, if◌then◌else◌, Some, None};
 ghost use Rattle.logical_types.specs.Tree.{plain, plain_parts, plain_of_stream};
 ghost use Rattle.type_split.specs.Found.{IsFound};
 ghost use Rattle.type_split.specs.Splitting.{Splits, SplitsPart, SplitsParts, AddsNode};
@@ -11,6 +11,7 @@ use crate::split::Node;
 use logical_types::{LType, Part, StreamType};
 use physical_stream::Params;
 use std::alloc::Global;
+use std::mem::replace;
 use tydi_base::{List, Memory, Name, Path, TryClone};
 
 /// The nodes found so far, and the names that lead to the type that is looked at.
@@ -21,6 +22,10 @@ pub(crate) struct Splitting<'t> {
     pub(crate) nodes: List<Node<'t>>,
     /// How many of the nodes have a physical stream.
     pub(crate) physical: u32,
+    /// Whether a physical stream was found whose path is these names.
+    pub(crate) is_taken: bool,
+    /// The path of the first physical stream that has the path of an earlier one.
+    pub(crate) clash: Option<Path>,
 }
 
 impl<'t> Splitting<'t> {
@@ -29,12 +34,16 @@ impl<'t> Splitting<'t> {
         ensures names { result.names ≡ [] }
         ensures nodes { result.nodes ≡ [] }
         ensures physical { result.physical ≡ 0 }
+        ensures free { result.is_taken ≡ false }
+        ensures clash { result.clash ≡ None }
     {
         Splitting {
             alloc,
             names: List::new(alloc),
             nodes: List::new(alloc),
             physical: 0,
+            is_taken: false,
+            clash: None,
         }
     }
 
@@ -69,7 +78,9 @@ impl<'t> Splitting<'t> {
         ensures { SplitsPart self.old self.new result place.now part.now.name (plain part.now.ltype) }
     {
         self.names.push(part.name.try_clone(self.alloc)?)?;
+        let was_taken = replace(&mut self.is_taken, false);
         self.add_type(&part.ltype, place)?;
+        self.is_taken = was_taken;
         self.names.pop();
         Ok(())
     }
@@ -82,12 +93,14 @@ impl<'t> Splitting<'t> {
         let Some(found) = Found::at(stream, place, self.nodes.len()) else {
             return Ok(());
         };
+        let was_taken = self.is_taken;
         self.add_node(stream, place, &found)?;
         self.add_type(&stream.element, &found.inside)?;
+        self.is_taken = was_taken;
         Ok(())
     }
 
-    /// Adds the node of a Stream.
+    /// Adds the node of a Stream. Its names are taken from then on where it has a physical stream.
     fn add_node(
         &mut self,
         stream: &'t StreamType,
@@ -99,6 +112,9 @@ impl<'t> Splitting<'t> {
     {
         let path = Path::from_names(self.names.try_clone(self.alloc)?);
         let is_physical = is_physical(&found.params, stream.keep);
+        if is_physical && self.is_taken && self.clash.is_none() {
+            self.clash = Some(path.try_clone(self.alloc)?);
+        }
         self.nodes.push(Node {
             path,
             parent: place.parent,
@@ -111,6 +127,7 @@ impl<'t> Splitting<'t> {
             element: &stream.element,
         })?;
         self.physical = self.physical.saturating_add(u32::from(is_physical));
+        self.is_taken = is_physical || self.is_taken;
         Ok(())
     }
 }

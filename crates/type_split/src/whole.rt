@@ -10,10 +10,9 @@ use crate::fault::SplitFault;
 use crate::place::Place;
 use crate::split::Split;
 use crate::splitting::Splitting;
-use crate::{clash, streams};
+use crate::streams;
 use logical_types::{StreamType, around_outermost};
 use std::alloc::Global;
-use tydi_base::TryClone;
 
 /// Splits a port's type that passed `logical_types::check` into its nodes, its physical streams and its roots. NameClash comes
 /// exactly where two physical streams have one path, Memory where there is none for the split.
@@ -24,13 +23,13 @@ pub fn split_type(alloc: Global, ltype: &StreamType) -> Result<Split<'_>, SplitF
     ensures apart { IfOk result (λ _. clash_of (plain_of_stream ltype.now) ≡ None) }
     ensures clash { IfErr result (Blames (clash_of (plain_of_stream ltype.now))) }
 {
-    let mut found = Splitting::new(alloc);
-    found.add_stream(ltype, &outermost_place())?;
-    let nodes = found.nodes;
-    let streams = streams::streams_of(alloc, nodes.as_slice())?;
-    if let Some(path) = clash::clash_of(alloc, streams.as_slice())? {
-        return Err(SplitFault::NameClash(path.try_clone(alloc)?));
+    let mut splitting = Splitting::new(alloc);
+    splitting.add_stream(ltype, &outermost_place())?;
+    let Splitting { nodes, clash, .. } = splitting;
+    if let Some(path) = clash {
+        return Err(SplitFault::NameClash(path));
     }
+    let streams = streams::streams_of(alloc, nodes.as_slice())?;
     let roots = streams::roots_of(alloc, nodes.as_slice())?;
     Ok(Split {
         nodes,

@@ -1,4 +1,4 @@
-use Rattle.std.proofs.Common.{ℕ, ◌+◌, ◌≤◌, length, drop}
+use Rattle.std.proofs.Common.{◌+◌, ◌≤◌, length, drop}
 use Rattle.logical_types.specs.Tree.{plain_parts}
 use Rattle.type_split.specs.Nodes.{streams_in_parts}
 use Rattle.type_split.proofs.EndLemmas.{AreLeft}

@@ -1,4 +1,4 @@
-use Rattle.std.proofs.Common.{List, map, drop, get_or, ap, subst, sym, ◌≡◌, ◌∙◌}
+use Rattle.std.proofs.Common.{List, map, drop, ap, ◌∙◌}
 use Rattle.type_split.specs.declared.split.Node.{Node}
 use Rattle.type_split.specs.Streams.{node_view, plain_split}
 use Rattle.type_split.proofs.EndLemmas.{ends-whole, first_node}

@@ -1,4 +1,4 @@
-use Rattle.std.proofs.Common.{◌≡◌, ℕ, List, ap, sym, ◌∙◌, subst, arith}
+use Rattle.std.proofs.Common.{◌≡◌, ℕ, List, refl, ap, sym, ◌∙◌, subst, arith}
 use Rattle.logical_types.specs.declared.ltype.Part.{Part}
 use Rattle.logical_types.specs.Tree.{Ltype, group, union, plain, plain_parts}
 use Rattle.logical_types.proofs.PlainLemmas.{plain-Group, plain-Union}
@@ -31,6 +31,7 @@ add_parts-returns t c = λ can.
 
 pub add_stream-returns : goal.add_stream-returns
 add_stream-returns t c = λ can.
-    stream-added c.args.self.now c.add_node.new.self c.add_type.new.self c.args.place.now c.args.stream.now c.in-Some.found
+    let added = stream-added c.args.self.now c.add_node.new.self c.add_type.new.self c.args.place.now c.args.stream.now c.in-Some.found
     (subst (λ (n : ℕ). IsFound c.args.stream.now c.args.place.now n c.in-Some.found) c.len.ensures c.in-Some.ensures.found) (c.in-Some.ensures.flows can.valid can.flows) can
-    (c.in_ok-add_node.ensures (omega (arith, can.nodes, can.streams))) c.in_ok-add_type.ensures
+    (c.in_ok-add_node.ensures (omega (arith, can.nodes, can.streams))) c.in_ok-add_type.ensures in
+    record { names = added.names; nodes = added.nodes; physical = added.physical; clash_is = added.clash_is; taken_is = refl }
