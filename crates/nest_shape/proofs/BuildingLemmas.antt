@@ -1,6 +1,7 @@
 -- The state that a builder keeps of the items that it was given.
-use Rattle.std.proofs.Common.{◌≡◌, ◌∙◌, ℕ, zero, suc, ◌+◌, ◌-◌, ◌<◌, ◌≤◌, Bool, true, false, not, cond, ◌==◌, nat_le, take, List, [], ◌∷◌, ◌++◌, length, get_or, Option, Some, None, refl, sym, ap, subst, append_assoc, arith}
+use Rattle.std.proofs.Common.{◌≡◌, ◌∙◌, ℕ, zero, suc, ◌+◌, ◌-◌, ◌<◌, ◌≤◌, Bool, true, false, not, cond, ◌==◌, nat_le, take, List, [], ◌∷◌, ◌++◌, length, get_or, set, Option, Some, None, refl, sym, ap, subst, append_assoc, arith}
 use Rattle.std.specs.Prelude.{slice_get}
+use Rattle.std.specs.List.{slice_index_or}
 use Rattle.std.proofs.lemmas.List.{append-nil}
 use Rattle.std.proofs.lemmas.Bool.{not-true, or_from}
 use Rattle.std.proofs.lemmas.Bool.Decides.{nat_tests}
@@ -19,7 +20,7 @@ use Rattle.nest_shape.specs.declared.nest.Nest.{Nest}
 use Rattle.nest_shape.specs.declared.nest.Nest.TheVariants as nests
 use Rattle.nest_shape.specs.declared.builder.Open.{Open}
 use Rattle.nest_shape.specs.declared.builder.Builder.{Builder}
-use Rattle.nest_shape.specs.Building.{items_of_open, Descends, level_after, MayTakeClose, StandsFor, Takes, AddsTo, Keeps, dims_of}
+use Rattle.nest_shape.specs.Building.{items_of_open, Descends, level_after, MayTakeClose, StandsFor, Takes, AddsTo, IsPushed, Keeps, dims_of}
 use Rattle.nest_shape.specs.Tree.{plain}
 use Rattle.nest_shape.specs.Flat.{flat, HasDepth, IsSeries, flat_form}
 use Rattle.nest_shape.specs.Shape.{BreaksNesting, LeavesOpen, IsSeriesOf}
@@ -120,6 +121,29 @@ AddsTo-taken dims depth begun taken new members more one takes added pushed deep
       (Descends-one_more (suc dims) taken (record { depth = depth; members = more }) takes.descends
       (subst (IsSeries depth) (sym added) (IsSeries-one_more depth members one takes.series deep)));
 }
+
+-- a nest was added to the innermost open ones, which have this depth
+pub AddsTo-pushed : (dims depth : ℕ) (begun new : List Open) (one : Nest) (is : IsPushed begun new one) → (is.innermost.depth == depth) ≡ true
+    → Descends (suc dims) begun depth → HasDepth depth (plain one) → AddsTo dims depth begun new one
+AddsTo-pushed dims depth begun new one is test falls deep =
+    let same : is.innermost.depth ≡ depth = same_by_test is.innermost.depth depth test in
+    let more = is.innermost.members ++ one ∷ [] in
+    AddsTo-taken dims depth begun is.front new is.innermost.members more one (Takes-last dims depth begun is.front is.innermost is.was test falls) refl
+    (is.is ∙ ap (λ (d : ℕ). is.front ++ record { depth = d; members = more } ∷ []) same) deep
+
+-- the last of open nests, and those that another stands in its place
+pub record LastSet (begun : List Open) (at : ℕ) (innermost one : Open) : Type 0 where
+  pub front : List Open
+  pub was : begun ≡ front ++ innermost ∷ []
+  pub is : set begun at one ≡ front ++ one ∷ []
+
+pub last-set : (begun : List Open) (at : ℕ) (innermost one : Open) → length begun ≡ suc at → innermost ≡ slice_index_or begun at innermost → LastSet begun at innermost one
+last-set [] at innermost one count found = absurd (omega (arith, count))
+last-set (first ∷ []) zero innermost one count found = record { front = []; was = ap (λ (o : Open). o ∷ []) (sym found); is = refl }
+last-set (first ∷ second ∷ more) zero innermost one count found = absurd (omega (arith, count))
+last-set (first ∷ more) (suc at) innermost one count found =
+    let rest = last-set more at innermost one (omega (arith, count)) found in
+    record { front = first ∷ rest.front; was = ap (λ (l : List Open). first ∷ l) rest.was; is = ap (λ (l : List Open). first ∷ l) rest.is }
 
 -- ---- one item more
 

@@ -38,6 +38,13 @@ pub record AddsTo (dims depth : ℕ) (old new : List Open) (one : Nest) : Type 0
   pub spelled : items_of_open new ≡ items_of_open old ++ flat depth (plain one)
   pub descends : Descends (suc dims) new depth
 
+-- a nest was added to the innermost open ones
+pub record IsPushed (old new : List Open) (one : Nest) : Type 0 where
+  pub front : List Open
+  pub innermost : Open
+  pub was : old ≡ front ++ innermost ∷ []
+  pub is : new ≡ front ++ record { depth = innermost.depth; members = innermost.members ++ one ∷ [] } ∷ []
+
 -- the state kept of these items
 pub record Keeps (dims level : ℕ) (begun : List Open) (done : List Item) : Type 0 where
   pub spelled : items_of_open begun ≡ done

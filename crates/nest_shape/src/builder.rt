@@ -4,7 +4,7 @@ ghost use Rattle.std.specs.Prelude.{◌≡◌, ◌==◌, ◌≤◌, ◌<◌, ◌
 ghost use Rattle.physical_stream.specs.Shape.{is_misplaced, may_close, tail_of};
 ghost use Rattle.physical_stream.specs.declared.item.Item.{Item};
 ghost use Rattle.physical_stream.specs.declared.item.Item.TheVariants.{Close, Elem};
-ghost use Rattle.nest_shape.specs.Building.{AddsTo, Descends, MayTakeClose, StandsFor, Takes, dims_of};
+ghost use Rattle.nest_shape.specs.Building.{AddsTo, Descends, IsPushed, MayTakeClose, StandsFor, Takes, dims_of};
 ghost use Rattle.nest_shape.specs.Flat.{HasDepth};
 ghost use Rattle.nest_shape.specs.Shape.{ClosesBelow, IsSeriesOf, LeavesOpen};
 ghost use Rattle.nest_shape.specs.Tree.{plain};
@@ -141,7 +141,10 @@ impl Builder {
         ensures dims { dims_of self.new ≡ dims_of self.old }
         ensures level { self.new.level ≡ self.old.level }
     {
-        let mut members = self.take_members(depth);
+        if self.has_open(depth) {
+            return push_innermost(&mut self.begun, nest);
+        }
+        let mut members = List::new(self.alloc);
         members.push(nest)?;
         self.begun.push(Open { depth, members })
     }
@@ -169,5 +172,16 @@ impl Builder {
             Some(innermost) => innermost.depth == depth,
             None => false,
         }
+    }
+}
+
+/// Adds a nest to the innermost of open ones. Memory comes too where none is open.
+fn push_innermost(begun: &mut List<Open>, nest: Nest) -> Result<(), Memory>
+    ensures { OnOk result (IsPushed begun.old begun.new nest) }
+{
+    let last = begun.len().saturating_sub(1);
+    match begun.get_mut(last) {
+        Some(innermost) => innermost.members.push(nest),
+        None => Err(Memory),
     }
 }
