@@ -25,6 +25,8 @@ pub mod PacketLemmas
 pub mod WalkingLemmas
 pub mod CheckingLemmas
 pub mod TakingLemmas
+pub mod StreamlessLemmas
+pub mod SlotLemmas
 pub mod FillLemmas
 pub mod QueueLemmas
 pub mod RootLemmas

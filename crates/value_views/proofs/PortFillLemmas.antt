@@ -10,7 +10,7 @@ use Rattle.value_views.specs.Comparing.{disagreement_of}
 use Rattle.value_views.specs.Filling.{AreFilled, IsFilling, root_series}
 use Rattle.value_views.specs.Giving.{AreGiven, CanJoin, plain_series}
 use Rattle.value_views.specs.Joining.{HasViews}
-use Rattle.value_views.specs.Series.{NodeSeries, series_of_nodes}
+use Rattle.value_views.specs.Series.{NodeSeries, series_at, series_of_nodes}
 use Rattle.value_views.proofs.CheckingLemmas.{given-whole}
 use Rattle.value_views.proofs.GivenNodeLemmas.{found-within}
 use Rattle.value_views.proofs.JoinLemmas.{agreeing-views-have_values}
@@ -34,6 +34,36 @@ plain-reverse [] = refl
 plain-reverse (one ∷ roots) =
     ap plain_series (reverse-append (one ∷ []) roots) ∙ map-append (λ (s : List Value). map plain s) (reverse roots) (one ∷ [])
     ∙ ap (λ l. l ++ map plain one ∷ []) (plain-reverse roots) ∙ sym (reverse-append (map plain one ∷ []) (plain_series roots))
+
+-- these series are the first of those given
+pub record IsFront (rest given : List (List Value)) : Type 0 where
+  pub behind : List (List Value)
+  pub is : rest ++ behind ≡ given
+
+pub front-whole : (given : List (List Value)) → IsFront given given
+front-whole given = record { behind = []; is = append-nil given }
+
+pub front-shorter : (rest new given : List (List Value)) (one : List Value) → rest ≡ new ++ one ∷ [] → IsFront rest given → IsFront new given
+front-shorter rest new given one is front =
+    record { behind = one ∷ front.behind; is = sym (append_assoc new (one ∷ []) front.behind) ∙ ap (λ (l : List (List Value)). l ++ front.behind) (sym is) ∙ front.is }
+
+pub length-shorter : (rest new : List (List Value)) (one : List Value) → rest ≡ new ++ one ∷ [] → length rest ≡ suc (length new)
+length-shorter rest new one is = ap length is ∙ longer new one
+  where
+    longer : (l : List (List Value)) (x : List Value) → length (l ++ x ∷ []) ≡ suc (length l)
+    longer [] x = refl
+    longer (y ∷ l) x = ap suc (longer l x)
+
+series-behind : (new behind : List (List Value)) (one : List Value) → series_at (length new) (plain_series (new ++ one ∷ behind)) ≡ map plain one
+series-behind [] behind one = refl
+series-behind (first ∷ new) behind one = series-behind new behind one
+
+-- the last of the first series stands at its number
+pub front-last : (rest new given : List (List Value)) (one : List Value) → rest ≡ new ++ one ∷ [] → IsFront rest given → series_at (length new) (plain_series given) ≡ map plain one
+unfolding front-shorter
+front-last rest new given one is front =
+    let shorter = front-shorter rest new given one is front in
+    ap (λ (l : List (List Value)). series_at (length new) (plain_series l)) (sym shorter.is) ∙ series-behind new front.behind one
 
 pub filling-done : (split : PlainSplit) (views : List (List nests.Tree)) (given : List (List Tree)) (number : ℕ) (queues : ℕ → List Tree) (roots value : List (List Value)) → CanJoin split views
     → AreGiven split views 0 given → disagreement_of split views ≡ None → number ≡ 0 → value ≡ reverse roots

@@ -7,7 +7,7 @@ use Rattle.logical_types.specs.Tree.{Ltype, Parts}
 use Rattle.logical_types.specs.Tree as types
 use Rattle.type_split.specs.Nodes.{number_of_streams, streams_in_parts}
 use Rattle.logical_value.specs.Element.{set_variant_apart}
-use Rattle.logical_value.specs.Tree.{Tree, word, group, union, Trees, no_trees, tree, trees_of, plain}
+use Rattle.logical_value.specs.Tree.{Tree, group, union, Trees, no_trees, tree, trees_of, plain}
 use Rattle.logical_value.specs.declared.value.Value.{Value}
 use Rattle.logical_value.specs.declared.value.Value.TheVariants as made
 use Rattle.logical_value.proofs.PlainLemmas.{plain-List, trees_of-map}
@@ -109,15 +109,6 @@ taken_stream old new number element user settings one value more result tied wai
       },
     ))
     (takes value more (waits.takes.1 tied))
-
-pub taken_bits : (old : ℕ → List Tree) (number width : ℕ) (one value : Tree) (more : List Tree) {E : Type 0} (result : Result Value E) → Waits old number (types.bits width) one value more
-    → ((bits : List Bool) → one ≡ word bits → IfOk result (λ copy. plain copy ≡ word bits))
-    → IfOk result (λ filled. (plain filled ≡ value) × IsTaken old old number (types.bits width) more)
-taken_bits old number width one (word bits) more result waits copies =
-    map_ok result (λ copy. plain copy ≡ word bits) (λ filled. (plain filled ≡ word bits) × IsTaken old old number (types.bits width) more)
-    (λ filled is. (is, record { takes = tt; kept = λ k outside. refl }))
-    (copies bits (sym waits.same))
-taken_bits old number width one value more result waits copies = absurd waits.element
 
 joined_more : (filled : List Value) (value : Value) (some : Trees) → joined_trees (map plain (filled ++ value ∷ [])) some ≡ joined_trees (map plain filled) (tree (plain value) some)
 joined_more [] value some = refl

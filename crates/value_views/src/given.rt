@@ -21,7 +21,7 @@ use logical_types::{LType, Part, StreamType, Sync};
 use logical_value::{UnpackFault, Value, unpack};
 use nest_shape::Nest;
 use std::alloc::Global;
-use tydi_base::{Bits, List, Memory};
+use tydi_base::{Bits, List, Memory, TryClone};
 use type_split::{Node, Split};
 
 /// The series of each node of a port, that its views give.
@@ -149,7 +149,7 @@ fn unpack_nest(alloc: Global, element: &LType, nest: &Nest) -> Result<Value, Mem
     }
 }
 
-/// The value of a word of this type.
+/// The value of a word of this type. That of a Bits is the word.
 fn unpack_word(alloc: Global, element: &LType, word: &Bits) -> Result<Value, Memory>
     requires plain { IsPlain (plain element.now) }
     requires few { number_of_nodes (plain element.now) ≤ 65536 }
@@ -157,6 +157,10 @@ fn unpack_word(alloc: Global, element: &LType, word: &Bits) -> Result<Value, Mem
     requires stands { StandsForSome (plain element.now) word.now }
     ensures { IfOk result (λ value. values.plain value ≡ value_of (plain element.now) word.now) }
 {
+    if let LType::Bits(_) = element {
+        let copy = word.try_clone(alloc)?;
+        return Ok(Value::Word(copy));
+    }
     match unpack(alloc, element, word) {
         Ok(value) => Ok(value),
         Err(UnpackFault::Memory) => Err(Memory),

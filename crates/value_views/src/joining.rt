@@ -31,7 +31,7 @@ pub fn join(alloc: Global, split: &Split<'_>, views: &[List<Nest>]) -> Result<Po
 {
     let given = given_series(alloc, split, views)?;
     check_series(alloc, split, views, given.as_slice())?;
-    Ok(fill_port(alloc, split, views, given.as_slice())?)
+    Ok(fill_port(alloc, split, views, given)?)
 }
 
 /// The value of a port whose nodes have these series, in which whatever stands for a Stream is apart.
@@ -39,20 +39,20 @@ fn fill_port(
     alloc: Global,
     split: &Split<'_>,
     _views: &[List<Nest>],
-    given: &[List<Value>],
+    given: Vec<List<Value>>,
 ) -> Result<PortValue, Memory>
     requires can { CanJoin (plain_split split.now) (plain_views _views.now) }
-    requires given { AreGiven (plain_split split.now) (plain_views _views.now) 0 (plain_series given.now) }
+    requires given { AreGiven (plain_split split.now) (plain_views _views.now) 0 (plain_series given.items) }
     requires agree { disagreement_of (plain_split split.now) (plain_views _views.now) ≡ None }
     ensures { IfOk result (λ value. HasViews (plain_split split.now) (plain_port value) (plain_views _views.now)) }
 {
     let queues = empty_series(alloc, split.nodes.len())?;
     let mut filling = Filling { alloc, queues };
     let mut roots = List::new(alloc);
-    let mut number = split.nodes.len();
-    'nodes: while number > 0 {
-        number -= 1;
-        filling.fill_node(split, given, number, &mut roots)?;
+    let mut rest = given;
+    'nodes: while let Some(ones) = rest.pop() {
+        let number = rest.len();
+        filling.fill_node(split, ones, number, &mut roots)?;
     }
     let roots = reversed(alloc, roots)?;
     Ok(PortValue { roots })

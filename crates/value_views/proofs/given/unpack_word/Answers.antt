@@ -1,10 +1,18 @@
-use Rattle.std.proofs.Common.{subst}
+use Rattle.std.proofs.Common.{◌∙◌, ap, subst, sym}
 use Rattle.logical_types.specs.Tree.{plain}
+use Rattle.logical_types.proofs.PlainLemmas.{plain-Bits}
 use Rattle.logical_value.specs.Agreement.{IsFaultOf}
 use Rattle.logical_value.specs.Tree as values
+use Rattle.logical_value.proofs.PlainLemmas.{plain-Word}
 use Rattle.logical_value.proofs.LawLemmas.{bad_tags_agree_with_none}
+use Rattle.value_views.specs.Words.{value_of}
 use Rattle.value_views.proofs.WordLemmas.{value_of-is}
 use Rattle.value_views.proofs.given.unpack_word.Goals as goal
+
+pub returns-in-Bits : goal.returns-in-Bits
+returns-in-Bits c =
+    plain-Word c.in_ok-copy.copy ∙ ap values.word c.in_ok-copy.ensures
+    ∙ sym (ap (λ t. value_of t c.args.word.now) (ap plain c.in-Bits.is ∙ plain-Bits c.in-Bits.field-0))
 
 pub returns-in-Ok : goal.returns-in-Ok
 returns-in-Ok c = value_of-is (plain c.args.element.now) c.args.word.now (values.plain c.in-Ok.value) c.in-Ok.ensures.agrees c.in-Ok.ensures.streams

@@ -3,7 +3,8 @@ use Rattle.type_split.specs.Nodes.{streams_in_parts}
 use Rattle.logical_value.specs.Tree.{Tree, Trees, plain_values}
 use Rattle.logical_value.specs.Tree.{plain as plain_value}
 use Rattle.value_views.specs.Taking.{FieldsWait, VariantWaits, left}
-use Rattle.value_views.proofs.TakingLemmas.{FieldsLeft, VariantLeft}
+use Rattle.value_views.proofs.SlotLemmas.{FieldsPlaced}
+use Rattle.value_views.proofs.TakingLemmas.{VariantLeft}
 use Rattle.logical_types.specs.Tree.{plain, plain_parts}
 use Rattle.logical_value.proofs.FitLemmas.{size_of, size_of_parts}
 use Rattle.value_views.proofs.filling.Filling.+fill.Given as goal
@@ -17,12 +18,13 @@ decreases-fill_group l = 4 * size_of_parts (plain_parts l.parts.now) + 2
 abbrev pub decreases-fill_fields : goal.decreases-fill_fields
 decreases-fill_fields l = 4 * size_of_parts (plain_parts l.parts.now) + 1
 
--- the fields that are left wait, and once they are filled, all are
+-- the fields from the place on wait, and those before it are filled
 abbrev pub invariant-fill_fields-parts : goal.invariant-fill_fields-parts
 invariant-fill_fields-parts l = record {
+  place : l.at ≡ l.part-index;
   few : streams_in_parts (plain_parts (drop l.part-index l.parts)) + l.next ≤ 65536;
-  rest : (some : Trees) (more : List Tree) → FieldsWait (left l.initial.self) l.number (plain_parts l.parts) (plain_values l.fields) some more
-      → FieldsLeft (left l.initial.self) (left l.self) l.number l.next (plain_parts l.parts) (plain_parts (drop l.part-index l.parts)) (plain_values l.rest) l.initial.filled l.filled some more;
+  rest : (some : Trees) (more : List Tree) → FieldsWait (left l.initial.self) l.number (plain_parts l.parts) (plain_values l.fn.fields) some more
+      → FieldsPlaced (left l.initial.self) (left l.self) l.number l.next (plain_parts l.parts) (plain_parts (drop l.part-index l.parts)) l.filled l.at some more;
 }
 
 abbrev pub decreases-fill_union : goal.decreases-fill_union
