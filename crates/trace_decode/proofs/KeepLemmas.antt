@@ -2,7 +2,7 @@
 use Rattle.std.proofs.Common.{◌≡◌, ◌∙◌, ℕ, zero, suc, ◌+◌, ◌*◌, ◌<◌, ◌≤◌, Bool, true, false, not, ◌&&◌, if◌then◌else◌, List, [], ◌∷◌, ◌++◌, length, take, drop, map, Option, Some, All, OnOk, Result, Ok, Err, MatchBool, add-one, refl, sym, ap, subst, arith, append_assoc, append-nil}
 use Rattle.std.proofs.lemmas.Grind.{flat_map-append}
 use Rattle.std.proofs.Math.Nat.{mul-le-mul_right, suc-mul}
-use Rattle.std.proofs.lemmas.List.{length-drop, length-take-le, map-append}
+use Rattle.std.proofs.lemmas.List.{length-drop, length-take-le, map-append, take_all}
 use Rattle.std.proofs.lemmas.List.Elements.{All-append, All-cons, All-nil}
 use Rattle.physical_stream.specs.Params.{Parameters}
 use Rattle.physical_stream.specs.Cycles.{Cycle, done_in, done_of, items_done}
@@ -21,6 +21,17 @@ use Rattle.complexity_rules.proofs.CheckerLemmas.{items_done-one_more}
 use Rattle.trace_decode.specs.Keeping.{Builds, HasDims, KeepsStream, Takes, are_named, is_named, lane_element}
 use Rattle.trace_decode.specs.Outcome.{users_done}
 use Rattle.trace_decode.specs.declared.stream_kept.StreamKept.{StreamKept}
+
+-- ---- the words of lanes
+
+-- the word of the only lane of a stream is the whole data signal
+pub only_word : (p : Parameters) (t : Transfer) (lane : ℕ) → p.lanes ≡ 1 → lane < p.lanes → Fits p t → t.content ≡ lane_word p t lane
+only_word p t lane one within fits =
+    let first : lane ≡ 0 = omega (arith, one, within) in
+    let none : 0 * p.element ≡ 0 = omega arith in
+    let whole : 1 * p.element ≡ p.element = omega arith in
+    let long : length t.content ≡ p.element = fits.content ∙ ap (λ (n : ℕ). n * p.element) one ∙ whole in
+    sym (ap (λ (n : ℕ). take p.element (drop n t.content)) (ap (λ (n : ℕ). n * p.element) first ∙ none) ∙ take_all p.element t.content (omega (arith, long)))
 
 -- ---- items that are not nested
 

@@ -6,7 +6,7 @@ ghost use Rattle.logical_types.specs.Tree.{plain};
 ghost use Rattle.nest_shape.specs.Building.{MayTakeClose, dims_of};
 ghost use Rattle.nest_shape.specs.Shape.{AreWhole, IsSeriesOf};
 ghost use Rattle.physical_stream.specs.Cycles.{Cycle, StreamTrace, cycle_in};
-ghost use Rattle.physical_stream.specs.Items.{items_of, lane_closes, lane_items, last_bit};
+ghost use Rattle.physical_stream.specs.Items.{items_of, lane_closes, lane_items, lane_word, last_bit};
 ghost use Rattle.physical_stream.specs.Signals.{Fits};
 ghost use Rattle.physical_stream.specs.Shape.{IsNested};
 ghost use Rattle.physical_stream.specs.declared.item.Item.{Item};
@@ -159,7 +159,7 @@ impl StreamKept {
         ensures named { IfOk result (λ named. named ≡ are_named (plain element.now) (lane_items p.now transfer.now lane)) }
     {
         if is_active(transfer, lane) {
-            let word = lane_word(alloc, p, transfer, lane)?;
+            let word = element_word(alloc, p, transfer, lane)?;
             let named = word_has_names(element, tagged, &word);
             self.element(word)?;
             Ok(named)
@@ -247,6 +247,19 @@ impl StreamKept {
             Some(builder) => builder.close(dim),
             None => Ok(()),
         }
+    }
+}
+
+/// The word of this lane. Where the stream has one lane, it is the whole data signal.
+fn element_word(alloc: Global, p: &Params, transfer: &Transfer, lane: u16) -> Result<Bits, Memory>
+    requires fits { Fits p.now transfer.now }
+    requires within { lane < p.now.lanes }
+    ensures { IfOk result (λ word. word ≡ lane_word p.now transfer.now lane) }
+{
+    if p.lanes == 1 {
+        transfer.content.try_clone(alloc)
+    } else {
+        lane_word(alloc, p, transfer, lane)
     }
 }
 
