@@ -2,6 +2,7 @@ mod WordLemmas
 mod WrittenLemmas
 mod InsideLemmas
 mod PendingLemmas
+mod RunLemmas
 mod LineLemmas
 mod TokenLemmas
 mod SyntaxRules

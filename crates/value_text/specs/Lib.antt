@@ -2,6 +2,7 @@ pub mod Canonical
 pub mod Items
 pub mod Inside
 pub mod Pending
+pub mod Runs
 pub mod Pieces
 pub mod Tokens
 pub mod Source

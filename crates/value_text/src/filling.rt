@@ -4,13 +4,10 @@ ghost use Rattle.std.specs.Prelude.{◌≡◌, ◌<◌, ◌++◌, [], length, mi
 ghost use Rattle.tydi_base.specs.Lengths.{most_bytes};
 ghost use Rattle.value_text.specs.Pending.{rest_of};
 
-use crate::pending::Pending;
+use crate::pending::{PIECE, Pending};
 use crate::stepping::step;
 use std::alloc::Global;
 use tydi_base::{List, Memory};
-
-/// A piece ends with the first step that brings it to this many bytes.
-const PIECE: usize = 65_536;
 
 /// Fills an empty piece with the text of parts.
 pub(crate) fn fill<'v>(

@@ -1,6 +1,6 @@
 //! Things that are gone through once, lent or of one's own.
 
-ghost use Rattle.std.specs.Prelude.{◌≡◌, ◌∷◌, [], reverse, MatchOption};
+ghost use Rattle.std.specs.Prelude.{◌≡◌, ◌∷◌, [], reverse, IsTrue, MatchOption};
 ghost use Rattle.value_text.specs.Items.{item_of, items_of};
 
 use tydi_base::List;
@@ -43,6 +43,16 @@ impl<'v, T: Drop> Items<'v, T> {
         ensures { items_of result ≡ list }
     {
         Items::Own(reversed(list))
+    }
+
+    /// Whether none is left.
+    pub(crate) fn is_empty(&self) -> bool
+        ensures { IsTrue result → items_of self.now ≡ [] }
+    {
+        match self {
+            Items::Lent(left) => left.is_empty(),
+            Items::Own(left) => left.is_empty(),
+        }
     }
 
     /// Takes the first. None exactly where there is none.

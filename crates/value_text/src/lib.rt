@@ -20,6 +20,7 @@ mod pieces;
 mod port;
 mod printing;
 mod reading;
+mod runs;
 mod starting;
 mod stepping;
 mod steps;

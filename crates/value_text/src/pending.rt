@@ -3,6 +3,9 @@ use logical_types::{LType, Part, Shared};
 use logical_value::Value;
 use tydi_base::{Bits, List};
 
+/// A piece ends with the first word, name or mark that brings it to this many bytes.
+pub(crate) const PIECE: usize = 65_536;
+
 /// A part of a text that is still to be written.
 #[derive(Drop)]
 pub(crate) enum Pending<'v> {

@@ -6,6 +6,7 @@ ghost use Rattle.value_text.specs.Pending.{Begins, fields_part, nests_part, part
 use crate::beginning::{begin_element, begin_nest};
 use crate::items::{Items, Taken};
 use crate::pending::{FieldsLeft, NestsLeft, Pending};
+use crate::runs::{are_words, step_leaves};
 use std::alloc::Global;
 use tydi_base::{Bits, Hex, List, Memory, TryClone, emit};
 
@@ -27,7 +28,7 @@ pub(crate) fn step<'v>(
     }
 }
 
-/// Begins the first of these nests.
+/// Begins the first of these nests. Where they are words, in no sequence, it writes them up to the end of a piece.
 fn step_nests<'v>(
     alloc: Global,
     nests: NestsLeft<'v>,
@@ -36,6 +37,9 @@ fn step_nests<'v>(
 ) -> Result<(), Memory>
     ensures { OnOk result (Begins (part_text (nests_part nests.entry)) (part_steps (nests_part nests.entry)) left.old left.new out.old out.new) }
 {
+    if are_words(&nests) {
+        return step_leaves(nests, left, out);
+    }
     let NestsLeft {
         element,
         depth,

@@ -1,0 +1,10 @@
+use Rattle.std.proofs.Common.{length, reverse}
+use Rattle.value_text.specs.Runs.{LeavesWritten}
+use Rattle.value_text.proofs.runs.write_own.Given as goal
+
+-- the words that are written, and those that are left, are all
+abbrev pub invariant-leaves : goal.invariant-leaves
+invariant-leaves l = LeavesWritten l.between (reverse l.initial.left) (reverse l.left) l.initial.out l.out
+
+abbrev pub decreases-leaves : goal.decreases-leaves
+decreases-leaves l = length l.left
