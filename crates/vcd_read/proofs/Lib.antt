@@ -3,6 +3,7 @@ mod NameLemmas
 mod WireLemmas
 mod VariableLemmas
 mod WordLemmas
+mod NumberWords
 mod KeptLemmas
 mod ProbeLemmas
 mod SampleLemmas

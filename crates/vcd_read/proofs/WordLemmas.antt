@@ -1,12 +1,14 @@
 -- The words of states.
 use Rattle.std.proofs.Common.{◌≡◌, ◌∙◌, ℕ, zero, suc, ◌+◌, ◌-◌, ◌≤◌, Bool, true, false, List, [], ◌∷◌, ◌++◌, length, map, replicate, Option, Some, None}
-use Rattle.std.proofs.Common.{option_map, if◌then◌else◌, append_assoc, refl, sym, ap, arith}
+use Rattle.std.proofs.Common.{option_map, if◌then◌else◌, ◌==◌, ◌||◌, append_assoc, refl, sym, ap, subst, arith}
 use Rattle.std.specs.List.{list_all}
+use Rattle.std.proofs.lemmas.Bool.{eqb-true}
 use Rattle.std.proofs.lemmas.List.{append-nil, length-append, length-replicate}
 use Rattle.tydi_base.specs.Binary.{binary_bits, binary_word, is_binary_digit}
 use Rattle.tydi_base.specs.Bits.{zero_bits}
-use Rattle.vcd_read.specs.Letters.{letter_of}
-use Rattle.vcd_read.specs.Words.{bit_of, filled, filling, onto_states, states_of, under, word_of}
+use Rattle.tydi_base.proofs.PlainWords.{and_parts}
+use Rattle.vcd_read.specs.Letters.{ReadsStates, letter_of}
+use Rattle.vcd_read.specs.Words.{bit_of, filled, filling, onto_states, state_of, states_of, under, word_of}
 use Rattle.vcd_read.specs.Wires.{IsWide}
 use Rattle.vcd_read.specs.declared.state.State.{State}
 use Rattle.vcd_read.specs.declared.state.State.TheVariants as states
@@ -52,12 +54,12 @@ unfolding under bit_of
 low-word zero found = above-none (word_of found)
 low-word (suc count) found = ap (under (Some false)) (low-word count found) ∙ above-next count (word_of found)
 
-unknown-word : (count : ℕ) (found : List State) → word_of (replicate count states.Unknown ++ states.Unknown ∷ found) ≡ None
+pub unknown-word : (count : ℕ) (found : List State) → word_of (replicate count states.Unknown ++ states.Unknown ∷ found) ≡ None
 unfolding under bit_of
 unknown-word zero found = refl
 unknown-word (suc count) found = refl
 
-floating-word : (count : ℕ) (found : List State) → word_of (replicate count states.Floating ++ states.Floating ∷ found) ≡ None
+pub floating-word : (count : ℕ) (found : List State) → word_of (replicate count states.Floating ++ states.Floating ∷ found) ≡ None
 unfolding under bit_of
 floating-word zero found = refl
 floating-word (suc count) found = refl
@@ -80,6 +82,41 @@ pub filled-word : (width : ℕ) (letters : List ℕ) (found : List State) → le
 filled-word width letters found is =
     filling-word (width - length found) found ∙ ap (above (width - length found)) (sym (binary-letters found) ∙ ap binary_word (sym is))
     ∙ ap (λ n. above (width - n) (binary_word letters)) (sym (ap length is ∙ length-letters found))
+
+-- ---- digits
+
+-- the states of digits are kept by the digits
+pub record AreStates (letters : List ℕ) : Type 0 where
+  pub found : List State
+  pub read : states_of letters ≡ Some found
+  pub kept_are : letters ≡ map letter_of found
+
+digit-state : (digit : ℕ) → is_binary_digit digit ≡ true → (state : State) × (state_of digit ≡ Some state) × (digit ≡ letter_of state)
+unfolding state_of
+digit-state digit is = by (digit == 48) (digit == 49) refl refl is
+  where
+    by : (low high : Bool) → (digit == 48) ≡ low → (digit == 49) ≡ high → (low || high) ≡ true
+        → (state : State) × (state_of digit ≡ Some state) × (digit ≡ letter_of state)
+    by true high low_is high_is is = let same = eqb-true digit 48 low_is in (states.Low, ap state_of same, same)
+    by false true low_is high_is is = let same = eqb-true digit 49 high_is in (states.High, ap state_of same, same)
+    by false false low_is high_is is = absurd (let e = is in cc)
+
+pub digits-states : (letters : List ℕ) → list_all is_binary_digit letters ≡ true → AreStates letters
+unfolding onto_states
+digits-states [] is = record { found = []; read = refl; kept_are = refl }
+digits-states (digit ∷ more) is =
+    let parts = and_parts (is_binary_digit digit) (list_all is_binary_digit more) is in
+    let one = digit-state digit parts.0 in let rest = digits-states more parts.1 in
+    record {
+      found = one.0 ∷ rest.found;
+      read = (λ i. onto_states (one.1 i) (rest.read i));
+      kept_are = (λ i. one.2 i ∷ rest.kept_are i);
+    }
+
+-- letters that are digits are kept as they are
+pub keeps-digits : (letters kept : List ℕ) → list_all is_binary_digit letters ≡ true → kept ≡ letters → ReadsStates true (states_of letters) kept
+keeps-digits letters kept is same =
+    let are = digits-states letters is in subst (λ (o : Option (List State)). ReadsStates true o kept) (sym are.read) (same ∙ are.kept_are)
 
 -- ---- states, letter by letter
 

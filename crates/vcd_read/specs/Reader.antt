@@ -1,8 +1,8 @@
 -- A reader of dumps stands for the bytes that it was fed (this project's own).
-use Rattle.std.specs.Prelude.{◌≡◌, ℕ, ◌+◌, ◌^◌, ◌<◌, ◌≤◌, List, [], ◌++◌, length, Option, Some, None, Err}
+use Rattle.std.specs.Prelude.{◌≡◌, ℕ, ◌+◌, ◌^◌, ◌<◌, ◌≤◌, List, [], ◌∷◌, ◌++◌, length, Option, Some, None, Err, IsTrue}
 use Rattle.vcd_read.specs.Parser as parsers
 use Rattle.vcd_read.specs.Profile.{Beginning, Reached, Step, read_on}
-use Rattle.vcd_read.specs.Tokens.{tokens_from, tokens_of}
+use Rattle.vcd_read.specs.Tokens.{is_blank, tokens_from, tokens_of}
 use Rattle.vcd_read.specs.Wanted.{Wanted}
 use Rattle.vcd_read.specs.declared.fault.VcdFault.{VcdFault}
 use Rattle.vcd_read.specs.declared.fault.VcdFault.TheVariants as faults
@@ -44,6 +44,11 @@ StandsFor wanted reader fed = Stands wanted reader.stop reader.parser reader.sta
 -- some bytes were fed, and so many more may be
 abbrev pub HasRoom : VcdReader → ℕ → Type 0
 HasRoom reader more = (wanted : Wanted) × ((fed : List ℕ) × (StandsFor wanted reader fed × (length fed + more < 2 ^ 64)))
+
+-- the token that is begun ends with these bytes, before any white space
+abbrev pub EndsWord : (word : List ℕ) → (old new : VcdReader) → Type 0
+EndsWord word old new = (wanted : Wanted) (fed : List ℕ) (byte : ℕ) → IsTrue (is_blank byte) → StandsFor wanted old fed
+    → StandsFor wanted new (fed ++ word ++ byte ∷ [])
 
 -- the error of a text of which no more is read
 abbrev pub fault_of : Stop → VcdFault

@@ -1,5 +1,6 @@
 -- The tokens of a value change dump: what stands between white space (IEEE 1364, value change dump files).
-use Rattle.std.specs.Prelude.{ℕ, ◌+◌, Bool, ◌==◌, ◌||◌, if◌then◌else◌, List, [], ◌∷◌, ◌++◌, length}
+use Rattle.std.specs.Prelude.{◌≡◌, ℕ, ◌+◌, Bool, true, false, ◌==◌, ◌||◌, if◌then◌else◌, List, [], ◌∷◌, ◌++◌, length}
+use Rattle.std.specs.List.{list_any}
 
 -- a token: its first byte's place in the text, and its bytes
 pub record DumpToken : Type 0 where
@@ -9,6 +10,17 @@ pub record DumpToken : Type 0 where
 -- white space: space, tab, CR and LF
 abbrev pub is_blank : ℕ → Bool
 is_blank byte = byte == 32 || byte == 10 || byte == 13 || byte == 9
+
+-- some byte is white space
+abbrev pub has_blank : List ℕ → Bool
+has_blank bytes = list_any is_blank bytes
+
+-- the bytes before the first white space of a text, and those after it
+pub record IsFirstWord (text word after : List ℕ) : Type 0 where
+  pub blank : ℕ
+  pub ends : is_blank blank ≡ true
+  pub plain : has_blank word ≡ false
+  pub whole : text ≡ word ++ blank ∷ after
 
 -- the token of these bytes, where there are any
 abbrev pub token_at : ℕ → List ℕ → List DumpToken

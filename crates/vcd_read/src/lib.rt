@@ -26,6 +26,7 @@ mod scopes;
 mod state;
 mod texts;
 mod times;
+mod tokens;
 mod variables;
 mod wire;
 mod wires;

@@ -1,6 +1,6 @@
 //! Dumps whose text comes in pieces.
 
-ghost use Rattle.std.specs.Prelude.{◌≡◌, ◌↔◌, ◌<◌, ◌≤◌, ◌+◌, ◌^◌, ◌++◌, ◌∷◌, [], ℕ, List, length, Some, None, IfOk, IsErr, IsTrue};
+ghost use Rattle.std.specs.Prelude.{◌≡◌, ◌↔◌, ◌<◌, ◌≤◌, ◌+◌, ◌^◌, ◌++◌, ◌∷◌, [], ℕ, List, false, length, Some, None, IfOk, IsErr, IsTrue};
 ghost use Rattle.tydi_base.specs.Reading.{Gives};
 ghost use Rattle.cycle_trace.specs.Trace.{are_heads};
 ghost use Rattle.vcd_read.specs.Kept.{kept_bytes, kept_text};
@@ -8,13 +8,14 @@ ghost use Rattle.vcd_read.specs.Shown.{fault_in, parts_shown, shown};
 ghost use Rattle.vcd_read.specs.Wanted.{Wanted};
 ghost use Rattle.vcd_read.specs.Parser as parsers;
 ghost use Rattle.vcd_read.specs.Profile.{Reached, finished, read_on};
-ghost use Rattle.vcd_read.specs.Reader.{HasRoom, StandsFor, fault_of};
-ghost use Rattle.vcd_read.specs.Tokens.{is_blank, token_at};
+ghost use Rattle.vcd_read.specs.Reader.{EndsWord, HasRoom, StandsFor, fault_of};
+ghost use Rattle.vcd_read.specs.Tokens.{has_blank, is_blank, token_at};
 ghost use Rattle.vcd_read.specs.declared.parser.Stop.TheVariants as stops;
 
 use crate::dump_text::DumpText;
 use crate::fault::VcdFault;
 use crate::parser::{Parser, Stop};
+use crate::tokens::first_word;
 use physical_stream::Head;
 use std::alloc::Global;
 use tydi_base::{List, Memory, Path};
@@ -52,9 +53,12 @@ impl VcdReader {
         ensures stands { (wanted : Wanted) (fed : List ℕ) → StandsFor wanted self.old fed → StandsFor wanted self.new (fed ++ piece.now) }
         ensures memory { IsErr result ↔ (self.new.stop ≡ Some stops.Memory) }
     {
-        'bytes: for byte in piece {
-            self.byte(alloc, *byte);
+        let mut rest = piece;
+        'words: while let Some((word, after)) = first_word(rest) {
+            self.end_word(alloc, word);
+            rest = after;
         }
+        self.go_on(rest);
         self.outcome()
     }
 
@@ -68,43 +72,91 @@ impl VcdReader {
         }
     }
 
-    /// Reads the next byte.
+    /// The token that is begun ends with these bytes, before white space.
     #[inline(always)]
-    fn byte(&mut self, alloc: Global, byte: u8)
-        requires { HasRoom self.old 1 }
-        ensures { (wanted : Wanted) (fed : List ℕ) → StandsFor wanted self.old fed → StandsFor wanted self.new (fed ++ byte ∷ []) }
+    fn end_word(&mut self, alloc: Global, word: &[u8])
+        requires room { HasRoom self.old (length word.now + 1) }
+        requires plain { has_blank word.now ≡ false }
+        ensures { EndsWord word.now self.old self.new }
     {
         match self.stop {
             Some(_) => {}
-            None => {
-                if is_blank(byte) {
-                    self.blank(alloc, byte);
-                } else {
-                    self.go_on(byte);
-                }
-            }
+            None => self.end_next(alloc, word),
         }
     }
 
-    /// The token that is begun goes on with this byte.
+    /// The same of a text no token of which is against the profile so far.
     #[inline(always)]
-    fn go_on(&mut self, byte: u8)
+    fn end_next(&mut self, alloc: Global, word: &[u8])
         requires some { self.old.stop ≡ None }
-        requires word { IsTrue (is_blank byte) → ⊥ }
-        ensures { (wanted : Wanted) (fed : List ℕ) → StandsFor wanted self.old fed → StandsFor wanted self.new (fed ++ byte ∷ []) }
+        requires room { HasRoom self.old (length word.now + 1) }
+        requires plain { has_blank word.now ≡ false }
+        ensures { EndsWord word.now self.old self.new }
     {
-        match self.begun.push(byte) {
+        if self.begun.len() == 0 {
+            self.end_whole(alloc, word);
+        } else {
+            self.end_begun(alloc, word);
+        }
+    }
+
+    /// These bytes are a whole token, where there are any. They are not copied.
+    #[inline(always)]
+    fn end_whole(&mut self, alloc: Global, word: &[u8])
+        requires some { self.old.stop ≡ None }
+        requires none { self.old.begun ≡ [] }
+        requires room { HasRoom self.old (length word.now + 1) }
+        requires plain { has_blank word.now ≡ false }
+        ensures { EndsWord word.now self.old self.new }
+    {
+        match take_token(alloc, &mut self.parser, self.start, word) {
+            Ok(()) => self.start = self.start + word.len() as u64 + 1,
+            Err(stop) => self.stop = Some(stop),
+        }
+    }
+
+    /// The token that is begun goes on with these bytes and ends.
+    fn end_begun(&mut self, alloc: Global, word: &[u8])
+        requires some { self.old.stop ≡ None }
+        requires room { HasRoom self.old (length word.now + 1) }
+        requires plain { has_blank word.now ≡ false }
+        ensures { EndsWord word.now self.old self.new }
+    {
+        match self.begun.extend_from_slice(word) {
+            Ok(()) => self.blank(alloc),
+            Err(Memory) => self.stop = Some(Stop::Memory),
+        }
+    }
+
+    /// The token that is begun goes on with these bytes.
+    fn go_on(&mut self, word: &[u8])
+        requires plain { has_blank word.now ≡ false }
+        ensures { (wanted : Wanted) (fed : List ℕ) → StandsFor wanted self.old fed → StandsFor wanted self.new (fed ++ word.now) }
+    {
+        match self.stop {
+            Some(_) => {}
+            None => self.go_on_next(word),
+        }
+    }
+
+    /// The same of a text no token of which is against the profile so far.
+    fn go_on_next(&mut self, word: &[u8])
+        requires some { self.old.stop ≡ None }
+        requires plain { has_blank word.now ≡ false }
+        ensures { (wanted : Wanted) (fed : List ℕ) → StandsFor wanted self.old fed → StandsFor wanted self.new (fed ++ word.now) }
+    {
+        match self.begun.extend_from_slice(word) {
             Ok(()) => {}
             Err(Memory) => self.stop = Some(Stop::Memory),
         }
     }
 
-    /// The token that is begun ends before this byte.
-    fn blank(&mut self, alloc: Global, byte: u8)
+    /// The token that is begun ends before white space.
+    fn blank(&mut self, alloc: Global)
         requires some { self.old.stop ≡ None }
         requires room { HasRoom self.old 1 }
-        requires blank { IsTrue (is_blank byte) }
-        ensures { (wanted : Wanted) (fed : List ℕ) → StandsFor wanted self.old fed → StandsFor wanted self.new (fed ++ byte ∷ []) }
+        ensures { (wanted : Wanted) (fed : List ℕ) (byte : ℕ) → IsTrue (is_blank byte) → StandsFor wanted self.old fed
+            → StandsFor wanted self.new (fed ++ byte ∷ []) }
     {
         match self.end_token(alloc) {
             Ok(()) => {
@@ -126,10 +178,7 @@ impl VcdReader {
         ensures begun { self.new.begun ≡ self.old.begun }
         ensures stop { self.new.stop ≡ self.old.stop }
     {
-        if self.begun.len() == 0 {
-            return Ok(());
-        }
-        self.parser.take(alloc, self.start, self.begun.as_slice())
+        take_token(alloc, &mut self.parser, self.start, self.begun.as_slice())
     }
 
     /// The text of the trace that the whole text shows, none where it has over 64 MiB; or the first error, in the order of `VcdFault`.
@@ -173,12 +222,20 @@ impl VcdReader {
     }
 }
 
-/// Whether a byte is white space.
+/// Takes the token of these bytes, which stands at this place, where there are any.
 #[inline(always)]
-fn is_blank(byte: u8) -> bool
-    ensures { result ≡ is_blank byte }
+fn take_token(alloc: Global, parser: &mut Parser, start: u64, bytes: &[u8]) -> Result<(), Stop>
+    requires stands { (wanted : Wanted) × ((reached : Reached) × parsers.StandsFor wanted parser.old reached) }
+    requires past { parser.old.dump.wires.block ≤ start }
+    requires small { start + length bytes.now < 2 ^ 64 }
+    ensures takes { (wanted : Wanted) (reached : Reached) → parsers.StandsFor wanted parser.old reached
+        → parsers.Takes wanted result parser.new (read_on reached.awaited reached.parts (token_at start bytes.now)) }
+    ensures block { parser.new.dump.wires.block ≤ start + length bytes.now }
 {
-    (byte == b' ') | (byte == b'\n') | (byte == b'\r') | (byte == b'\t')
+    if bytes.is_empty() {
+        return Ok(());
+    }
+    parser.take(alloc, start, bytes)
 }
 
 /// The error of a text of which no more is read.

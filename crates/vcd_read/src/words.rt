@@ -1,7 +1,9 @@
 //! The words of states.
 
 ghost use Rattle.std.specs.Prelude.{◌≡◌, ◌≤◌, ◌++◌, ◌∷◌, [], List, length, map, Some, IfOk, option_map};
-ghost use Rattle.tydi_base.specs.Bits.{zero_bits};
+ghost use Rattle.std.specs.List.{list_all};
+ghost use Rattle.tydi_base.specs.Binary.{binary_word, is_binary_digit};
+ghost use Rattle.tydi_base.specs.Bits.{number_of_bits, zero_bits};
 ghost use Rattle.vcd_read.specs.Letters.{ReadsStates, letter_of};
 ghost use Rattle.vcd_read.specs.Words.{filled, states_of, word_of};
 ghost use Rattle.vcd_read.specs.declared.state.State.{State};
@@ -23,8 +25,42 @@ fn letter_of(state: State) -> u8
     }
 }
 
+/// Whether a letter is `0` or `1`.
+#[inline(always)]
+fn is_bit(letter: u8) -> bool
+    ensures { result ≡ is_binary_digit letter }
+{
+    (letter == b'0') | (letter == b'1')
+}
+
+/// Whether each of these letters is `0` or `1`.
+// It looks at all of them, so that the compiler can take many at once.
+#[inline(always)]
+fn are_bits(letters: &[u8]) -> bool
+    ensures { result ≡ list_all is_binary_digit letters.now }
+{
+    let mut are = true;
+    'letters: for letter in letters {
+        are = are & is_bit(*letter);
+    }
+    are
+}
+
 /// Becomes the letters of the states that these letters stand for. False where one of them stands for none.
+// Most letters are `0` and `1`, and stand for themselves.
 pub(crate) fn read_states(letters: &[u8], states: &mut List<u8>) -> Result<bool, Memory>
+    ensures { IfOk result (λ fine. ReadsStates fine (states_of letters.now) states.new) }
+{
+    states.truncate(0);
+    if are_bits(letters) {
+        states.extend_from_slice(letters)?;
+        return Ok(true);
+    }
+    read_letters(letters, states)
+}
+
+/// The same, letter by letter.
+fn read_letters(letters: &[u8], states: &mut List<u8>) -> Result<bool, Memory>
     ensures { IfOk result (λ fine. ReadsStates fine (states_of letters.now) states.new) }
 {
     states.truncate(0);
@@ -43,15 +79,54 @@ pub(crate) fn read_states(letters: &[u8], states: &mut List<u8>) -> Result<bool,
 pub(crate) fn bit_word(alloc: Global, state: State) -> Result<Option<Bits>, Memory>
     ensures { IfOk result (λ word. word ≡ word_of (state ∷ [])) }
 {
-    Bits::from_binary(alloc, &[letter_of(state)])
+    match state {
+        State::Low => Bits::from_number(alloc, 1, 0),
+        State::High => Bits::from_number(alloc, 1, 1),
+        State::Unknown => Ok(None),
+        State::Floating => Ok(None),
+    }
 }
 
+/// The number that at most 64 letters spell, the highest first. None where one of them is neither `0` nor `1`.
+#[inline(always)]
+fn number_of(letters: &[u8]) -> Option<u64>
+    requires { length letters.now ≤ 64 }
+    ensures { result ≡ option_map number_of_bits (binary_word letters.now) }
+{
+    let mut number: u64 = 0;
+    'letters: for letter in letters {
+        if !is_bit(*letter) {
+            return None;
+        }
+        number = 2 * number + u64::from(*letter % 2);
+    }
+    Some(number)
+}
+
+/// The most bits of a word that is made from a number.
+const MOST_IN_NUMBER: usize = 64;
+
 /// The word of this width of states, which are not more than its bits, by their letters.
+// Most words are narrow, and are read as numbers.
 pub(crate) fn vector_word(
     alloc: Global,
     width: usize,
     letters: &[u8],
 ) -> Result<Option<Bits>, Memory>
+    requires { length letters.now ≤ width }
+    ensures { IfOk result (λ word. (states : List State) → letters.now ≡ map letter_of states → word ≡ word_of (filled width states)) }
+{
+    if width > MOST_IN_NUMBER {
+        return wide_word(alloc, width, letters);
+    }
+    match number_of(letters) {
+        Some(number) => Bits::from_number(alloc, width, u128::from(number)),
+        None => Ok(None),
+    }
+}
+
+/// The same of any width.
+fn wide_word(alloc: Global, width: usize, letters: &[u8]) -> Result<Option<Bits>, Memory>
     requires { length letters.now ≤ width }
     ensures { IfOk result (λ word. (states : List State) → letters.now ≡ map letter_of states → word ≡ word_of (filled width states)) }
 {

@@ -1,0 +1,36 @@
+use Rattle.std.proofs.Common.{◌++◌, ◌+◌, List, ℕ, Option, sym, subst, arith}
+use Rattle.std.proofs.lemmas.List.{length-append}
+use Rattle.vcd_read.specs.Reader.{Reads, Stands}
+use Rattle.vcd_read.specs.declared.parser.Stop.{Stop}
+use Rattle.vcd_read.proofs.ReaderLemmas.{reads-word}
+use Rattle.vcd_read.proofs.reader.VcdReader.end_begun.Goals as goal
+
+pub returns-in-Ok : goal.returns-in-Ok
+returns-in-Ok c wanted fed byte blank st =
+    let old = c.args.self.now in
+    let is : Reads wanted c.args.self.now.parser c.args.self.now.start c.args.self.now.begun fed = subst (λ (o : Option Stop). Stands wanted o
+    c.args.self.now.parser c.args.self.now.start c.args.self.now.begun fed) c.requires.some st in
+    let more = subst (λ (b : List ℕ). Reads wanted old.parser old.start b (fed ++ c.args.word.now)) (sym c.in-Ok.ensures.ok)
+    (reads-word wanted old.parser old.start old.begun fed c.args.word.now c.requires.plain is) in
+    c.blank.ensures wanted (fed ++ c.args.word.now) byte blank
+    (subst (λ (o : Option Stop). Stands wanted o old.parser old.start c.extend_from_slice.new.self (fed ++ c.args.word.now)) (sym c.requires.some) more)
+
+pub blank-requires-clause-room : goal.blank-requires-clause-room
+blank-requires-clause-room c =
+    let old = c.args.self.now in
+    let wanted = c.requires.room.0 in let fed = c.requires.room.1.0 in let st = c.requires.room.1.1.0 in let small = c.requires.room.1.1.1 in
+    let is : Reads wanted c.args.self.now.parser c.args.self.now.start c.args.self.now.begun fed = subst (λ (o : Option Stop). Stands wanted o
+    c.args.self.now.parser c.args.self.now.start c.args.self.now.begun fed) c.requires.some st in
+    let more = subst (λ (b : List ℕ). Reads wanted old.parser old.start b (fed ++ c.args.word.now)) (sym c.in-Ok.ensures.ok)
+    (reads-word wanted old.parser old.start old.begun fed c.args.word.now c.requires.plain is) in
+    let size = length-append fed c.args.word.now in (
+      wanted,
+      (
+        fed ++ c.args.word.now,
+        (
+          subst (λ (o : Option Stop). Stands wanted o old.parser old.start c.extend_from_slice.new.self (fed
+              ++ c.args.word.now)) (sym c.requires.some) more,
+          omega (arith, small, size),
+        ),
+      ),
+    )
