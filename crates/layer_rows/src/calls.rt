@@ -2,9 +2,9 @@
 //! handed in, and the text of its result. A call that should not come to this ends in `Memory`, which no row expects.
 
 use crate::{
-    architectures, checkers, decodes, fractions, levels, links, nests, plan_texts, projects,
-    readings, splits, streams, text_decodes, tokens, traces, traces_written, value_sweeps,
-    value_texts, values, vhdl_runs, vhdl_texts, views, words,
+    architectures, changed_traces, checkers, decodes, fractions, levels, links, nests, plan_texts,
+    projects, readings, splits, streams, text_decodes, tokens, traces, traces_written,
+    value_sweeps, value_texts, values, vhdl_runs, vhdl_texts, views, words,
 };
 use std::alloc::Global;
 use std::process::Abort;
@@ -50,6 +50,7 @@ pub(crate) enum Call {
     Decoded,
     TextDecoded,
     Swept,
+    Changed,
     Level,
     WideNumber,
     Binary,
@@ -137,6 +138,7 @@ fn tell(
         Call::Decoded => decodes::decoded(alloc, first, second, out),
         Call::TextDecoded => text_decodes::decoded(alloc, first, second, out),
         Call::Swept => value_sweeps::swept(alloc, first, second, out),
+        Call::Changed => changed_traces::changed(alloc, first, second, out),
         Call::ValueText => value_texts::value_text(alloc, first, second, out),
         Call::RawText => value_texts::raw_text(alloc, first, second, out),
         Call::ManyMembers => value_texts::many_members(alloc, first, second, out),

@@ -132,7 +132,7 @@ pub(crate) const DECODED: &[(&str, &str, &str)] = &[
     ),
 ];
 
-fn write_end(stream: usize, end: End, out: &mut List<u8>) -> Result<(), Memory> {
+pub(crate) fn write_end(stream: usize, end: End, out: &mut List<u8>) -> Result<(), Memory> {
     match end {
         End::Whole => Err(Memory),
         End::Unclosed(depth) => emit!(out; "stream ", stream, " open ", depth),
@@ -165,8 +165,8 @@ pub(crate) fn write_decoded(
     out.extend_from_slice(text.as_slice())
 }
 
-// The outcome of a trace of the streams of a split, each of whose nodes is carried.
-fn write_outcome(
+/// The outcome of a trace of the streams of a split, each of whose nodes is carried.
+pub(crate) fn write_outcome(
     alloc: Global,
     split: &Split<'_>,
     trace: &Trace,

@@ -4,9 +4,9 @@ use crate::calls::{Call, check_calls};
 use crate::vhdl_tables::BENCH;
 use crate::vhdl_texts::check_front;
 use crate::{
-    architectures, checkers, decodes, fractions, levels, link_tables, nests, plan_tables, projects,
-    readings, splits, streams, text_decodes, tokens, traces, traces_written, value_tables,
-    value_texts, values, vhdl_tables, views, words,
+    architectures, change_tables, checkers, decodes, fractions, levels, link_tables, nests,
+    plan_tables, projects, readings, splits, streams, text_decodes, tokens, traces, traces_written,
+    value_tables, value_texts, values, vhdl_tables, views, words,
 };
 use bench_run::traces_of_benches;
 use complexity_rules::{
@@ -122,6 +122,31 @@ fn small_values(rt: HostRuntime) {
     check_calls(&rt, &Call::Swept, value_tables::ELEMENTS);
     check_calls(&rt, &Call::Swept, value_tables::SYNCHRONICITIES);
     check_calls(&rt, &Call::Swept, value_tables::NESTED);
+}
+
+#[test]
+fn changed_traces(rt: HostRuntime) {
+    check_calls(&rt, &Call::Changed, change_tables::ELEMENTS);
+}
+
+#[test]
+fn changed_traces_of_several_lanes(rt: HostRuntime) {
+    check_calls(&rt, &Call::Changed, change_tables::LANES);
+}
+
+#[test]
+fn changed_traces_of_streams_in_fields(rt: HostRuntime) {
+    check_calls(&rt, &Call::Changed, change_tables::SYNCHRONICITIES);
+}
+
+#[test]
+fn changed_traces_of_streams_in_variants(rt: HostRuntime) {
+    check_calls(&rt, &Call::Changed, change_tables::VARIANTS);
+}
+
+#[test]
+fn changed_traces_of_nested_streams(rt: HostRuntime) {
+    check_calls(&rt, &Call::Changed, change_tables::NESTED);
 }
 
 #[test]

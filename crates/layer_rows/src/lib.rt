@@ -3,13 +3,21 @@
 #![tactic(auto)]
 
 #[cfg(test)]
+mod all_spelled;
+#[cfg(test)]
 mod architectures;
 #[cfg(test)]
 mod calls;
 #[cfg(test)]
+mod change_tables;
+#[cfg(test)]
+mod changed_traces;
+#[cfg(test)]
 mod checkers;
 #[cfg(test)]
 mod decodes;
+#[cfg(test)]
+mod expected_outcomes;
 #[cfg(test)]
 mod fractions;
 #[cfg(test)]
@@ -32,6 +40,10 @@ mod plans;
 mod projects;
 #[cfg(test)]
 mod readings;
+#[cfg(test)]
+mod row_changes;
+#[cfg(test)]
+mod row_series;
 #[cfg(test)]
 mod runs;
 #[cfg(test)]

@@ -11,7 +11,7 @@ use crate::text_decodes::write_outcome;
 use crate::types::{project_around, split_in, type_in};
 use logical_value::PortValue;
 use plan_text::Plan;
-use port_drive::port_trace;
+use port_drive::{PortTrace, port_trace};
 use std::alloc::Global;
 use tydi_base::{Bits, List, Memory, emit};
 use type_split::Split;
@@ -35,8 +35,8 @@ struct Tally {
 
 // ---- values, spelled by rules
 
-// The part of this number of a text with such marks, from 0; empty past the last.
-fn part(text: &str, mark: char, number: u32) -> &str {
+/// The part of this number of a text with such marks, from 0; empty past the last.
+pub(crate) fn part(text: &str, mark: char, number: u32) -> &str {
     let mut rest = text;
     'marks: for _ in 0..number {
         rest = match rest.split_once(mark) {
@@ -105,8 +105,8 @@ fn spelled_value(alloc: Global, rules: &str, code: u32) -> Result<Option<List<u8
 
 // ---- values, driven and decoded
 
-// The value of a text. An error is reported as `Memory`, which no row expects.
-fn value_in(alloc: Global, split: &Split<'_>, text: &[u8]) -> Result<PortValue, Memory>
+/// The value of a text. An error is reported as `Memory`, which no row expects.
+pub(crate) fn value_in(alloc: Global, split: &Split<'_>, text: &[u8]) -> Result<PortValue, Memory>
     ensures { IfOk result (λ value. fits_split (plain_split split.now) (plain_port value) ≡ true) }
 {
     if text.len() > LONGEST {
@@ -133,6 +133,15 @@ fn drive_by(
     let Ok(trace) = port_trace(alloc, split, value, plan) else {
         return Err(Memory);
     };
+    write_pieces(alloc, trace, out)
+}
+
+/// Writes the text of a trace.
+pub(crate) fn write_pieces(
+    alloc: Global,
+    trace: PortTrace,
+    out: &mut List<u8>,
+) -> Result<(), Memory> {
     let mut pieces = trace.pieces;
     let mut piece = List::new(alloc);
     'pieces: for _ in 0..LONGEST {
@@ -145,8 +154,8 @@ fn drive_by(
     Err(Memory)
 }
 
-// The plan of a text.
-fn plan_in(alloc: Global, split: &Split<'_>, text: &str) -> Result<Plan, Memory>
+/// The plan of a text.
+pub(crate) fn plan_in(alloc: Global, split: &Split<'_>, text: &str) -> Result<Plan, Memory>
     ensures { IfOk result (λ plan. FitsPort split.now.streams plan) }
 {
     if text.len() > LONGEST {
