@@ -6,6 +6,7 @@ use Rattle.std.proofs.lemmas.List.{reverse-append}
 use Rattle.std.proofs.lemmas.List.Sums.{sum_by-append}
 use Rattle.logical_types.specs.declared.ltype.Part.{Part}
 use Rattle.tydi_base.specs.Hex.{hex_of}
+use Rattle.tydi_base.specs.Lengths.{most_bytes}
 use Rattle.logical_types.specs.Tree.{Ltype, Parts, plain, plain_parts}
 use Rattle.logical_types.specs.Tree as types
 use Rattle.logical_types.proofs.PlainLemmas.{plain_parts-at, plain_parts-past}
@@ -18,7 +19,7 @@ use Rattle.value_text.specs.declared.inside.Inside.TheVariants as kinds
 use Rattle.value_text.specs.declared.items.Item.{Item}
 use Rattle.value_text.specs.declared.items.Items.{Items}
 use Rattle.value_text.specs.declared.pending.Pending.{Pending}
-use Rattle.value_text.specs.Pending.{Begins, lines_text, number_in, number_of_values, part_steps, part_text, rest_of, steps_of}
+use Rattle.value_text.specs.Pending.{Begins, Counts, lines_text, number_in, number_of_values, part_steps, part_text, rest_of, steps_of}
 
 -- ---- one part more
 
@@ -305,17 +306,35 @@ words-begun words more one made part left left_now out out_now begins same is_re
 pub no_words-begun : (words : List (List Bool)) (left : List Pending) (out : List ℕ) → words ≡ [] → Begins (flat_map user_word words) (1 + length words) left left out out
 no_words-begun words left out none = begun-none (flat_map user_word words) (1 + length words) left out (ap (λ (ws : List (List Bool)). flat_map user_word ws) none) (omega arith)
 
--- ---- pieces that are counted
+-- ---- parts that are counted
 
-pub counted-more : (all bytes more next most : ℕ) (piece old new : List ℕ) → old ≡ piece ++ new → more ≡ length piece → next ≡ min (bytes + more) most
-    → min all most ≡ min (bytes + length old) most → min all most ≡ min (next + length new) most
-counted-more all bytes more next most piece old new made many is before = omega (arith, ap length made ∙ length-append piece new, many, is, before)
+-- a front is counted, and what is left behind it
+pub counts-text : (text : List ℕ) (steps : ℕ) (left left_now : List Pending) (out out_now : List ℕ) (bytes : ℕ) → Begins text steps left left_now out out_now → out ≡ []
+    → bytes ≡ length out_now → bytes ≤ most_bytes → Counts text steps left left_now bytes
+counts-text text steps left left_now out out_now bytes begun none many few =
+    let same : out_now ++ rest_of left_now ≡ text ++ rest_of left = begun.written ∙ ap (λ (l : List ℕ). l ++ (text ++ rest_of left)) none in
+    record {
+      counted = omega (arith, many, sym (length-append out_now (rest_of left_now)) ∙ ap length same ∙ length-append text (rest_of left));
+      few = few;
+      fewer = begun.fewer;
+    }
 
-pub counted-all : (all bytes most : ℕ) (piece old : List ℕ) → piece ≡ [] → (0 < length old → 0 < length piece) → bytes ≤ most
-    → min all most ≡ min (bytes + length old) most → bytes ≡ min all most
-counted-all all bytes most piece [] empty some few before = omega (arith, before)
-counted-all all bytes most piece (one ∷ old) empty some few before = absurd (omega (arith, some (omega arith), ap length empty))
+-- a part is counted whole
+pub counts-whole : (text : List ℕ) (steps : ℕ) (left : List Pending) (bytes : ℕ) → bytes ≡ min (length text) most_bytes → 0 < steps → Counts text steps left left bytes
+counts-whole text steps left bytes is some = record { counted = omega (arith, is); few = omega (arith, is); fewer = omega (arith, some) }
 
-pub counted-fewer : (piece old new : List ℕ) → (piece ≡ [] → ⊥) → old ≡ piece ++ new → length new < length old
-counted-fewer [] old new some made = absurd (some refl)
-counted-fewer (one ∷ piece) old new some made = omega (arith, ap length made ∙ length-append (one ∷ piece) new)
+pub counted-more : (part : Pending) (left left_one left_now : List Pending) (all bytes more next : ℕ) → left ≡ left_one ++ part ∷ []
+    → Counts (part_text part) (part_steps part) left_one left_now more → next ≡ min (bytes + more) most_bytes
+    → min all most_bytes ≡ min (bytes + length (rest_of left)) most_bytes → min all most_bytes ≡ min (next + length (rest_of left_now)) most_bytes
+counted-more part left left_one left_now all bytes more next taken counts is before =
+    let long : length (rest_of left) ≡ length (part_text part) + length (rest_of left_one) =
+    ap (λ (l : List Pending). length (rest_of l)) taken ∙ ap length (rest-push left_one part) ∙ length-append (part_text part) (rest_of left_one) in
+    omega (arith, long, counts.counted, is, before)
+
+pub counted-fewer : (part : Pending) (left left_one left_now : List Pending) (more : ℕ) → left ≡ left_one ++ part ∷ []
+    → Counts (part_text part) (part_steps part) left_one left_now more → steps_of left_now < steps_of left
+counted-fewer part left left_one left_now more taken counts = omega (arith, ap steps_of taken ∙ steps-push left_one part, counts.fewer)
+
+-- no part is left
+pub counted-all : (left : List Pending) (all bytes : ℕ) → left ≡ [] → bytes ≤ most_bytes → min all most_bytes ≡ min (bytes + length (rest_of left)) most_bytes → bytes ≡ min all most_bytes
+counted-all left all bytes none few before = omega (arith, few, before, ap (λ (l : List Pending). length (rest_of l)) none)

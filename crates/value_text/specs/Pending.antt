@@ -1,6 +1,7 @@
 -- The text that is left, as parts of which the last comes first; and how many steps they take at most. This project's own.
-use Rattle.std.specs.Prelude.{◌≡◌, ℕ, Bool, suc, ◌+◌, ◌*◌, ◌<◌, List, ◌++◌, length, drop, reverse}
+use Rattle.std.specs.Prelude.{◌≡◌, ℕ, Bool, suc, ◌+◌, ◌*◌, ◌<◌, ◌≤◌, List, ◌++◌, length, drop, min, reverse}
 use Rattle.std.specs.List.{flat_map, sum_by}
+use Rattle.tydi_base.specs.Lengths.{most_bytes}
 use Rattle.logical_types.specs.Tree.{plain, plain_parts}
 use Rattle.logical_value.specs.Tree.{Tree, null, word, group, union, list, apart, Trees, no_trees, tree, plain_values}
 use Rattle.value_text.specs.Canonical.{element_text, fields_text, nest_text, nests_text, user_word}
@@ -57,6 +58,12 @@ steps_of left = sum_by part_steps left
 -- fewer steps are left than it takes
 pub record Begins (text : List ℕ) (steps : ℕ) (left left_now : List Pending) (out out_now : List ℕ) : Type 0 where
   pub written : out_now ++ rest_of left_now ≡ out ++ (text ++ rest_of left)
+  pub fewer : steps_of left_now < steps_of left + steps
+
+-- the same, where what is written now is counted alone, up to the greatest number of 64 bits
+pub record Counts (text : List ℕ) (steps : ℕ) (left left_now : List Pending) (bytes : ℕ) : Type 0 where
+  pub counted : min (bytes + length (rest_of left_now)) most_bytes ≡ min (length text + length (rest_of left)) most_bytes
+  pub few : bytes ≤ most_bytes
   pub fewer : steps_of left_now < steps_of left + steps
 
 -- the kinds of parts

@@ -1,5 +1,5 @@
 -- Words one after another, of which many are written at once. This project's own.
-use Rattle.std.specs.Prelude.{◌≡◌, ℕ, ◌≤◌, List, [], ◌++◌}
+use Rattle.std.specs.Prelude.{◌≡◌, ℕ, ◌≤◌, List, [], ◌++◌, length, take}
 use Rattle.logical_types.specs.Tree.{plain}
 use Rattle.logical_value.specs.Tree.{Tree, word, plain_values}
 use Rattle.logical_value.specs.declared.value.Value.{Value}
@@ -20,3 +20,8 @@ HasWords nests = (value : Tree) → nest_text (element_text (plain nests.element
 pub record LeavesWritten (between : List ℕ) (values values_now : List Value) (out out_now : List ℕ) : Type 0 where
   pub written : out_now ++ nests_text leaf_text between between (plain_values values_now) ≡ out ++ nests_text leaf_text between between (plain_values values)
   pub fewer : number_in (plain_values values_now) ≤ number_in (plain_values values)
+
+-- the first words are written, each after a text; there are so many of them
+pub record FirstWritten (between : List ℕ) (values : List Value) (count : ℕ) (out out_now : List ℕ) : Type 0 where
+  pub few : count ≤ length values
+  pub written : out_now ≡ out ++ nests_text leaf_text between between (plain_values (take count values))

@@ -1,10 +1,11 @@
 //! The text of parts, in pieces and whole.
 
-ghost use Rattle.std.specs.Prelude.{◌≡◌, ◌<◌, ◌++◌, [], length, min, IfOk, OnOk};
+ghost use Rattle.std.specs.Prelude.{◌≡◌, ◌<◌, ◌++◌, [], length, min, IfOk, IfSome, OnOk};
 ghost use Rattle.tydi_base.specs.Lengths.{most_bytes};
-ghost use Rattle.value_text.specs.Pending.{rest_of};
+ghost use Rattle.value_text.specs.Pending.{Counts, part_steps, part_text, rest_of};
 
 use crate::pending::{PIECE, Pending};
+use crate::runs::{are_words, leaves_length};
 use crate::stepping::step;
 use std::alloc::Global;
 use tydi_base::{List, Memory};
@@ -47,13 +48,44 @@ pub(crate) fn count<'v>(alloc: Global, left: &mut List<Pending<'v>>) -> Result<u
     ensures { IfOk result (λ bytes. bytes ≡ min (length (rest_of left.old)) most_bytes) }
 {
     let mut bytes: u64 = 0;
-    let mut piece = List::new(alloc);
-    'pieces: loop {
-        piece.truncate(0);
-        fill(alloc, left, &mut piece)?;
-        if piece.is_empty() {
-            return Ok(bytes);
+    let mut text = List::new(alloc);
+    'steps: while let Some(part) = left.pop() {
+        let more = count_step(alloc, part, left, &mut text)?;
+        bytes = bytes.saturating_add(more);
+    }
+    Ok(bytes)
+}
+
+/// Counts the front of a part, and puts the rest of it before the parts that are left. The text of a front that is no words is made in the
+/// room of another.
+fn count_step<'v>(
+    alloc: Global,
+    part: Pending<'v>,
+    left: &mut List<Pending<'v>>,
+    text: &mut List<u8>,
+) -> Result<u64, Memory>
+    ensures { IfOk result (λ bytes. Counts (part_text part.entry) (part_steps part.entry) left.old left.new bytes) }
+{
+    match words_length(&part) {
+        Some(bytes) => Ok(bytes),
+        None => {
+            text.truncate(0);
+            step(alloc, part, left, text)?;
+            Ok(text.len() as u64)
         }
-        bytes = bytes.saturating_add(piece.len() as u64);
+    }
+}
+
+/// The bytes of a part, where it is words, in no sequence; or the greatest number of 64 bits where they are more.
+fn words_length(part: &Pending<'_>) -> Option<u64>
+    ensures { IfSome result (λ bytes. bytes ≡ min (length (part_text part.now)) most_bytes) }
+{
+    match part {
+        Pending::Nests(nests) => if are_words(nests) {
+            Some(leaves_length(nests))
+        } else {
+            None
+        },
+        _ => None,
     }
 }

@@ -1,6 +1,6 @@
 //! Things that are gone through once, lent or of one's own.
 
-ghost use Rattle.std.specs.Prelude.{◌≡◌, ◌∷◌, [], reverse, IsTrue, MatchOption};
+ghost use Rattle.std.specs.Prelude.{◌≡◌, ◌+◌, ◌^◌, ◌<◌, ◌≤◌, ◌∷◌, [], Some, drop, length, reverse, slice_get, IsSome, IsTrue, MatchOption};
 ghost use Rattle.value_text.specs.Items.{item_of, items_of};
 
 use tydi_base::List;
@@ -55,6 +55,32 @@ impl<'v, T: Drop> Items<'v, T> {
         }
     }
 
+    /// The one of this number, counted from 0. None exactly where there is none.
+    pub(crate) fn get(&self, number: usize) -> Option<&T>
+        ensures found { MatchOption result (length (items_of self.now) ≤ number) (λ one. slice_get (items_of self.now) number ≡ Some one.now) }
+        ensures few { IsSome result → number + 1 < 2 ^ 64 }
+    {
+        match self {
+            Items::Lent(left) => left.get(number),
+            Items::Own(left) => get_from_last(left.as_slice(), number),
+        }
+    }
+
+    /// Those after the first ones, of which there are so many.
+    pub(crate) fn skip(self, count: usize) -> Items<'v, T>
+        requires { count ≤ length (items_of self) }
+        ensures { items_of result ≡ drop count (items_of self.entry) }
+    {
+        match self {
+            Items::Lent(left) => Items::Lent(&left[count..]),
+            Items::Own(mut left) => {
+                let rest = left.len() - count;
+                left.truncate(rest);
+                Items::Own(left)
+            }
+        }
+    }
+
     /// Takes the first. None exactly where there is none.
     pub(crate) fn take(self) -> Option<Taken<'v, T>>
         ensures { MatchOption result (items_of self.entry ≡ []) (λ taken. items_of self.entry ≡ item_of taken.one ∷ items_of taken.more) }
@@ -64,6 +90,17 @@ impl<'v, T: Drop> Items<'v, T> {
             Items::Own(left) => last_own(left),
         }
     }
+}
+
+/// The one of this number, counted from the last.
+fn get_from_last<T>(elements: &[T], number: usize) -> Option<&T>
+    ensures found { MatchOption result (length elements.now ≤ number) (λ one. slice_get (reverse elements.now) number ≡ Some one.now) }
+    ensures few { IsSome result → number + 1 < 2 ^ 64 }
+{
+    if number >= elements.len() {
+        return None;
+    }
+    elements.get(elements.len() - 1 - number)
 }
 
 /// The first of what is lent.

@@ -5,6 +5,7 @@
 #![tactic(auto)]
 
 mod beginning;
+mod block;
 mod fault;
 mod filling;
 mod form;

@@ -3,7 +3,7 @@ use logical_types::{LType, Part, Shared};
 use logical_value::Value;
 use tydi_base::{Bits, List};
 
-/// A piece ends with the first word, name or mark that brings it to this many bytes.
+/// A piece ends with the first word, block of words, name or mark that brings it to this many bytes.
 pub(crate) const PIECE: usize = 65_536;
 
 /// A part of a text that is still to be written.

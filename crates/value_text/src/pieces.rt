@@ -35,8 +35,8 @@ impl ValuePieces {
         Ok(ValuePieces { left })
     }
 
-    /// Makes the next piece, in the room of the last one. It is empty exactly where nothing is left. A piece ends with the first word, name
-    /// or mark that brings it to 65,536 bytes. After `Memory` the text cannot go on.
+    /// Makes the next piece, in the room of the last one. It is empty exactly where nothing is left. A piece ends with the first word, block
+    /// of words, name or mark that brings it to 65,536 bytes. After `Memory` the text cannot go on.
     pub fn next(&mut self, alloc: Global, piece: &mut List<u8>) -> Result<(), Memory>
         ensures made { OnOk result (text_left self.old ≡ piece.new ++ text_left self.new) }
         ensures some { OnOk result (0 < length (text_left self.old) → 0 < length piece.new) }

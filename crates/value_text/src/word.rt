@@ -1,10 +1,11 @@
 //! The text of a word.
 
-ghost use Rattle.std.specs.Prelude.{◌≡◌, ◌++◌, ◌<◌, length, nat_lt, cond, Some, None, codes};
+ghost use Rattle.std.specs.Prelude.{◌≡◌, ◌++◌, ◌<◌, length, nat_lt, cond, decimal, Some, None, codes};
 ghost use Rattle.tydi_base.specs.Bits.{number_of_bits};
 ghost use Rattle.value_text.specs.Canonical.{short_number, word_text};
 
-use tydi_base::{Bits, Hex, List, Memory, Written, emit};
+use itoa::Buffer;
+use tydi_base::{Bits, Hex, List, Memory, Written, decimal_length, emit, hex_length};
 
 /// The widest word that is written in decimal, in bits.
 const WIDEST_DECIMAL: usize = 128;
@@ -24,8 +25,28 @@ impl Written for Word<'_> {
     }
 }
 
+/// The bytes of the text of a word.
+pub(crate) fn word_length(word: &Bits) -> u64
+    ensures { result ≡ length (word_text word.now) }
+{
+    match decimal_of(word) {
+        Some(number) => number_length(number),
+        None => 2 + hex_length(word.len()),
+    }
+}
+
+/// The digits of a number.
+fn number_length(number: u128) -> u64
+    ensures { result ≡ length (decimal number) }
+{
+    if number > u128::from(u64::MAX) {
+        return Buffer::new().format(number).len() as u64;
+    }
+    decimal_length(number as u64)
+}
+
 /// The number of a word that is written in decimal.
-fn decimal_of(word: &Bits) -> Option<u128>
+pub(crate) fn decimal_of(word: &Bits) -> Option<u128>
     ensures { result ≡ short_number word.now }
 {
     if word.len() > WIDEST_DECIMAL {
