@@ -1,5 +1,5 @@
 -- Words one after another, of which many are written at once.
-use Rattle.std.proofs.Common.{◌≡◌, ◌∙◌, ℕ, ◌+◌, ◌*◌, ◌<◌, ◌≤◌, List, [], ◌∷◌, ◌++◌, length, length-append, min, take, drop, slice_get, Some, refl, sym, ap, append-nil, append_assoc, arith}
+use Rattle.std.proofs.Common.{◌≡◌, ◌∙◌, ℕ, ◌+◌, ◌*◌, ◌<◌, ◌≤◌, List, [], ◌∷◌, ◌++◌, length, length-append, min, take, drop, slice_get, Some, None, refl, sym, ap, append-nil, append_assoc, arith}
 use Rattle.std.proofs.lemmas.List.{drop_all, drop_more, take_more, take-append-drop}
 use Rattle.std.proofs.lemmas.Option.{get_or_from_slice_get, slice_get_within}
 use Rattle.tydi_base.specs.Lengths.{most_bytes}
@@ -114,6 +114,11 @@ counts-all text before between values count lead bytes same so past =
     omega (arith, so.few, so.counted, none, ap length (nests-same text leaf_text between before same (plain_values values)))
 
 -- ---- a step
+
+-- the first value and those behind it
+pub first-of : (values rest : List Value) (one : Value) → slice_get values 0 ≡ Some one → rest ≡ drop 1 values → values ≡ one ∷ rest
+first-of [] rest one found is = absurd (let no : None ≡ Some one = found in cc)
+first-of (head ∷ values) rest one found is = let same : head ≡ one = cc in ap (λ (v : Value). v ∷ values) same ∙ ap (λ (l : List Value). one ∷ l) (sym is)
 
 -- the first word is written, and then some of the others
 module _ (text : Tree → List ℕ) (between before : List ℕ) (values more rest : List Value) (one : Value) (out out_one out_now : List ℕ)

@@ -12,6 +12,8 @@ pub(crate) enum Items<'v, T> {
     Lent(&'v [T]),
     /// They are its own, the last of them first.
     Own(List<T>),
+    /// They are its own, behind so many of this list.
+    Behind(List<T>, usize),
 }
 
 /// One of them.
@@ -42,7 +44,7 @@ impl<'v, T: Drop> Items<'v, T> {
     pub(crate) fn own(list: List<T>) -> Items<'v, T>
         ensures { items_of result ≡ list }
     {
-        Items::Own(reversed(list))
+        Items::Behind(list, 0)
     }
 
     /// Whether none is left.
@@ -52,6 +54,7 @@ impl<'v, T: Drop> Items<'v, T> {
         match self {
             Items::Lent(left) => left.is_empty(),
             Items::Own(left) => left.is_empty(),
+            Items::Behind(list, passed) => list.len() <= *passed,
         }
     }
 
@@ -61,8 +64,9 @@ impl<'v, T: Drop> Items<'v, T> {
         ensures few { IsSome result → number + 1 < 2 ^ 64 }
     {
         match self {
-            Items::Lent(left) => left.get(number),
+            Items::Lent(left) => get_behind(left, 0, number),
             Items::Own(left) => get_from_last(left.as_slice(), number),
+            Items::Behind(list, passed) => get_behind(list.as_slice(), *passed, number),
         }
     }
 
@@ -78,6 +82,7 @@ impl<'v, T: Drop> Items<'v, T> {
                 left.truncate(rest);
                 Items::Own(left)
             }
+            Items::Behind(list, passed) => Items::Behind(list, passed + count),
         }
     }
 
@@ -88,8 +93,28 @@ impl<'v, T: Drop> Items<'v, T> {
         match self {
             Items::Lent(left) => return first_lent(left),
             Items::Own(left) => last_own(left),
+            Items::Behind(list, passed) => last_own(reversed_behind(list, passed)),
         }
     }
+}
+
+/// The elements behind so many, the last of them first.
+fn reversed_behind<T: Drop>(list: List<T>, passed: usize) -> List<T>
+    ensures { reverse result ≡ drop passed list }
+{
+    let mut elements = reversed(list);
+    let count = elements.len().saturating_sub(passed);
+    elements.truncate(count);
+    elements
+}
+
+/// The one of this number among those behind so many.
+fn get_behind<T>(elements: &[T], passed: usize, number: usize) -> Option<&T>
+    ensures found { MatchOption result (length (drop passed elements.now) ≤ number) (λ one. slice_get (drop passed elements.now) number ≡ Some one.now) }
+    ensures few { IsSome result → number + 1 < 2 ^ 64 }
+{
+    let place = passed.checked_add(number)?;
+    elements.get(place)
 }
 
 /// The one of this number, counted from the last.

@@ -13,7 +13,7 @@ use std::alloc::Global;
 use tydi_base::{Bits, List, Memory};
 use type_split::Split;
 
-/// The rest of the canonical text of a value, which is made piece by piece. It owns the value, and lets go of what is written.
+/// The rest of the canonical text of a value, which is made piece by piece. It owns the value, and lets go of each list when it is written.
 #[derive(Drop)]
 pub struct ValuePieces {
     left: List<Pending<'static>>,

@@ -10,7 +10,7 @@ ghost use Rattle.value_text.specs.Pending.{Begins, nests_part, part_steps, part_
 ghost use Rattle.value_text.specs.Runs.{FirstWritten, HasWords, LeavesWritten, leaf_text};
 
 use crate::block::Block;
-use crate::items::{Items, Taken};
+use crate::items::Items;
 use crate::pending::{NestsLeft, PIECE, Pending};
 use crate::word::{Word, decimal_of, word_length};
 use logical_types::LType;
@@ -71,10 +71,10 @@ pub(crate) fn step_leaves<'v>(
         between,
         values,
     } = nests;
-    match values.take() {
-        Some(Taken { one, more }) => {
-            emit!(out; before, Leaf(one.get()))?;
-            let rest = write_leaves(between, more, out)?;
+    match values.get(0) {
+        Some(one) => {
+            emit!(out; before, Leaf(one))?;
+            let rest = write_leaves(between, values.skip(1), out)?;
             if rest.is_empty() {
                 return Ok(());
             }
