@@ -25,8 +25,9 @@ use Rattle.cycle_trace.specs.Surveying.{offends_in}
 use Rattle.cycle_trace.specs.Trace.{IsTrace, TraceText, streams_of}
 use Rattle.port_drive.specs.Laws.{done_on}
 use Rattle.trace_decode.specs.Laws.{OffencesFallWithTags}
-use Rattle.trace_decode.specs.Outcome.{Carried, IsOutcome, users_done, users_on}
+use Rattle.trace_decode.specs.Outcome.{Carried, IsOutcome}
 use Rattle.trace_decode.specs.Tags.{BreaksTag, BreaksTagAfter, BreaksWithTags, OffendsWithTags, element_at, element_of_node, element_of_stream}
+use Rattle.trace_decode.proofs.DrivenLemmas.{users_on-stay}
 use Rattle.link_check.specs.Carry.{AreAlike, LevelsRise, heads_of_port, heads_to}
 use Rattle.link_check.specs.CarryLaws.{CanCarry, CarriedEndingsStay, CarriedStreamsRise, CarriedStreamsStay, CarriedTracesStand, CarriedTracesStayLegal}
 use Rattle.link_check.specs.CarryLaws.{CompatiblePortsRise, IsSameStream}
@@ -38,7 +39,7 @@ use Rattle.carried_values.proofs.SeriesLemmas.{carries-stay, phys_without, split
 use Rattle.carried_values.proofs.TypeLemmas.{node_without}
 use Rattle.carried_values.proofs.WordLemmas.{agrees-with, agrees-without}
 
--- ---- the same items and user words
+-- ---- the same items
 
 raised-rest : (low high : StreamTrace) (lows highs : List StreamTrace) → AreRaised (low ∷ lows) (high ∷ highs) → AreRaised lows highs
 raised-rest low high lows highs raised = record { many = omega (arith, raised.many); each = λ stream a b here there. raised.each (suc stream) a b here there }
@@ -51,15 +52,6 @@ done-stays (low ∷ lows) (high ∷ highs) raised =
     let one = raised.each 0 low high refl refl in
     ap (λ (items : List Item). items ∷ done_on highs) (ap (λ (p : Parameters). items_done p high.cycles) one.params ∙ ap (items_done low.params) one.cycles)
     ∙ ap (λ (l : List (List Item)). items_done low.params low.cycles ∷ l) (done-stays lows highs (raised-rest low high lows highs raised))
-
-users-stay : (lows highs : List StreamTrace) → AreRaised lows highs → users_on highs ≡ users_on lows
-users-stay [] [] raised = refl
-users-stay [] (high ∷ highs) raised = absurd (omega (arith, raised.many))
-users-stay (low ∷ lows) [] raised = absurd (omega (arith, raised.many))
-users-stay (low ∷ lows) (high ∷ highs) raised =
-    let one = raised.each 0 low high refl refl in
-    ap (λ (words : List (List Bool)). words ∷ users_on highs) (ap users_done one.cycles)
-    ∙ ap (λ (l : List (List (List Bool))). users_done low.cycles ∷ l) (users-stay lows highs (raised-rest low high lows highs raised))
 
 -- ---- tags
 
@@ -181,7 +173,7 @@ module _ (rise : CarriedStreamsRise) (ports : CompatiblePortsRise) (source sink 
       };
       ends = ends-stay endings outcome.0.ends;
     },
-    ((values-stay roots).0 outcome.1.0, outcome.1.1 ∙ sym (users-stay (streams_of t) (streams_of arrived) raised)),
+    ((values-stay roots).0 outcome.1.0, outcome.1.1 ∙ sym (users_on-stay (streams_of t) (streams_of arrived) raised)),
   )
 
   pub arrives-whole : CarriedTracesStand → CarriedStreamsStay → CarriedTracesStayLegal → CarriedEndingsStay → OffencesFallWithTags

@@ -12,6 +12,7 @@ use Rattle.std.proofs.lemmas.Option.{get_or_from_slice_get, slice_get-map, slice
 use Rattle.tydi_base.specs.Level.{LevelNumbers, number_of}
 use Rattle.tydi_base.proofs.PlaceLemmas.{slice_get-there}
 use Rattle.physical_stream.specs.Params.{Parameters}
+use Rattle.physical_stream.specs.Signals.{has_user}
 use Rattle.physical_stream.specs.Cycles.{Cycle, StreamTrace, done_in, done_of, items_done, waiting_of}
 use Rattle.physical_stream.specs.Items.{items_of, items_of_all}
 use Rattle.physical_stream.specs.Breaks.{Breaks, BreaksAfter, OnShown}
@@ -26,7 +27,7 @@ use Rattle.physical_stream.specs.declared.item.Item.TheVariants as items
 use Rattle.physical_stream.specs.declared.rule.Rule.{Rule}
 use Rattle.physical_stream.specs.declared.rule.Rule.TheVariants.{Hold, Index, LaneLast, Strobe, Start, End as Ends, Empty, InnerPause, OuterPause, Nest, Tag}
 use Rattle.physical_stream.specs.declared.transfer.Transfer.{Transfer}
-use Rattle.complexity_rules.specs.Levels.{BreaksBelow}
+use Rattle.complexity_rules.specs.Levels.{AreRaised, BreaksBelow, IsRaised}
 use Rattle.complexity_rules.proofs.CheckerLemmas.{waiting_of-one_more}
 use Rattle.complexity_rules.proofs.LevelLemmas.{offences_fall_by, rules_break_below}
 use Rattle.logical_types.specs.Tree.{Ltype}
@@ -50,7 +51,7 @@ use Rattle.plan_text.specs.declared.plan.Plan.{Plan}
 use Rattle.port_drive.specs.Laws.{IsDriven, IsLegalStream, done_on, trace_of}
 use Rattle.port_drive.proofs.DrivenLemmas.{is-driven}
 use Rattle.trace_decode.specs.Laws.{DrivenIsCarried, OffencesFallWithTags}
-use Rattle.trace_decode.specs.Outcome.{Carried, IsOutcome, users_on}
+use Rattle.trace_decode.specs.Outcome.{Carried, IsOutcome, users_done, users_of, users_on}
 use Rattle.trace_decode.specs.Standing.{CanDecode}
 use Rattle.trace_decode.specs.Tags.{BreaksTag, BreaksTagAfter, BreaksWithTags, OffendsWithTags, element_at, element_of_node, element_of_stream}
 use Rattle.trace_decode.proofs.JoinLemmas.{all_back, all_front, pair_at}
@@ -229,3 +230,20 @@ tags_break_below element rule level p before now higher (inr broken) =
 
 pub offences_fall_with_tags : OffencesFallWithTags
 offences_fall_with_tags split = offences_fall_by (λ stream. BreaksWithTags (element_at split stream)) (λ stream. tags_break_below (element_at split stream))
+
+-- the user words of a stream do not depend on its level
+users_of-stay : (low high : StreamTrace) → IsRaised low high → users_of high ≡ users_of low
+users_of-stay low high raised =
+    ap (λ (p : Parameters). if has_user p then users_done high.cycles else []) raised.params
+    ∙ ap (λ (cycles : List Cycle). if has_user low.params then users_done cycles else []) raised.cycles
+
+pub users_on-stay : (lows highs : List StreamTrace) → AreRaised lows highs → users_on highs ≡ users_on lows
+users_on-stay [] [] raised = refl
+users_on-stay [] (high ∷ highs) raised = absurd (omega (arith, raised.many))
+users_on-stay (low ∷ lows) [] raised = absurd (omega (arith, raised.many))
+users_on-stay (low ∷ lows) (high ∷ highs) raised =
+    ap (λ (words : List (List Bool)). words ∷ users_on highs) (users_of-stay low high (raised.each 0 low high refl refl))
+    ∙ ap (λ (l : List (List (List Bool))). users_of low ∷ l) (users_on-stay lows highs rest)
+  where
+    rest : AreRaised lows highs
+    rest = record { many = omega (arith, raised.many); each = λ stream a b here there. raised.each (suc stream) a b here there }

@@ -1,5 +1,6 @@
 -- The items of a stream as they are kept, and the tags that are read in them.
-use Rattle.std.proofs.Common.{◌≡◌, ◌∙◌, ℕ, zero, suc, ◌+◌, ◌*◌, ◌<◌, ◌≤◌, Bool, true, false, not, ◌&&◌, if◌then◌else◌, List, [], ◌∷◌, ◌++◌, length, take, drop, map, Option, Some, All, OnOk, Result, Ok, Err, MatchBool, add-one, refl, sym, ap, subst, arith, append_assoc, append-nil}
+use Rattle.std.proofs.Common.{◌≡◌, ◌∙◌, ℕ, zero, suc, ◌+◌, ◌*◌, ◌<◌, ◌≤◌, nat_lt, Bool, true, false, not, ◌&&◌, if◌then◌else◌, List, [], ◌∷◌, ◌++◌, length, take, drop, map, Option, Some, All, OnOk, Result, Ok, Err, MatchBool, add-one, refl, sym, ap, subst, arith, append_assoc, append-nil}
+use Rattle.std.proofs.lemmas.Bool.Decides.{nat_tests}
 use Rattle.std.proofs.lemmas.Grind.{flat_map-append}
 use Rattle.std.proofs.Math.Nat.{mul-le-mul_right, suc-mul}
 use Rattle.std.proofs.lemmas.List.{length-drop, length-take-le, map-append, take_all}
@@ -8,7 +9,7 @@ use Rattle.physical_stream.specs.Params.{Parameters}
 use Rattle.physical_stream.specs.Cycles.{Cycle, done_in, done_of, items_done}
 use Rattle.physical_stream.specs.Items.{is_active, items_of, items_of_all, lane_closes, lane_items, lane_word, last_bit, parts_below}
 use Rattle.physical_stream.specs.Shape.{IsNested, may_close, tail_of}
-use Rattle.physical_stream.specs.Signals.{Fits}
+use Rattle.physical_stream.specs.Signals.{Fits, has_user}
 use Rattle.physical_stream.specs.declared.item.Item.{Item}
 use Rattle.physical_stream.specs.declared.item.Item.TheVariants as items
 use Rattle.physical_stream.specs.declared.transfer.Transfer.{Transfer}
@@ -18,8 +19,8 @@ use Rattle.nest_shape.specs.declared.builder.Builder.{Builder}
 use Rattle.nest_shape.proofs.LawLemmas.{nests_item_by_item}
 use Rattle.value_views.specs.Laws.{FitsStream}
 use Rattle.complexity_rules.proofs.CheckerLemmas.{items_done-one_more}
-use Rattle.trace_decode.specs.Keeping.{Builds, HasDims, KeepsStream, Takes, are_named, is_named, lane_element}
-use Rattle.trace_decode.specs.Outcome.{users_done}
+use Rattle.trace_decode.specs.Keeping.{Builds, HasDims, KeepsStream, KeepsUser, Takes, are_named, is_named, lane_element}
+use Rattle.trace_decode.specs.Outcome.{users_done, users_of}
 use Rattle.trace_decode.specs.declared.stream_kept.StreamKept.{StreamKept}
 
 -- ---- the words of lanes
@@ -138,6 +139,39 @@ users_done-one_more cycles now =
     ap (map (λ (t : Transfer). t.user)) (flat_map-append done_in cycles (now ∷ []) ∙ ap (λ (l : List Transfer). done_of cycles ++ l) (append-nil (done_in now)))
     ∙ map-append (λ (t : Transfer). t.user) (done_of cycles) (done_in now)
 
+-- those of one cycle more
+pub users_of-one_more : (p : Parameters) (cycles : List Cycle) (now : Cycle)
+    → users_of (record { params = p; cycles = cycles ++ now ∷ [] })
+    ≡ users_of (record { params = p; cycles = cycles }) ++ (if has_user p then map (λ (t : Transfer). t.user) (done_in now) else [])
+users_of-one_more p cycles now = by_test (has_user p)
+  where
+    by_test : (test : Bool)
+        → (if test then users_done (cycles ++ now ∷ []) else []) ≡ (if test then users_done cycles else []) ++ (if test then map (λ (t : Transfer). t.user) (done_in now) else [])
+    by_test true = users_done-one_more cycles now
+    by_test false = refl
+
+no_bits : (width : ℕ) → width ≡ 0 → nat_lt 0 width ≡ false
+no_bits width none = grind (arith, nat_tests)
+
+some_bits : (width : ℕ) → (width ≡ 0 → ⊥) → nat_lt 0 width ≡ true
+some_bits width some = grind (arith, nat_tests)
+
+-- a stream without bits for them keeps none
+pub keeps-no_user : (p : Parameters) (t : Transfer) (kept : StreamKept) → p.user ≡ 0 → KeepsUser p t kept kept
+keeps-no_user p t kept none = record {
+  builder = refl;
+  users = sym (append-nil kept.users) ∙ ap (λ (b : Bool). kept.users ++ (if b then t.user ∷ [] else [])) (sym (no_bits p.user none));
+}
+
+-- and else the user word is kept
+pub keeps-user : (p : Parameters) (t : Transfer) (old new : StreamKept) (user : List Bool) → (p.user ≡ 0 → ⊥) → user ≡ t.user → new.builder ≡ old.builder → new.users ≡ old.users ++ user ∷ []
+    → KeepsUser p t old new
+keeps-user p t old new user some is same more = record {
+  builder = same;
+  users =
+      more ∙ ap (λ (u : List Bool). old.users ++ u ∷ []) is ∙ ap (λ (b : Bool). old.users ++ (if b then t.user ∷ [] else [])) (sym (some_bits p.user some));
+}
+
 -- ---- items of a transfer are items of its stream
 
 piece-width : (lane lanes width : ℕ) (bits : List Bool) → lane < lanes → length bits ≡ lanes * width → length (take width (drop (lane * width) bits)) ≡ width
@@ -178,8 +212,10 @@ module _ (p : Parameters) (cycles : List Cycle) (old new : StreamKept) (keeps : 
   keeps-undone now nothing same =
       let items_same : items_done p (cycles ++ now ∷ []) ≡ items_done p cycles =
       items_done-one_more p cycles now ∙ ap (λ (ts : List Transfer). items_done p cycles ++ items_of_all p ts) nothing ∙ append-nil (items_done p cycles) in
-      let users_same : users_done (cycles ++ now ∷ []) ≡ users_done cycles =
+      let none_more : users_done (cycles ++ now ∷ []) ≡ users_done cycles =
       users_done-one_more cycles now ∙ ap (λ (ts : List Transfer). users_done cycles ++ map (λ (t : Transfer). t.user) ts) nothing ∙ append-nil (users_done cycles) in
+      let users_same : users_of (record { params = p; cycles = cycles ++ now ∷ [] }) ≡ users_of (record { params = p; cycles = cycles }) =
+      ap (λ (words : List (List Bool)). if has_user p then words else []) none_more in
       record {
         level = keeps.level;
         fit = subst (All (FitsStream p)) (sym items_same) keeps.fit;
@@ -189,9 +225,9 @@ module _ (p : Parameters) (cycles : List Cycle) (old new : StreamKept) (keeps : 
       }
 
   -- in which a transfer is done
-  pub keeps-done : (t : Transfer) (mid : StreamKept) → Fits p t → mid.builder ≡ old.builder → mid.users ≡ old.users ++ t.user ∷ [] → Takes (items_of p t) mid new
+  pub keeps-done : (t : Transfer) (mid : StreamKept) → Fits p t → KeepsUser p t old mid → Takes (items_of p t) mid new
       → KeepsStream (record { params = p; cycles = cycles ++ record { ready = true; shown = Some t } ∷ [] }) new
-  keeps-done t mid fits same user takes =
+  keeps-done t mid fits user takes =
       let items_more : items_done p (cycles ++ record { ready = true; shown = Some t } ∷ []) ≡ items_done p cycles ++ items_of p t =
       items_done-one_more p cycles (record { ready = true; shown = Some t }) ∙ ap (λ (is : List Item). items_done p cycles ++ is) (append-nil (items_of p t)) in
       record {
@@ -199,15 +235,17 @@ module _ (p : Parameters) (cycles : List Cycle) (old new : StreamKept) (keeps : 
         fit = subst (All (FitsStream p)) (sym items_more) (All-append (FitsStream p) (items_done p cycles) (items_of p t) keeps.fit (items-fit p t fits));
         builds =
             subst (λ (l : List Item). Builds l new.builder) (sym items_more)
-            (takes.builds (items_done p cycles) (subst (λ (b : Option Builder). Builds (items_done p cycles) b) (sym same) keeps.builds));
-        dims = takes.dims p.dims (subst (HasDims p.dims) (sym same) keeps.dims);
-        users = takes.users ∙ user ∙ ap (λ (us : List (List Bool)). us ++ t.user ∷ []) keeps.users ∙ sym (users_done-one_more cycles (record { ready = true; shown = Some t }));
+            (takes.builds (items_done p cycles) (subst (λ (b : Option Builder). Builds (items_done p cycles) b) (sym user.builder) keeps.builds));
+        dims = takes.dims p.dims (subst (HasDims p.dims) (sym user.builder) keeps.dims);
+        users =
+            takes.users ∙ user.users ∙ ap (λ (us : List (List Bool)). us ++ (if has_user p then t.user ∷ [] else [])) keeps.users
+            ∙ sym (users_of-one_more p cycles (record { ready = true; shown = Some t }));
       }
 
   -- the same of a result, where there is memory
-  pub keeps-done_if : {E : Type 0} → (t : Transfer) (mid : StreamKept) (ready : Bool) (result : Result Bool E) → ready ≡ true → Fits p t → mid.builder ≡ old.builder
-      → mid.users ≡ old.users ++ t.user ∷ [] → OnOk result (Takes (items_of p t) mid new)
+  pub keeps-done_if : {E : Type 0} → (t : Transfer) (mid : StreamKept) (ready : Bool) (result : Result Bool E) → ready ≡ true → Fits p t → KeepsUser p t old mid
+      → OnOk result (Takes (items_of p t) mid new)
       → OnOk result (KeepsStream (record { params = p; cycles = cycles ++ record { ready = ready; shown = Some t } ∷ [] }) new)
-  keeps-done_if t mid ready (Err e) is fits same user takes = tt
-  keeps-done_if t mid ready (Ok named) is fits same user takes =
-      subst (λ (b : Bool). KeepsStream (record { params = p; cycles = cycles ++ record { ready = b; shown = Some t } ∷ [] }) new) (sym is) (keeps-done t mid fits same user takes)
+  keeps-done_if t mid ready (Err e) is fits user takes = tt
+  keeps-done_if t mid ready (Ok named) is fits user takes =
+      subst (λ (b : Bool). KeepsStream (record { params = p; cycles = cycles ++ record { ready = b; shown = Some t } ∷ [] }) new) (sym is) (keeps-done t mid fits user takes)

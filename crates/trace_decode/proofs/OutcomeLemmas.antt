@@ -53,7 +53,7 @@ use Rattle.port_drive.specs.Drives.{head_of_stream, heads_of}
 use Rattle.port_drive.specs.Laws.{done_on}
 use Rattle.trace_decode.specs.Finishing.{AreFinished, IsFinished, IsJoined, IsWord, fault_of_survey}
 use Rattle.trace_decode.specs.Keeping.{HasDims, KeepsStream, are_named, are_named_in, are_named_shown, is_named}
-use Rattle.trace_decode.specs.Outcome.{IsDecoded, IsOutcome, IsWhole, Offends, Unfinished, outcome_of_fault, users_done, users_on}
+use Rattle.trace_decode.specs.Outcome.{IsDecoded, IsOutcome, IsWhole, Offends, Unfinished, outcome_of_fault, users_of, users_on}
 use Rattle.trace_decode.specs.Standing.{HasBadTag, RunsOver, TagsSay}
 use Rattle.trace_decode.specs.Tags.{BreaksTag, BreaksTagAfter, OffendsByTag, OffendsWithTags, element_at, element_of_node, element_of_stream}
 use Rattle.trace_decode.specs.declared.decode_run.DecodeRun.{DecodeRun}
@@ -408,7 +408,7 @@ module _ (split : PlainSplit) (port : IsPortSplit split) (t : TraceText) (run : 
           subst (λ (l : List Item). IsFinished phys (element_at split i) l one) same_items (finished_at i phys head.0 one there head.1 (at.is ∙ ap head_of_stream same_phys) keeps)
 
   all_users : map (λ (one : StreamKept). one.users) run.kept.items ≡ users_on (streams_of t)
-  all_users = maps_same (λ (one : StreamKept). one.users) (λ (s : StreamTrace). users_done s.cycles) run.kept.items (streams_of t) runs.kept.many (λ i one s found here. (runs.kept.each i s one here found).users)
+  all_users = maps_same (λ (one : StreamKept). one.users) users_of run.kept.items (streams_of t) runs.kept.many (λ i one s found here. (runs.kept.each i s one here found).users)
 
   -- the outcome where the streams are joined
   pub decoded_from : (result : Result Decoded DecodeFault) → IsJoined split (done_on (streams_of t)) run.kept.items result → IsDecoded split t result

@@ -5,7 +5,7 @@ use Rattle.tydi_base.specs.Level.{IsLevel}
 use Rattle.physical_stream.specs.Params.{Parameters}
 use Rattle.physical_stream.specs.Cycles.{Cycle, StreamTrace, items_done}
 use Rattle.physical_stream.specs.Items.{is_active, items_of, lane_word}
-use Rattle.physical_stream.specs.Signals.{Fits}
+use Rattle.physical_stream.specs.Signals.{Fits, has_user}
 use Rattle.physical_stream.specs.declared.transfer.Transfer.{Transfer}
 use Rattle.physical_stream.specs.Shape.{IsNested}
 use Rattle.physical_stream.specs.declared.item.Item.{Item}
@@ -17,7 +17,7 @@ use Rattle.nest_shape.specs.Building.{StandsFor, dims_of}
 use Rattle.nest_shape.specs.declared.builder.Builder.{Builder}
 use Rattle.logical_value.specs.Agreement.{names_variants}
 use Rattle.value_views.specs.Laws.{FitsStream}
-use Rattle.trace_decode.specs.Outcome.{users_done}
+use Rattle.trace_decode.specs.Outcome.{users_of}
 use Rattle.trace_decode.specs.declared.stream_kept.StreamKept.{StreamKept}
 
 -- the builder was given these items; there is none where they are not nested
@@ -60,6 +60,11 @@ pub record Takes (taken : List Item) (old new : StreamKept) : Type 0 where
   pub dims : (dims : ℕ) → HasDims dims old.builder → HasDims dims new.builder
   pub users : new.users ≡ old.users
 
+-- the user word of a transfer that is done was kept, where the stream has bits for it, and no item was taken
+pub record KeepsUser (p : Parameters) (t : Transfer) (old new : StreamKept) : Type 0 where
+  pub builder : new.builder ≡ old.builder
+  pub users : new.users ≡ old.users ++ (if has_user p then t.user ∷ [] else [])
+
 -- elements of this type are as wide as those of a stream with these parameters
 pub record IsElementOf (element : Ltype) (p : Parameters) : Type 0 where
   pub plain : IsPlain element
@@ -71,4 +76,4 @@ pub record KeepsStream (s : StreamTrace) (kept : StreamKept) : Type 0 where
   pub fit : All (FitsStream s.params) (items_done s.params s.cycles)
   pub builds : Builds (items_done s.params s.cycles) kept.builder
   pub dims : HasDims s.params.dims kept.builder
-  pub users : kept.users ≡ users_done s.cycles
+  pub users : kept.users ≡ users_of s

@@ -1,7 +1,8 @@
 -- The outcome of a trace against a port's type (this project's own).
-use Rattle.std.specs.Prelude.{◌≡◌, ℕ, Bool, List, length, map, take, Option, Some, None, IfSome, Result, Ok, Err, slice_get}
+use Rattle.std.specs.Prelude.{◌≡◌, ℕ, Bool, List, [], if◌then◌else◌, length, map, take, Option, Some, None, IfSome, Result, Ok, Err, slice_get}
 use Rattle.physical_stream.specs.Cycles.{Cycle, StreamTrace, done_of}
 use Rattle.physical_stream.specs.First.{IsFirst, Offence}
+use Rattle.physical_stream.specs.Signals.{has_user}
 use Rattle.physical_stream.specs.declared.head.Head.{Head}
 use Rattle.physical_stream.specs.declared.item.Item.{Item}
 use Rattle.physical_stream.specs.declared.transfer.Transfer.{Transfer}
@@ -26,9 +27,13 @@ use Rattle.trace_decode.specs.declared.fault.DecodeFault.TheVariants as faults
 abbrev pub users_done : List Cycle → List (List Bool)
 users_done cycles = map (λ (t : Transfer). t.user) (done_of cycles)
 
+-- the user words of a stream: those of the transfers done, where it has bits for them, and else none
+abbrev pub users_of : StreamTrace → List (List Bool)
+users_of s = if has_user s.params then users_done s.cycles else []
+
 -- the same of each stream of a trace
 abbrev pub users_on : List StreamTrace → List (List (List Bool))
-users_on streams = map (λ (s : StreamTrace). users_done s.cycles) streams
+users_on streams = map users_of streams
 
 -- two lists of heads differ first at this place: they are the same before it, and there they have different heads, or one of them ends
 pub record DifferFirst (one other : List Head) (place : ℕ) : Type 0 where

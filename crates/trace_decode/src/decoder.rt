@@ -19,7 +19,8 @@ use tydi_base::Memory;
 use type_split::Split;
 
 /// Reads the rows of a trace back as a value of a port's type, as they come. It keeps of them the nests of each stream and the user words of
-/// the transfers done. It is no fixed sink: it takes memory for each element and each user word.
+/// the transfers done. A stream without user bits has no user words here. It is no fixed sink: it takes memory for each element and each
+/// user word.
 #[derive(Drop)]
 pub struct Decoder<'s, 't> {
     pub(crate) split: &'s Split<'t>,
@@ -64,7 +65,7 @@ impl<'s, 't> Decoder<'s, 't> {
         Ok(())
     }
 
-    /// Takes the next row. `Memory` comes where there is none for its elements and its user word.
+    /// Takes the next row. `Memory` comes where there is none for its elements or its user word.
     #[inline(always)]
     pub fn take(&mut self, alloc: Global, row: Row<'_>) -> Result<(), Memory>
         requires { (t : TraceText) × (DecoderStands self.old (Some t) × CanTake t (cycle_in row)) }

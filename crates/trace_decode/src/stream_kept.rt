@@ -11,7 +11,7 @@ ghost use Rattle.physical_stream.specs.Signals.{Fits};
 ghost use Rattle.physical_stream.specs.Shape.{IsNested};
 ghost use Rattle.physical_stream.specs.declared.item.Item.{Item};
 ghost use Rattle.physical_stream.specs.declared.item.Item.TheVariants.{Close, Elem};
-ghost use Rattle.trace_decode.specs.Keeping.{Builds, CanShow, HasDims, IsElementOf, KeepsStream, Takes, are_named, are_named_in, lane_element};
+ghost use Rattle.trace_decode.specs.Keeping.{Builds, CanShow, HasDims, IsElementOf, KeepsStream, KeepsUser, Takes, are_named, are_named_in, lane_element};
 ghost use Rattle.trace_decode.specs.Tagged.{has_tags};
 
 use crate::tags::word_has_names;
@@ -27,7 +27,7 @@ use tydi_base::{Bits, List, Memory, TryClone};
 pub(crate) struct StreamKept {
     /// The series of the items done. None from the first item on that may not stand where it does.
     pub(crate) builder: Option<Builder>,
-    /// The user word of each transfer done.
+    /// The user word of each transfer done. There are none where the stream has no bits for them.
     pub(crate) users: List<Bits>,
 }
 
@@ -88,9 +88,19 @@ impl StreamKept {
         if !ready {
             return has_names(alloc, element, p, tagged, transfer);
         }
-        let user = transfer.user.try_clone(alloc)?;
-        self.users.push(user)?;
+        self.keep_user(alloc, p, transfer)?;
         self.take(alloc, element, p, tagged, transfer)
+    }
+
+    /// Keeps the user word of a transfer that is done, where the stream has bits for it.
+    fn keep_user(&mut self, alloc: Global, p: &Params, transfer: &Transfer) -> Result<(), Memory>
+        ensures { OnOk result (KeepsUser p.now transfer.now self.old self.new) }
+    {
+        if p.user == 0 {
+            return Ok(());
+        }
+        let user = transfer.user.try_clone(alloc)?;
+        self.users.push(user)
     }
 
     /// Takes the items of a transfer that is done. False exactly where a tag that is read in them names no variant.

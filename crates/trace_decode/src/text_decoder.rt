@@ -14,7 +14,7 @@ use tydi_base::Memory;
 use type_split::Split;
 
 /// Reads the text of a trace back as a value of a port's type. The text comes in pieces. Of the rows it keeps the nests of each stream and
-/// the user words of the transfers done.
+/// the user words of the transfers done. A stream without user bits has no user words here.
 #[derive(Drop)]
 pub struct TextDecoder<'s, 't> {
     pub(crate) reader: TraceReader<Decoder<'s, 't>>,

@@ -16,9 +16,9 @@ use Rattle.logical_value.specs.declared.value.PortValue.{PortValue}
 use Rattle.plan_text.specs.declared.plan.Plan.{Plan}
 use Rattle.port_drive.specs.Laws.{done_on, trace_of}
 use Rattle.port_drive.specs.Text.{IsDrivenText}
-use Rattle.trace_decode.specs.Outcome.{users_done, users_on}
+use Rattle.trace_decode.specs.Outcome.{users_on}
 use Rattle.trace_decode.specs.Standing.{CanDecode}
-use Rattle.trace_decode.proofs.DrivenLemmas.{is_carried, offences_fall_with_tags}
+use Rattle.trace_decode.proofs.DrivenLemmas.{is_carried, offences_fall_with_tags, users_on-stay}
 use Rattle.trace_decode.proofs.LawLemmas.{items_carry_one}
 use Rattle.type_split.specs.Streams.{IsPortSplit, PlainSplit}
 use Rattle.value_text.specs.Canonical.{canonical}
@@ -186,7 +186,7 @@ raised-more low high lows highs raised = record { many = omega (arith, raised.ma
 done-stays : (low high : StreamTrace) → IsRaised low high → items_done high.params high.cycles ≡ items_done low.params low.cycles
 done-stays low high raised = ap (items_done high.params) raised.cycles ∙ ap (λ (p : Parameters). items_done p low.cycles) raised.params
 
--- what is done, how streams end, and the user words do not depend on levels
+-- what is done and how streams end do not depend on levels
 done-on-stays : (lows highs : List StreamTrace) → AreRaised lows highs → done_on highs ≡ done_on lows
 done-on-stays [] [] raised = refl
 done-on-stays [] (high ∷ highs) raised = absurd (omega (arith, raised.many))
@@ -194,14 +194,6 @@ done-on-stays (low ∷ lows) [] raised = absurd (omega (arith, raised.many))
 done-on-stays (low ∷ lows) (high ∷ highs) raised =
     ap (λ (l : List Item). l ∷ done_on highs) (done-stays low high (raised.each 0 low high refl refl))
     ∙ ap (λ (l : List (List Item)). items_done low.params low.cycles ∷ l) (done-on-stays lows highs (raised-more low high lows highs raised))
-
-users-on-stay : (lows highs : List StreamTrace) → AreRaised lows highs → users_on highs ≡ users_on lows
-users-on-stay [] [] raised = refl
-users-on-stay [] (high ∷ highs) raised = absurd (omega (arith, raised.many))
-users-on-stay (low ∷ lows) [] raised = absurd (omega (arith, raised.many))
-users-on-stay (low ∷ lows) (high ∷ highs) raised =
-    ap (λ (l : List (List Bool)). l ∷ users_on highs) (ap users_done (raised.each 0 low high refl refl).cycles)
-    ∙ ap (λ (l : List (List (List Bool))). users_done low.cycles ∷ l) (users-on-stay lows highs (raised-more low high lows highs raised))
 
 unfinished-stays : (number : ℕ) (lows highs : List StreamTrace) → AreRaised lows highs → first_unfinished number highs ≡ first_unfinished number lows
 unfinished-stays number [] [] raised = refl
@@ -216,5 +208,5 @@ levels-keep split value low high raised legal whole carries = record {
   legal = λ o offends. legal o (offences_fall_with_tags split (streams_of low) (streams_of high) o raised offends);
   whole = unfinished-stays 0 (streams_of low) (streams_of high) raised ∙ whole;
   carries = subst (Carries split value) (sym (done-on-stays (streams_of low) (streams_of high) raised)) carries;
-  users = users-on-stay (streams_of low) (streams_of high) raised;
+  users = users_on-stay (streams_of low) (streams_of high) raised;
 }
