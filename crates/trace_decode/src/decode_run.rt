@@ -73,7 +73,7 @@ impl DecodeRun {
         let stream = self.rows % streams;
         let tagged = self.tagged[stream];
         let named = take_row(alloc, &mut self.kept, split, stream, tagged, row)?;
-        self.tag = first_tag(self.tag, named, self.rows, streams);
+        note_tag(&mut self.tag, named, self.rows, streams);
         self.rows += 1;
         Ok(())
     }
@@ -124,23 +124,19 @@ fn take_row(
     kept[stream].see(alloc, node.element, &phys.params, tagged, row)
 }
 
-/// The first violation of the rule on tags, with the row of this number. The rows are those of so many streams.
-fn first_tag(
-    tag: Option<FoundOffence>,
-    named: bool,
-    row: usize,
-    streams: usize,
-) -> Option<FoundOffence>
+/// Notes the first violation of the rule on tags: that of the rows before, or that of the row of this number. The rows are those of so
+/// many streams.
+fn note_tag(tag: &mut Option<FoundOffence>, named: bool, row: usize, streams: usize)
     requires some { 0 < streams }
     requires few { row < most_cycles * streams }
-    ensures { IsTagWith tag named row streams result }
+    ensures { IsTagWith tag.old named row streams tag.new }
 {
     if named || tag.is_some() {
-        return tag;
+        return;
     }
-    Some(FoundOffence {
+    *tag = Some(FoundOffence {
         cycle: (row / streams) as u32,
         stream: row % streams,
         rule: Rule::Tag,
-    })
+    });
 }

@@ -30,13 +30,13 @@ take_row-requires-clause-tagged c =
     tagged_at (plain_split c.args.split.now) c.args.self.now.tagged.items _ _ stands.1.0.tagged
     (omega (arith, slice_get_within (plain_split c.args.split.now).streams _ can.phys can.there, stands.1.0.tagged.many)) c.index-tagged.ensures
 
-pub first_tag-self-requires-clause-some : goal.first_tag-self-requires-clause-some
-first_tag-self-requires-clause-some c =
+pub note_tag-requires-clause-some : goal.note_tag-requires-clause-some
+note_tag-requires-clause-some c =
     let stands = c.requires.stands in
     some_streams (plain_split c.args.split.now) stands.0 c.args.self.now stands.1.0 (cycle_in c.args.row) stands.1.1 c.len-streams.result (c.len-streams.ensures ∙ c.args.self.now.kept.ok.0)
 
-pub first_tag-self-requires-clause-few : goal.first_tag-self-requires-clause-few
-first_tag-self-requires-clause-few c =
+pub note_tag-requires-clause-few : goal.note_tag-requires-clause-few
+note_tag-requires-clause-few c =
     let stands = c.requires.stands in
     rows_below (plain_split c.args.split.now) stands.0 c.args.self.now stands.1.0 (cycle_in c.args.row) stands.1.1 c.len-streams.result (c.len-streams.ensures ∙ c.args.self.now.kept.ok.0)
 
@@ -54,5 +54,5 @@ returns c t stands can =
       most = few_new split t c.args.self.now stands row can c.len-streams.result many;
       kept = kept-more split t c.args.self.now stands row can c.len-streams.result many c.take_row.new.kept.items c.in_ok-named.named c.in_ok-named.ensures;
       tagged = stands.tagged;
-      tag = tag-more split t c.args.self.now stands row can c.len-streams.result many c.take_row.new.kept.items c.in_ok-named.named c.in_ok-named.ensures _ c.first_tag-self.ensures;
+      tag = tag-more split t c.args.self.now stands row can c.len-streams.result many c.take_row.new.kept.items c.in_ok-named.named c.in_ok-named.ensures _ c.note_tag.ensures;
     }
