@@ -76,7 +76,7 @@ fn joined(alloc: Global, split: &Split<'_>, kept: Vec<StreamKept>) -> Result<Dec
         views.push(series_of(builder))?;
         users.push(words)?;
     }
-    match join(alloc, split, views.as_slice()) {
+    match join(alloc, split, views) {
         Ok(value) => Ok(Decoded { value, users }),
         Err(fault) => Err(fault_of_join(fault)),
     }

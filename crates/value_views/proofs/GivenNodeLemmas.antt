@@ -12,6 +12,7 @@ use Rattle.type_split.specs.Nodes.{StreamNode, is_physical, nodes_in, nodes_in_p
 use Rattle.type_split.specs.Standing.{AreFrom}
 use Rattle.type_split.specs.Streams.{IsPortSplit, PlainSplit, node_view, plain_split}
 use Rattle.type_split.specs.declared.split.Node.{Node}
+use Rattle.type_split.specs.declared.split.Phys.{Phys}
 use Rattle.type_split.specs.declared.split.Split.{Split}
 use Rattle.type_split.proofs.ElementLemmas.{nodes_have_elements}
 use Rattle.type_split.proofs.StandingLemmas.{AreFrom-inside, AreFrom-part, AreFrom-parts, nodes_stand}
@@ -24,7 +25,7 @@ use Rattle.std.specs.Prelude.{IfOk, Result, Ok, Err}
 use Rattle.nest_shape.specs.declared.nest.Nest.{Nest}
 use Rattle.nest_shape.proofs.PlainLemmas.{trees_of-map as nest_trees}
 use Rattle.logical_value.specs.declared.value.Value.{Value}
-use Rattle.value_views.specs.Giving.{AreGiven, CanJoin, CanUnpack, IsUnseenNode, first_sync, first_sync_in, plain_series}
+use Rattle.value_views.specs.Giving.{AreGiven, AreLeft, CanJoin, CanUnpack, GiveFrom, IsUnseenNode, first_sync, first_sync_in, plain_series}
 use Rattle.value_views.specs.Joining.{HaveWords, IsView, plain_views}
 use Rattle.value_views.specs.Series.{series_at}
 use Rattle.value_views.specs.Words.{blank_of, blank_series, in_nest, first_carried, first_carried_in, given_at, unpacked}
@@ -227,16 +228,76 @@ ready-blank split views number slice node can unseen are is =
     subst (λ (n : ℕ). HasShapeAt (plain_split split) views number (node_view node) (first_sync n (types.plain node.element.now))) next
     (shape-of_node (plain_split split) views number (node_view node) can found (ap (λ (n : StreamNode). n.phys) same ∙ unseen.unseen))
 
-pub ready-seen : (split : Split) (views : List (List nests.Tree)) (number phys : ℕ) (slice : List Node) (node : Node) → CanJoin (plain_split split) views → number < length split.nodes
-    → slice ≡ split.nodes → node ≡ get_or slice number node → node.phys ≡ Some phys → HasWordsAt (plain_split split) views number phys (node_view node)
-ready-seen split views number phys slice node can less are is seen =
-    words-of_node (plain_split split) views number phys (node_view node) can (node-at split number slice node are less is) seen
+-- ---- the views that are left
 
--- the view at a place of views
-pub view-placed : (views : List (List Nest)) (at : ℕ) (view : List Nest) → at < length views → view ≡ get_or views at view → view_at at (plain_views views) ≡ map nests.plain view
-view-placed [] at view less is = absurd (omega (arith, less))
-view-placed (one ∷ views) zero view less is = ap (λ (v : List Nest). map nests.plain v) (sym is)
-view-placed (one ∷ views) (suc at) view less is = view-placed views at view (omega (arith, less)) is
+view-taken : (views : List (List Nest)) (at : ℕ) (view : List Nest) → view ≡ get_or views at [] → view_at at (plain_views views) ≡ map nests.plain view
+view-taken [] zero view is = ap (λ (v : List Nest). map nests.plain v) (sym is)
+view-taken [] (suc at) view is = ap (λ (v : List Nest). map nests.plain v) (sym is)
+view-taken (one ∷ views) zero view is = ap (λ (v : List Nest). map nests.plain v) (sym is)
+view-taken (one ∷ views) (suc at) view is = view-taken views at view is
+
+view-other : (views : List (List Nest)) (at k : ℕ) → (at ≡ k → ⊥) → view_at k (plain_views (slice_set views at [])) ≡ view_at k (plain_views views)
+view-other [] at k apart = refl
+view-other (first ∷ views) zero zero apart = absurd (apart refl)
+view-other (first ∷ views) zero (suc k) apart = refl
+view-other (first ∷ views) (suc at) zero apart = refl
+view-other (first ∷ views) (suc at) (suc k) apart = view-other views at k (λ same. apart (ap suc same))
+
+-- two nodes have not the same physical stream
+streams-apart : (split : PlainSplit) → IsPortSplit split → (k number phys : ℕ) (one node : StreamNode) → slice_get split.nodes k ≡ Some one → one.phys ≡ Some phys
+    → slice_get split.nodes number ≡ Some node → node.phys ≡ Some phys → k ≡ number
+streams-apart split port k number phys one node at there found seen =
+    let that = node-stream split port k phys one at there in
+    let here = node-stream split port number phys node found seen in
+    let same : that.one ≡ here.one = one-found (slice_get split.streams phys) that.one here.one that.found here.found in
+    sym that.node_is ∙ ap (λ (s : Phys). s.node) same ∙ here.node_is
+
+-- a node without a view leaves the views of those before it
+pub left-unseen : (split : PlainSplit) (views left : List (List nests.Tree)) (number : ℕ) → AreLeft split views (suc number) left → AreLeft split views number left
+left-unseen split views left number are = record { each = λ k phys node less at there. are.each k phys node (omega (arith, less)) at there }
+
+left-seen : (split : PlainSplit) (views : List (List nests.Tree)) (number phys : ℕ) (node : StreamNode) (old new : List (List Nest)) → IsPortSplit split
+    → AreLeft split views (suc number) (plain_views old) → slice_get split.nodes number ≡ Some node → node.phys ≡ Some phys → new ≡ slice_set old phys [] → AreLeft split views number (plain_views new)
+left-seen split views number phys node old new port are found seen set =
+    subst (λ (l : List (List Nest)). AreLeft split views number (plain_views l)) (sym set)
+    (record {
+      each = λ k other one less at there.
+          view-other old phys other
+          (λ same. (let equal = streams-apart split port k number phys one node at (there ∙ ap (λ (n : ℕ). Some n) (sym same)) found seen in omega (arith, less, equal)))
+          ∙ are.each k other one (omega (arith, less)) at there;
+    })
+
+-- the view of the node of this number is taken out
+pub record TakesView (split : PlainSplit) (views : List (List nests.Tree)) (number : ℕ) (element : Ltype) (view : List Nest) (new : List (List Nest)) : Type 0 where
+  pub can : CanUnpack element (HaveWords element (nests.plain_nests view))
+  pub given : map (unpacked element) (map nests.plain view) ≡ given_at split views number
+  pub left : AreLeft split views number (plain_views new)
+
+takes-view : (split : PlainSplit) (views : List (List nests.Tree)) (number phys : ℕ) (node : StreamNode) (view : List Nest) (new : List (List Nest)) → HasWordsAt split views number phys node
+    → view_at phys views ≡ map nests.plain view → AreLeft split views number (plain_views new) → TakesView split views number node.element view new
+takes-view split views number phys node view new has placed left = record {
+  can = record { plain = has.element.plain; few = has.element.few; words = subst (HaveWords node.element) (ap trees_of placed ∙ nest_trees view) has.words };
+  given = ap (λ (v : List nests.Tree). map (unpacked node.element) v) (sym placed) ∙ has.given;
+  left = left;
+}
+
+pub seen-view : (split : Split) (views : List (List nests.Tree)) (number phys : ℕ) (slice : List Node) (node : Node) (element : Ltype) (old new : List (List Nest)) (view : List Nest)
+    → CanJoin (plain_split split) views → AreLeft (plain_split split) views (suc number) (plain_views old) → number < length split.nodes → slice ≡ split.nodes → node ≡ get_or slice number node
+    → node.phys ≡ Some phys → element ≡ types.plain node.element.now → view ≡ get_or old phys [] → new ≡ slice_set old phys [] → TakesView (plain_split split) views number element view new
+seen-view split views number phys slice node element old new view can are less nodes is seen same taken set =
+    let whole = plain_split split in
+    let found = node-at split number slice node nodes less is in
+    let placed = sym (are.each number phys (node_view node) (omega arith) found seen) ∙ view-taken old phys view taken in
+    let left = left-seen whole views number phys (node_view node) old new can.port are found seen set in
+    subst (λ (t : Ltype). TakesView whole views number t view new) (sym same)
+    (takes-view whole views number phys (node_view node) view new (words-of_node whole views number phys (node_view node) can found seen) placed left)
+
+pub ok-taken : {E : Type 0} (result : Result (List Value) E) (one other : List Tree) (Left : Type 0) → one ≡ other → Left → IfOk result (λ series. map plain series ≡ one)
+    → IfOk result (λ series. (map plain series ≡ other) × Left)
+ok-taken (Ok value) one other Left same left is = (is ∙ same, left)
+ok-taken (Err error) one other Left same left is = tt
+
+-- ---- the series behind a node
 
 -- the series at a place of series
 pub series-placed : (series : List (List Value)) (at : ℕ) (one : List Value) → at < length series → one ≡ get_or series at one → series_at at (plain_series series) ≡ map plain one
@@ -244,31 +305,9 @@ series-placed [] at one less is = absurd (omega (arith, less))
 series-placed (first ∷ series) zero one less is = ap (λ (v : List Value). map plain v) (sym is)
 series-placed (first ∷ series) (suc at) one less is = series-placed series at one (omega (arith, less)) is
 
-pub can-unpack : (split : PlainSplit) (views : List (List Nest)) (number phys : ℕ) (node : StreamNode) (element : Ltype) (view slice : List Nest) → HasWordsAt split (plain_views views) number phys node
-    → element ≡ node.element → view ≡ get_or views phys view → slice ≡ view → CanUnpack element (HaveWords element (nests.plain_nests slice))
-can-unpack split views number phys node element view slice has same is are =
-    let long = length-map views (λ (v : List Nest). map nests.plain v) in
-    let within = has.within in
-    let placed = view-placed views phys view (omega (arith, within, long)) is in
-    subst (λ (t : Ltype). CanUnpack t (HaveWords t (nests.plain_nests slice))) (sym same)
-    (record {
-      plain = has.element.plain;
-      few = has.element.few;
-      words = subst (HaveWords node.element) (ap trees_of (placed ∙ ap (map nests.plain) (sym are)) ∙ nest_trees slice) has.words;
-    })
-
 pub ok-series : {E : Type 0} (result : Result (List Value) E) (one other : List Tree) → one ≡ other → IfOk result (λ series. map plain series ≡ one) → IfOk result (λ series. map plain series ≡ other)
 ok-series (Ok value) one other same is = is ∙ same
 ok-series (Err error) one other same is = tt
-
-pub seen-series : (split : PlainSplit) (views : List (List Nest)) (number phys : ℕ) (node : StreamNode) (element : Ltype) (view slice : List Nest) → HasWordsAt split (plain_views views) number phys node
-    → element ≡ node.element → view ≡ get_or views phys view → slice ≡ view → map (unpacked element) (map nests.plain slice) ≡ given_at split (plain_views views) number
-seen-series split views number phys node element view slice has same is are =
-    let long = length-map views (λ (v : List Nest). map nests.plain v) in
-    let within = has.within in
-    let placed = view-placed views phys view (omega (arith, within, long)) is in
-    ap (λ (t : Ltype). map (unpacked t) (map nests.plain slice)) same
-    ∙ ap (λ (v : List nests.Tree). map (unpacked node.element) v) (ap (map nests.plain) are ∙ sym placed) ∙ has.given
 
 pub blank-given : (split : PlainSplit) (views : List (List nests.Tree)) (number child dims : ℕ) (node : StreamNode) (element : Ltype) (given : List (List Value)) (shape slice : List Value)
     (found : Option ℕ) → (has : HasShapeAt split views number node found) → found ≡ Some child → element ≡ node.element → dims ≡ node.params.dims
@@ -312,6 +351,16 @@ put-length : (series : List (List Value)) (at : ℕ) (one : List Value) → leng
 put-length [] at one = refl
 put-length (first ∷ series) zero one = refl
 put-length (first ∷ series) (suc at) one = ap suc (put-length series at one)
+
+-- what holds of the nodes from this one on holds of those behind the one before it
+pub behind-one : (split : PlainSplit) (views left : List (List nests.Tree)) (number : ℕ) (series slice : List (List Value)) → 1 ≤ number → slice ≡ series
+    → GiveFrom split views number (plain_series series) → AreLeft split views number left
+    → GiveFrom split views (suc (number - 1)) (plain_series slice) × AreLeft split views (suc (number - 1)) left
+behind-one split views left number series slice some is given are =
+    let same : number ≡ suc (number - 1) = omega (arith, some) in (
+      subst (λ (l : List (List Value)). GiveFrom split views (suc (number - 1)) (plain_series l)) (sym is) (subst (λ (n : ℕ). GiveFrom split views n (plain_series series)) same given),
+      subst (λ (n : ℕ). AreLeft split views n left) same are,
+    )
 
 pub given-more : (split : PlainSplit) (views : List (List nests.Tree)) (number : ℕ) (old new : List (List Value)) (one : List Value) → 1 ≤ number → number ≤ length split.nodes
     → AreGiven split views number (plain_series old) → map plain one ≡ given_at split views (number - 1) → new ≡ slice_set old (number - 1) one

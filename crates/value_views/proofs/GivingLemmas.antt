@@ -1,6 +1,11 @@
 -- The values of words and of elements without bits, one after another.
 use Rattle.std.proofs.Common.{◌≡◌, ◌∙◌, ◌<◌, ◌≤◌, ◌-◌, ℕ, zero, suc, ◌+◌, Bool, List, [], ◌∷◌, ◌++◌, length, map, drop, get_or, refl, sym, ap, subst, arith, append_assoc}
-use Rattle.std.specs.Prelude.{IfOk, Result, Ok, Err}
+use Rattle.std.specs.Prelude.{IfOk, Result, Ok, Err, Option, Some, None}
+use Rattle.std.specs.Iterator.{Yields}
+use Rattle.std.specs.declared.vec.IntoIter.{IntoIter}
+use Rattle.std.specs.Vec.Iter.{into_iter_items, into_iter_len, into_iter_steps}
+use Rattle.std.proofs.lemmas.Iterator.Adapters.{YieldsList-from_vec}
+use Rattle.std.proofs.lemmas.Iterator.Consumers.{YieldsList-end, YieldsList-turn}
 use Rattle.std.proofs.lemmas.List.{append-nil, map-append}
 use Rattle.logical_types.specs.Faults.{IsPlain}
 use Rattle.logical_types.specs.Tree.{Ltype}
@@ -23,6 +28,17 @@ use Rattle.value_views.specs.Words.{blank_of, in_nest, unpacked, value_of}
 use Rattle.value_views.proofs.BlankLemmas.{blank-apart, blank-element}
 use Rattle.value_views.proofs.ListLemmas.{from-at, map_from-at, map_from-past}
 use Rattle.value_views.proofs.WordLemmas.{unpacked-list, value_of-is}
+
+-- ---- a list that is gone over by value
+
+module _ {A Z : Type 0} (l : List A) (s t u : IntoIter A Z) (yielded : List A) (is_items : into_iter_items s ≡ l) (many : into_iter_len s ≡ length l) (runs : Yields (into_iter_steps {X = A} {Z = Z}) s yielded t)
+    (r : Option A) (steps : into_iter_steps t r u) where
+  -- the next element
+  pub next-taken : (x : A) → r ≡ Some x → (length yielded < length l) × (x ≡ get_or l (length yielded) x)
+  next-taken x is = (let turn = YieldsList-turn (YieldsList-from_vec l is_items many) yielded t runs r u x is steps in (turn.0, turn.1))
+
+  pub all-taken : r ≡ None → length l ≤ length yielded
+  all-taken is = (let all = (YieldsList-end (YieldsList-from_vec l is_items many) yielded t runs r u is steps).1 in omega (arith, all))
 
 -- ---- a list that is made one by one
 

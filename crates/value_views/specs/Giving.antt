@@ -1,5 +1,5 @@
 -- The Stream that gives a node without a physical stream its lists. It serves the code, and no public clause. This project's own.
-use Rattle.std.specs.Prelude.{◌≡◌, ℕ, ◌+◌, ◌≤◌, ◌<◌, if◌then◌else◌, List, length, map, Option, Some, None, slice_get}
+use Rattle.std.specs.Prelude.{◌≡◌, ℕ, ◌+◌, ◌≤◌, ◌<◌, if◌then◌else◌, List, length, map, drop, Option, Some, None, slice_get}
 use Rattle.logical_types.specs.Faults.{IsPlain}
 use Rattle.logical_types.specs.Size.{number_of_nodes}
 use Rattle.logical_types.specs.Tree.{Ltype, Parts}
@@ -11,7 +11,7 @@ use Rattle.logical_value.specs.Tree.{Tree, plain}
 use Rattle.logical_value.specs.declared.value.Value.{Value}
 use Rattle.value_views.specs.Joining.{AreViews}
 use Rattle.value_views.specs.Series.{series_at}
-use Rattle.value_views.specs.Words.{given_at}
+use Rattle.value_views.specs.Words.{first_view, given_at}
 use Rattle.type_split.specs.Nodes.{StreamNode, number_of_streams}
 use Rattle.logical_value.specs.Agreement.{first_of}
 
@@ -45,6 +45,15 @@ pub record CanJoin (split : PlainSplit) (views : List (List nests.Tree)) : Type 
 pub record AreGiven (split : PlainSplit) (views : List (List nests.Tree)) (from : ℕ) (series : List (List Tree)) : Type 0 where
   pub long : length series ≡ length split.nodes
   pub each : (k : ℕ) → from ≤ k → k < length split.nodes → series_at k series ≡ given_at split views k
+
+-- the views give the nodes from this number on these series
+pub record GiveFrom (split : PlainSplit) (views : List (List nests.Tree)) (from : ℕ) (series : List (List Tree)) : Type 0 where
+  pub can : CanJoin split views
+  pub given : AreGiven split views from series
+
+-- of the views, those of the nodes before this number are left in their places
+pub record AreLeft (split : PlainSplit) (views : List (List nests.Tree)) (number : ℕ) (left : List (List nests.Tree)) : Type 0 where
+  pub each : (k phys : ℕ) (node : StreamNode) → k < number → slice_get split.nodes k ≡ Some node → node.phys ≡ Some phys → first_view (drop phys left) ≡ first_view (drop phys views)
 
 -- the plain data of series
 abbrev pub plain_series : List (List Value) → List (List Tree)

@@ -1,6 +1,7 @@
 //! The series that views give to the nodes of a port, in which whatever stands for a Stream is apart.
 
 ghost use Rattle.std.specs.Prelude.{◌≡◌, ◌≤◌, ◌<◌, ◌+◌, [], ℕ, List, length, map, IfOk, slice_set, suc};
+ghost use Rattle.std.specs.List.{slice_index_or};
 ghost use Rattle.logical_types.specs.Faults.{IsPlain};
 ghost use Rattle.logical_types.specs.Size.{number_of_nodes};
 ghost use Rattle.logical_types.specs.Tree.{plain, plain_of_stream, plain_parts};
@@ -21,23 +22,25 @@ use logical_types::{LType, Part, StreamType, Sync};
 use logical_value::{UnpackFault, Value, unpack};
 use nest_shape::Nest;
 use std::alloc::Global;
-use tydi_base::{Bits, List, Memory, TryClone};
+use std::mem;
+use tydi_base::{Bits, List, Memory};
 use type_split::{Node, Split};
 
 /// The series of each node of a port, that its views give.
 pub(crate) fn given_series(
     alloc: Global,
     split: &Split<'_>,
-    views: &[List<Nest>],
+    views: List<List<Nest>>,
 ) -> Result<Vec<List<Value>>, Memory>
-    requires { spec.CanJoin (plain_split split.now) (plain_views views.now) }
-    ensures { IfOk result (λ given. spec.AreGiven (plain_split split.now) (plain_views views.now) 0 (plain_series given.items)) }
+    requires { spec.CanJoin (plain_split split.now) (plain_views views) }
+    ensures { IfOk result (λ given. spec.GiveFrom (plain_split split.now) (plain_views views) 0 (plain_series given.items)) }
 {
     let mut given = empty_series(alloc, split.nodes.len())?;
+    let mut left = views;
     let mut number = split.nodes.len();
     'nodes: while number > 0 {
         number -= 1;
-        let series = given_node(alloc, split, views, number, given.as_slice())?;
+        let series = given_node(alloc, split, &mut left, number, given.as_slice())?;
         put(&mut given, number, series);
     }
     Ok(given)
@@ -63,23 +66,40 @@ pub(crate) fn put(series: &mut Vec<List<Value>>, number: usize, one: List<Value>
     }
 }
 
-/// The series of the node of this number, where those of the nodes behind it are given.
+/// The series of the node of this number, where those of the nodes behind it are given. The node's view is taken out of those that
+/// are left.
 fn given_node(
     alloc: Global,
     split: &Split<'_>,
-    views: &[List<Nest>],
+    left: &mut List<List<Nest>>,
     number: usize,
     given: &[List<Value>],
 ) -> Result<List<Value>, Memory>
-    requires can { spec.CanJoin (plain_split split.now) (plain_views views.now) }
     requires number { number < length split.now.nodes }
-    requires given { spec.AreGiven (plain_split split.now) (plain_views views.now) (suc number) (plain_series given.now) }
-    ensures { IfOk result (λ series. map values.plain series ≡ given_at (plain_split split.now) (plain_views views.now) number) }
+    requires given { (views : List (List nests.Tree)) × (spec.GiveFrom (plain_split split.now) views (suc number) (plain_series given.now)
+        × spec.AreLeft (plain_split split.now) views (suc number) (plain_views left.old)) }
+    ensures { (views : List (List nests.Tree)) → spec.GiveFrom (plain_split split.now) views (suc number) (plain_series given.now)
+        → spec.AreLeft (plain_split split.now) views (suc number) (plain_views left.old)
+        → IfOk result (λ series. (map values.plain series ≡ given_at (plain_split split.now) views number) × spec.AreLeft (plain_split split.now) views number (plain_views left.new)) }
 {
     let node = &split.nodes.as_slice()[number];
     match phys_of(node) {
-        Some(phys) => unpack_nests(alloc, element_of(node), views[phys as usize].as_slice()),
-        None => blank_node(alloc, split, views, number, given),
+        Some(phys) => {
+            let view = take_view(alloc, left, phys as usize);
+            unpack_nests(alloc, element_of(node), view)
+        }
+        None => blank_node(alloc, split, number, given),
+    }
+}
+
+/// Takes out the view at this place, and leaves an empty one there. Past the end the view is empty.
+fn take_view(alloc: Global, views: &mut List<List<Nest>>, at: usize) -> List<Nest>
+    ensures view { result ≡ slice_index_or views.old at [] }
+    ensures left { views.new ≡ slice_set views.old at [] }
+{
+    match views.get_mut(at) {
+        Some(place) => mem::replace(place, List::new(alloc)),
+        None => List::new(alloc),
     }
 }
 
@@ -87,14 +107,13 @@ fn given_node(
 fn blank_node(
     alloc: Global,
     split: &Split<'_>,
-    _views: &[List<Nest>],
     number: usize,
     given: &[List<Value>],
 ) -> Result<List<Value>, Memory>
-    requires can { spec.CanJoin (plain_split split.now) (plain_views _views.now) }
     requires node { spec.IsUnseenNode (plain_split split.now) number }
-    requires given { spec.AreGiven (plain_split split.now) (plain_views _views.now) (suc number) (plain_series given.now) }
-    ensures { IfOk result (λ series. map values.plain series ≡ given_at (plain_split split.now) (plain_views _views.now) number) }
+    requires given { (views : List (List nests.Tree)) × spec.GiveFrom (plain_split split.now) views (suc number) (plain_series given.now) }
+    ensures { (views : List (List nests.Tree)) → spec.GiveFrom (plain_split split.now) views (suc number) (plain_series given.now)
+        → IfOk result (λ series. map values.plain series ≡ given_at (plain_split split.now) views number) }
 {
     let node = &split.nodes.as_slice()[number];
     match first_sync(number as u64 + 1, element_of(node)) {
@@ -122,12 +141,12 @@ pub(crate) fn element_of<'t>(node: &Node<'t>) -> &'t LType
 
 /// The values of nests of words of this type.
 #[cycle(unpacks)]
-fn unpack_nests(alloc: Global, element: &LType, words: &[Nest]) -> Result<List<Value>, Memory>
-    requires { spec.CanUnpack (plain element.now) (HaveWords (plain element.now) (nests.plain_nests words.now)) }
-    ensures { IfOk result (λ some. map values.plain some ≡ map (unpacked (plain element.now)) (map nests.plain words.now)) }
+fn unpack_nests(alloc: Global, element: &LType, words: List<Nest>) -> Result<List<Value>, Memory>
+    requires { spec.CanUnpack (plain element.now) (HaveWords (plain element.now) (nests.plain_nests words)) }
+    ensures { IfOk result (λ some. map values.plain some ≡ map (unpacked (plain element.now)) (map nests.plain words)) }
 {
     let mut some = List::with_capacity(alloc, words.len())?;
-    'words: for nest in words {
+    'words: for nest in words.into_vec() {
         let value = unpack_nest(alloc, element, nest)?;
         some.push(value)?;
     }
@@ -136,32 +155,31 @@ fn unpack_nests(alloc: Global, element: &LType, words: &[Nest]) -> Result<List<V
 
 /// The value of a nest of words of this type.
 #[cycle(unpacks)]
-fn unpack_nest(alloc: Global, element: &LType, nest: &Nest) -> Result<Value, Memory>
-    requires { spec.CanUnpack (plain element.now) (HasWords (plain element.now) (nests.plain nest.now)) }
-    ensures { IfOk result (λ value. values.plain value ≡ unpacked (plain element.now) (nests.plain nest.now)) }
+fn unpack_nest(alloc: Global, element: &LType, nest: Nest) -> Result<Value, Memory>
+    requires { spec.CanUnpack (plain element.now) (HasWords (plain element.now) (nests.plain nest)) }
+    ensures { IfOk result (λ value. values.plain value ≡ unpacked (plain element.now) (nests.plain nest)) }
 {
     match nest {
         Nest::Leaf(word) => unpack_word(alloc, element, word),
         Nest::List(parts) => {
-            let some = unpack_nests(alloc, element, parts.as_slice())?;
+            let some = unpack_nests(alloc, element, parts)?;
             Ok(Value::List(some))
         }
     }
 }
 
-/// The value of a word of this type. That of a Bits is the word.
-fn unpack_word(alloc: Global, element: &LType, word: &Bits) -> Result<Value, Memory>
+/// The value of a word of this type. That of a Bits is the word itself.
+fn unpack_word(alloc: Global, element: &LType, word: Bits) -> Result<Value, Memory>
     requires plain { IsPlain (plain element.now) }
     requires few { number_of_nodes (plain element.now) ≤ 65536 }
-    requires width { length word.now ≡ width_of (plain element.now) }
-    requires stands { StandsForSome (plain element.now) word.now }
-    ensures { IfOk result (λ value. values.plain value ≡ value_of (plain element.now) word.now) }
+    requires width { length word ≡ width_of (plain element.now) }
+    requires stands { StandsForSome (plain element.now) word }
+    ensures { IfOk result (λ value. values.plain value ≡ value_of (plain element.now) word) }
 {
     if let LType::Bits(_) = element {
-        let copy = word.try_clone(alloc)?;
-        return Ok(Value::Word(copy));
+        return Ok(Value::Word(word));
     }
-    match unpack(alloc, element, word) {
+    match unpack(alloc, element, &word) {
         Ok(value) => Ok(value),
         Err(UnpackFault::Memory) => Err(Memory),
         Err(UnpackFault::BadTag(_)) => unreachable!(),
@@ -213,7 +231,7 @@ fn blank_value(alloc: Global, element: &LType) -> Result<Value, Memory>
     ensures { IfOk result (λ value. values.plain value ≡ blank_of (plain element.now)) }
 {
     let word = Bits::zeros(alloc, 0)?;
-    unpack_word(alloc, element, &word)
+    unpack_word(alloc, element, word)
 }
 
 /// The number of the first Sync Stream of a type, in no other Stream of it, where the first Stream of the type has this number.

@@ -1,9 +1,6 @@
-use Rattle.std.proofs.Common.{◌∙◌, ℕ, List, length, sym, subst}
+use Rattle.std.proofs.Common.{◌∙◌, ℕ, length, subst}
 use Rattle.std.proofs.lemmas.List.{length_push}
-use Rattle.nest_shape.specs.declared.nest.Nest.{Nest}
-use Rattle.logical_value.specs.Tree.{plain_port}
 use Rattle.type_split.specs.Streams.{plain_split}
-use Rattle.value_views.specs.Joining.{AreViews, HasViews, IsDisagreement, plain_views}
 use Rattle.trace_decode.proofs.JoinLemmas.{AreMade, are_views, joined-err, joined-ok, kept_end, kept_there, made_more, some_built}
 use Rattle.trace_decode.proofs.finishing.joined.Goals as goal
 
@@ -27,21 +24,19 @@ join-requires-clause-views c =
     let done = c.requires.finished.0 in
     let finished = c.requires.finished.1 in
     let made = subst (λ (n : ℕ). AreMade (plain_split c.args.split.now) done c.args.kept.items n c.kept.views c.kept.users) all (c.kept.invariant done finished) in
-    subst (λ (l : List (List Nest)). AreViews (plain_split c.args.split.now) (plain_views l)) (sym c.as_slice.ensures)
-    (are_views (plain_split c.args.split.now) c.requires.can.port done c.args.kept.items finished c.kept.views c.kept.users made)
+    are_views (plain_split c.args.split.now) c.requires.can.port done c.args.kept.items finished c.kept.views c.kept.users made
 
 pub returns-in-Ok : goal.returns-in-Ok
 returns-in-Ok c done finished =
     let gives = c.into_iter-one-iterator.ensures.into_iter_gives in
     let all = kept_end c.args.kept.items c.into_iter-one-iterator.result c.kept.one-iterator c.next.new.self c.kept.yielded gives.0 (gives.1 ∙ c.args.kept.ok.0) c.kept.yielded_by c.next.result c.in-None.is c.next.ensures.steps in
     let made = subst (λ (n : ℕ). AreMade (plain_split c.args.split.now) done c.args.kept.items n c.kept.views c.kept.users) all (c.kept.invariant done finished) in
-    joined-ok (plain_split c.args.split.now) c.requires.can.port done c.args.kept.items finished c.kept.views c.kept.users made c.in-Ok.value
-    (subst (λ (l : List (List Nest)). HasViews (plain_split c.args.split.now) (plain_port c.in-Ok.value) (plain_views l)) c.as_slice.ensures c.in-Ok.ensures)
+    joined-ok (plain_split c.args.split.now) c.requires.can.port done c.args.kept.items finished c.kept.views c.kept.users made c.in-Ok.value c.in-Ok.ensures
 
-pub returns : goal.returns
-returns c done finished =
+pub returns-in-Err : goal.returns-in-Err
+returns-in-Err c done finished =
     let gives = c.into_iter-one-iterator.ensures.into_iter_gives in
     let all = kept_end c.args.kept.items c.into_iter-one-iterator.result c.kept.one-iterator c.next.new.self c.kept.yielded gives.0 (gives.1 ∙ c.args.kept.ok.0) c.kept.yielded_by c.next.result c.in-None.is c.next.ensures.steps in
     let made = subst (λ (n : ℕ). AreMade (plain_split c.args.split.now) done c.args.kept.items n c.kept.views c.kept.users) all (c.kept.invariant done finished) in
     joined-err (plain_split c.args.split.now) c.requires.can.port done c.args.kept.items finished c.kept.views c.kept.users made c.in-Err.fault c.fault_of_join.result
-    (subst (λ (l : List (List Nest)). IsDisagreement (plain_split c.args.split.now) (plain_views l) c.in-Err.fault) c.as_slice.ensures c.in-Err.ensures) c.fault_of_join.ensures
+    c.in-Err.ensures c.fault_of_join.ensures

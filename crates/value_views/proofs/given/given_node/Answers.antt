@@ -1,36 +1,21 @@
-use Rattle.std.proofs.Common.{arith, map, ◌∙◌, ap, sym}
-use Rattle.std.proofs.lemmas.List.{length-map}
+use Rattle.std.proofs.Common.{◌∙◌, ap, refl, sym}
 use Rattle.logical_types.specs.Tree.{plain}
-use Rattle.nest_shape.specs.Tree as nests
 use Rattle.type_split.specs.Streams.{node_view, plain_split}
-use Rattle.value_views.specs.Joining.{plain_views}
-use Rattle.value_views.proofs.GivenNodeLemmas.{can-unpack, node-at, ok-series, ready-seen, seen-series}
+use Rattle.value_views.proofs.GivenNodeLemmas.{left-unseen, node-at, ok-taken, seen-view}
 use Rattle.value_views.proofs.given.given_node.Goals as goal
-
-pub bounds-views-phys : goal.bounds-views-phys
-bounds-views-phys c =
-    let node = c.index-as_slice-number.result in
-    let has = ready-seen c.args.split.now (plain_views c.args.views.now) c.args.number c.in-Some.phys c.as_slice.result.now node c.requires.can c.requires.number c.as_slice.ensures
-    c.index-as_slice-number.is (sym c.phys_of.ensures ∙ c.in-Some.is) in
-    let long = length-map c.args.views.now (λ v. map nests.plain v) in
-    let within = has.within in omega (arith, within, long)
 
 pub unpack_nests-requires : goal.unpack_nests-requires
 unpack_nests-requires c =
-    let node = c.index-as_slice-number.result in
-    let has = ready-seen c.args.split.now (plain_views c.args.views.now) c.args.number c.in-Some.phys c.as_slice.result.now node c.requires.can c.requires.number c.as_slice.ensures
-    c.index-as_slice-number.is (sym c.phys_of.ensures ∙ c.in-Some.is) in
-    can-unpack (plain_split c.args.split.now) c.args.views.now c.args.number c.in-Some.phys (node_view node) (plain c.element_of.result.now) c.index-views-phys.result
-    c.as_slice-in-Some.result.now has (ap plain c.element_of.ensures) c.index-views-phys.is c.as_slice-in-Some.ensures
+    (seen-view c.args.split.now c.requires.given.0 c.args.number c.in-Some.phys c.as_slice.result.now c.index-as_slice-number.result (plain c.element_of.result.now) c.args.left.now c.take_view-view.new.views
+    c.take_view-view.result c.requires.given.1.0.can c.requires.given.1.1 c.requires.number c.as_slice.ensures c.index-as_slice-number.is (sym c.phys_of.ensures ∙ c.in-Some.is)
+    (ap plain c.element_of.ensures) c.take_view-view.ensures.view c.take_view-view.ensures.left).can
 
 pub returns-in-Some : goal.returns-in-Some
-returns-in-Some c =
-    let node = c.index-as_slice-number.result in
-    let has = ready-seen c.args.split.now (plain_views c.args.views.now) c.args.number c.in-Some.phys c.as_slice.result.now node c.requires.can c.requires.number c.as_slice.ensures
-    c.index-as_slice-number.is (sym c.phys_of.ensures ∙ c.in-Some.is) in
-    ok-series c.unpack_nests.result _ _
-    (seen-series (plain_split c.args.split.now) c.args.views.now c.args.number c.in-Some.phys (node_view node) (plain c.element_of.result.now) c.index-views-phys.result
-    c.as_slice-in-Some.result.now has (ap plain c.element_of.ensures) c.index-views-phys.is c.as_slice-in-Some.ensures) c.unpack_nests.ensures
+returns-in-Some c views give are =
+    let taken = seen-view c.args.split.now views c.args.number c.in-Some.phys c.as_slice.result.now c.index-as_slice-number.result (plain c.element_of.result.now) c.args.left.now c.take_view-view.new.views
+    c.take_view-view.result give.can are c.requires.number c.as_slice.ensures c.index-as_slice-number.is (sym c.phys_of.ensures ∙ c.in-Some.is)
+    (ap plain c.element_of.ensures) c.take_view-view.ensures.view c.take_view-view.ensures.left in
+    ok-taken c.unpack_nests.result _ _ _ taken.given taken.left c.unpack_nests.ensures
 
 pub blank_node-requires-clause-node : goal.blank_node-requires-clause-node
 blank_node-requires-clause-node c =
@@ -40,3 +25,9 @@ blank_node-requires-clause-node c =
       found = node-at c.args.split.now c.args.number c.as_slice.result.now node c.as_slice.ensures c.requires.number c.index-as_slice-number.is;
       unseen = sym c.phys_of.ensures ∙ c.in-None.is;
     }
+
+pub blank_node-requires-clause-given : goal.blank_node-requires-clause-given
+blank_node-requires-clause-given c = (c.requires.given.0, c.requires.given.1.0)
+
+pub returns-in-None : goal.returns-in-None
+returns-in-None c views give are = ok-taken c.blank_node.result _ _ _ refl (left-unseen (plain_split c.args.split.now) views _ c.args.number are) (c.blank_node.ensures views give)

@@ -5,7 +5,6 @@ use Rattle.logical_value.specs.declared.value.Value.{Value}
 use Rattle.type_split.specs.Streams.{node_view, plain_split}
 use Rattle.value_views.specs.Filling.{IsFilling}
 use Rattle.value_views.specs.Giving.{plain_series}
-use Rattle.value_views.specs.Joining.{plain_views}
 use Rattle.value_views.specs.Series.{series_at}
 use Rattle.value_views.specs.Taking.{left}
 use Rattle.value_views.proofs.PortFillLemmas.{filling-done, filling-start, front-last, front-shorter, front-whole, length-shorter}
@@ -15,7 +14,7 @@ pub nodes-init : goal.nodes-init
 nodes-init c =
     let count = length-map c.args.split.now.nodes node_view in
     let given = length-map c.args.given.items (λ (one : List Value). map plain one) in
-    let long = c.requires.given.long in
+    let long = c.requires.1.given.long in
     record {
       within = omega (arith, count, given, long);
       front = front-whole c.args.given.items;
@@ -29,7 +28,7 @@ fill_node-requires c =
     let shorter = length-shorter c.nodes.rest.items c.pop.new.self.items c.in-Some.ones cut in
     let long = c.len-number.ensures ∙ c.pop.new.self.ok.0 in
     let within = c.nodes.invariant.within in
-    record { port = c.requires.can.port; number = omega (arith, shorter, long, within) }
+    record { port = c.requires.1.can.port; number = omega (arith, shorter, long, within) }
 
 pub nodes-preserved : goal.nodes-preserved
 nodes-preserved c =
@@ -52,8 +51,8 @@ nodes-preserved c =
     }
 
 pub returns : goal.returns
-returns c =
+returns c views give agree =
     let none = c.in_default.ensures.cases.0 in
     let long = c.nodes.rest.ok.0 in
-    filling-done (plain_split c.args.split.now) (plain_views c.args._views.now) (plain_series c.args.given.items) (length c.nodes.rest.items) (left c.nodes.filling) c.nodes.roots c.in_ok-roots.roots
-    c.requires.can c.requires.given c.requires.agree (omega (arith, none, long)) c.in_ok-roots.ensures c.nodes.invariant.fills
+    filling-done (plain_split c.args.split.now) views (plain_series c.args.given.items) (length c.nodes.rest.items) (left c.nodes.filling) c.nodes.roots c.in_ok-roots.roots
+    give.can give.given agree (omega (arith, none, long)) c.in_ok-roots.ensures c.nodes.invariant.fills
