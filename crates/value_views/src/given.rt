@@ -155,6 +155,7 @@ fn unpack_nests(alloc: Global, element: &LType, words: List<Nest>) -> Result<Lis
 
 /// The value of a nest of words of this type.
 #[cycle(unpacks)]
+#[inline(always)]
 fn unpack_nest(alloc: Global, element: &LType, nest: Nest) -> Result<Value, Memory>
     requires { spec.CanUnpack (plain element.now) (HasWords (plain element.now) (nests.plain nest)) }
     ensures { IfOk result (λ value. values.plain value ≡ unpacked (plain element.now) (nests.plain nest)) }
@@ -169,6 +170,7 @@ fn unpack_nest(alloc: Global, element: &LType, nest: Nest) -> Result<Value, Memo
 }
 
 /// The value of a word of this type. That of a Bits is the word itself.
+#[inline(always)]
 fn unpack_word(alloc: Global, element: &LType, word: Bits) -> Result<Value, Memory>
     requires plain { IsPlain (plain element.now) }
     requires few { number_of_nodes (plain element.now) ≤ 65536 }
@@ -179,7 +181,19 @@ fn unpack_word(alloc: Global, element: &LType, word: Bits) -> Result<Value, Memo
     if let LType::Bits(_) = element {
         return Ok(Value::Word(word));
     }
-    match unpack(alloc, element, &word) {
+    unpack_parts(alloc, element, &word)
+}
+
+/// The value of a word of this type, whose parts are copied.
+#[inline(never)]
+fn unpack_parts(alloc: Global, element: &LType, word: &Bits) -> Result<Value, Memory>
+    requires plain { IsPlain (plain element.now) }
+    requires few { number_of_nodes (plain element.now) ≤ 65536 }
+    requires width { length word.now ≡ width_of (plain element.now) }
+    requires stands { StandsForSome (plain element.now) word.now }
+    ensures { IfOk result (λ value. values.plain value ≡ value_of (plain element.now) word.now) }
+{
+    match unpack(alloc, element, word) {
         Ok(value) => Ok(value),
         Err(UnpackFault::Memory) => Err(Memory),
         Err(UnpackFault::BadTag(_)) => unreachable!(),
