@@ -68,7 +68,7 @@ impl<'w> Unpacking<'w> {
     fn read_fields(&mut self, parts: &'w [Part]) -> Result<List<Value>, UnpackFault>
         ensures { ReadsParts self.old self.new result (plain_parts parts.now) }
     {
-        let mut fields = List::new(self.alloc);
+        let mut fields = List::with_capacity(self.alloc, parts.len())?;
         'parts: for part in parts {
             let value = self.read_part(part)?;
             fields.push(value)?;

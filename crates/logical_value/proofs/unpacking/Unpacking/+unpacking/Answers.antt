@@ -35,7 +35,7 @@ read-returns-in-Union t c =
 
 pub read_fields-returns-in_err-value : goal.read_fields-returns-in_err-value
 read_fields-returns-in_err-value t c = λ can.
-    let p = err_from_is_err_and c.from_residual.result c.from_residual.ensures.1 in
+    let p = err_from_is_err_and c.from_residual-in_err-value.result c.from_residual-in_err-value.ensures.1 in
     rw (p.1, p.2) (AreLeft-bad c.args.self.now c.parts.self (plain_parts c.args.parts.now) c.parts.fields c.args.parts.now c.parts.part-index c.part-item.result c.in_err-value.field-0.0
     c.parts-test.true c.part-item.is (c.parts.invariant can) c.in_err-value.ensures)
 
