@@ -1,7 +1,6 @@
 pub mod FirstLemmas
 pub mod ItemsLemmas
 pub mod LevelLemmas
-pub mod TransferLemmas
 pub mod WidthLemmas
 pub mod PartsLemmas
 pub mod ShapeLemmas

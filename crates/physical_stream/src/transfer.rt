@@ -8,7 +8,7 @@ use tydi_base::{Bits, Memory, TryClone};
 
 /// The payload of one transfer: every signal of a stream but valid and ready (Tydi specification, physical streams).
 /// A signal that the stream lacks stands at its default.
-#[derive(Debug, PartialEq, Eq, Drop)]
+#[derive(Debug, Drop)]
 pub struct Transfer {
     /// The data signal: the lanes' elements, lane 0 lowest.
     pub content: Bits,
@@ -72,11 +72,22 @@ impl Transfer {
         self.user.copy_from(&from.user);
     }
 
+    /// Whether it is the same in stai, endi and strb.
+    #[inline(always)]
+    fn has_numbers_of(&self, other: &Transfer) -> bool
+        ensures { IsTrue result ↔ (self.now.stai ≡ other.now.stai) × ((self.now.endi ≡ other.now.endi) × (self.now.strb ≡ other.now.strb)) }
+    {
+        self.stai == other.stai && self.endi == other.endi && self.strb == other.strb
+    }
+
     /// Whether it is the same in every signal.
     pub fn equals(&self, other: &Transfer) -> bool
         ensures { IsTrue result ↔ (self.now ≡ other.now) }
     {
-        self == other
+        self.has_numbers_of(other)
+            && self.content == other.content
+            && self.last == other.last
+            && self.user == other.user
     }
 }
 

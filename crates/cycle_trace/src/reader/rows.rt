@@ -82,6 +82,7 @@ impl RowsRead {
     }
 
     /// Reads the next row from its line.
+    #[inline(always)]
     pub(crate) fn read_row(&mut self, line: &[u8]) -> Result<RowBits, TraceFault>
         requires { (t : TraceText) × (ReadsRows self.old t × (self.old.got < self.old.want)) }
         ensures reads { (t : TraceText) → ReadsRows self.old t → ReadsRows self.new t }

@@ -148,6 +148,7 @@ fn no_more(words: WordsLeft) -> Result<(), NotForm>
 }
 
 /// Reads the transfer that the words of a payload spell. Only the widths of its words are as before where they spell none.
+#[inline(always)]
 #[tactic(auto, unfolding(crate::specs::RowText::transfer_of))]
 fn read_transfer(layout: &RowLayout, kept: &mut Transfer, words: WordsLeft) -> Result<(), NotForm>
     requires { HasWidths layout.now.params kept.old }
@@ -192,6 +193,7 @@ fn payload_of<'a>(layout: &RowLayout, words: WordsLeft<'a>) -> Result<WordsLeft<
 }
 
 /// Reads what a cycle shows.
+#[inline(always)]
 #[tactic(auto, unfolding(crate::specs::RowText::shown_of))]
 fn read_shown(
     layout: &RowLayout,
@@ -225,6 +227,7 @@ fn bit_of(word: &[u8]) -> Result<bool, NotForm>
 }
 
 /// The valid bit and the ready bit of a row, and what follows them. None where a row does not begin so.
+// A bit is the lowest one of its digit. That both are digits of a bit is then found by one comparison of four bytes.
 #[inline(always)]
 fn two_bits(line: &[u8]) -> Option<(bool, bool, &[u8])>
     ensures { IfSome result (λ x. row_start (words_of line.now) ≡ Ok (x.0, x.1, words_after x.2.now)) }
@@ -232,8 +235,8 @@ fn two_bits(line: &[u8]) -> Option<(bool, bool, &[u8])>
     if line.len() < 4 {
         return None;
     }
-    let valid = line[0] == ONE_BIT;
-    let ready = line[2] == ONE_BIT;
+    let valid = line[0] % 2 == 1;
+    let ready = line[2] % 2 == 1;
     let front = four_bytes(line[0], line[1], line[2], line[3]);
     if front != four_bytes(bit_byte(valid), SPACE, bit_byte(ready), SPACE) {
         return None;
@@ -281,6 +284,7 @@ pub(crate) struct RowBits {
 }
 
 /// Reads the cycle that a row spells: its bits, and what it shows. It takes no memory.
+#[inline(always)]
 #[tactic(auto, using(crate::proofs::RowStartLemmas::row_of_start))]
 fn read_row(layout: &RowLayout, kept: &mut Transfer, line: &[u8]) -> Result<RowBits, NotForm>
     requires { HasWidths layout.now.params kept.old }
@@ -312,6 +316,7 @@ impl StreamRows {
     }
 
     /// Reads the row that the line of this number spells: its bits, and what it shows. It takes no memory.
+    #[inline(always)]
     #[tactic(auto, unfolding(crate::specs::RowText::row_at))]
     pub(crate) fn read(&mut self, number: u64, line: &[u8]) -> Result<RowBits, TraceFault>
         ensures layout { self.new.layout ≡ self.old.layout }
