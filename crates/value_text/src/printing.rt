@@ -36,8 +36,8 @@ pub fn print(
     Ok(text)
 }
 
-/// The bytes of the canonical text of a value, or the greatest number of 64 bits where there are more. The text is gone over piece by
-/// piece, and none of it is kept. `Memory` comes where there is none for a piece.
+/// The bytes of the canonical text of a value, or the greatest number of 64 bits where there are more. Words are counted by their
+/// digits, and no text is made. `Memory` comes where there is none for the list of what is left to count.
 pub fn text_length(
     alloc: Global,
     value: &PortValue,
