@@ -169,7 +169,7 @@ fn after_row<K: RowSink>(
     if rows.is_whole() {
         return Err(TraceFault::RowsLeft(rows.line_number()));
     }
-    let bits = rows.read_row(line)?;
+    let bits = rows.read_row::<K>(line)?;
     sink.row(alloc, rows.row(bits))?;
     rows.advance();
     Ok(())

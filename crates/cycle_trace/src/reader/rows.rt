@@ -81,9 +81,10 @@ impl RowsRead {
         3 + self.streams.len() as u64 + self.got
     }
 
-    /// Reads the next row from its line.
+    /// Reads the next row from its line, for a sink of this type.
+    // Each sink has a copy of what reads a row, which then becomes one function with what takes it. One copy for all would be called.
     #[inline(always)]
-    pub(crate) fn read_row(&mut self, line: &[u8]) -> Result<RowBits, TraceFault>
+    pub(crate) fn read_row<K>(&mut self, line: &[u8]) -> Result<RowBits, TraceFault>
         requires { (t : TraceText) × (ReadsRows self.old t × (self.old.got < self.old.want)) }
         ensures reads { (t : TraceText) → ReadsRows self.old t → ReadsRows self.new t }
         ensures whole { (self.new.got ≡ self.old.got) × (self.new.want ≡ self.old.want) }
@@ -93,7 +94,7 @@ impl RowsRead {
         ensures calm { IfErr result (λ e. IsSome (fault_in e)) }
     {
         let number = self.line_number();
-        self.streams[self.stream].read(number, line)
+        self.streams[self.stream].read::<K>(number, line)
     }
 
     /// The row that was read last, whose bits are these.

@@ -147,10 +147,15 @@ fn no_more(words: WordsLeft) -> Result<(), NotForm>
     }
 }
 
-/// Reads the transfer that the words of a payload spell. Only the widths of its words are as before where they spell none.
+/// Reads the transfer that the words of a payload spell. Only the widths of its words are as before where they spell none. There is a
+/// copy for each sink, which `RowsRead::read_row` says why.
 #[inline(always)]
 #[tactic(auto, unfolding(crate::specs::RowText::transfer_of))]
-fn read_transfer(layout: &RowLayout, kept: &mut Transfer, words: WordsLeft) -> Result<(), NotForm>
+fn read_transfer<K>(
+    layout: &RowLayout,
+    kept: &mut Transfer,
+    words: WordsLeft,
+) -> Result<(), NotForm>
     requires { HasWidths layout.now.params kept.old }
     ensures read { Gives not_form_in (λ _. kept.new) result (spec.transfer_of layout.now.params (words_left words.entry)) }
     ensures widths { HasWidths layout.now.params kept.new }
@@ -195,7 +200,7 @@ fn payload_of<'a>(layout: &RowLayout, words: WordsLeft<'a>) -> Result<WordsLeft<
 /// Reads what a cycle shows.
 #[inline(always)]
 #[tactic(auto, unfolding(crate::specs::RowText::shown_of))]
-fn read_shown(
+fn read_shown<K>(
     layout: &RowLayout,
     kept: &mut Transfer,
     valid: bool,
@@ -207,7 +212,7 @@ fn read_shown(
 {
     if valid {
         let payload = payload_of(layout, words)?;
-        return read_transfer(layout, kept, payload);
+        return read_transfer::<K>(layout, kept, payload);
     }
     if is_dash(words) { Ok(()) } else { Err(NotForm) }
 }
@@ -286,13 +291,13 @@ pub(crate) struct RowBits {
 /// Reads the cycle that a row spells: its bits, and what it shows. It takes no memory.
 #[inline(always)]
 #[tactic(auto, using(crate::proofs::RowStartLemmas::row_of_start))]
-fn read_row(layout: &RowLayout, kept: &mut Transfer, line: &[u8]) -> Result<RowBits, NotForm>
+fn read_row<K>(layout: &RowLayout, kept: &mut Transfer, line: &[u8]) -> Result<RowBits, NotForm>
     requires { HasWidths layout.now.params kept.old }
     ensures read { Gives not_form_in (cycle_in kept.new) result (spec.row_of layout.now.params line.now) }
     ensures widths { HasWidths layout.now.params kept.new }
 {
     let (valid, ready, payload) = start_of(line)?;
-    read_shown(layout, kept, valid, payload)?;
+    read_shown::<K>(layout, kept, valid, payload)?;
     Ok(RowBits { valid, ready })
 }
 
@@ -318,12 +323,12 @@ impl StreamRows {
     /// Reads the row that the line of this number spells: its bits, and what it shows. It takes no memory.
     #[inline(always)]
     #[tactic(auto, unfolding(crate::specs::RowText::row_at))]
-    pub(crate) fn read(&mut self, number: u64, line: &[u8]) -> Result<RowBits, TraceFault>
+    pub(crate) fn read<K>(&mut self, number: u64, line: &[u8]) -> Result<RowBits, TraceFault>
         ensures layout { self.new.layout ≡ self.old.layout }
         ensures read { Gives fault_in (cycle_in self.new.kept) result (spec.row_at number self.old.layout.params line.now) }
         ensures calm { IfErr result (λ e. IsSome (fault_in e)) }
     {
-        match read_row(&self.layout, &mut self.kept, line) {
+        match read_row::<K>(&self.layout, &mut self.kept, line) {
             Ok(bits) => Ok(bits),
             Err(_) => Err(row_fault(number, line)),
         }
