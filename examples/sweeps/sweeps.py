@@ -239,7 +239,10 @@ def cases_of_benches(bench):
         yield bench.replace(part, other, 1) if part else bench, NO_CYCLES, header if told == "same" else told
     for block in blocks_of("runs", "run"):
         run, told = unescaped(block["run"][0]), unescaped(block["told"][0])
-        place = re.fullmatch(r"(\w+ \d+:\d+) (\d+)", told)
+        place = re.fullmatch(r"(\w+ (\d+):(\d+)) (\d+)", told)
+        if place:
+            lines, offset = run.split("\n")[:int(place.group(2)) - 1], int(place.group(4))
+            expect(f"the offset of {told}", offset, sum(len(line) + 1 for line in lines) + int(place.group(3)) - 1)
         yield bench, run, place.group(1) if place else told
     for count in range(len(bench)):
         yield bench[:count], NO_CYCLES, f"NotForm {bench.rfind(chr(10), 0, count) + 1}"
