@@ -72,7 +72,7 @@ pub(crate) fn byte(digits: &str) -> u8 {
     (number(digits) % 256) as u8
 }
 
-/// Makes the call of each row of a table with so many, and compares its result. The result with a byte more is seen to be another.
+/// Makes the call of each row of a table with so many, and compares its result.
 pub(crate) fn check_calls(
     rt: &(impl Abort + AllocGlobal),
     call: &Call,
@@ -81,15 +81,22 @@ pub(crate) fn check_calls(
 ) {
     let mut made = 0usize;
     for (first, second, wanted) in rows {
-        let mut told = List::new(rt.alloc());
-        let is_told = tell(rt.alloc(), call, first, second, &mut told).is_ok();
-        let is_wanted = told.as_slice() == wanted.as_bytes();
-        assert!(rt; is_told & is_wanted, "{first} {second}");
-        let is_spoilt = told.push(b'!').is_ok() & (told.as_slice() != wanted.as_bytes());
-        assert!(rt; is_spoilt, "a spoilt row passes");
+        assert!(rt;
+            is_right(rt.alloc(), call, first, second, wanted),
+            "{first} {second}"
+        );
         made = made.saturating_add(1);
     }
     assert!(rt; made == count, "{made} rows");
+}
+
+// Whether a call has this result, and the result with a byte more is seen to be another.
+fn is_right(alloc: Global, call: &Call, first: &str, second: &str, wanted: &str) -> bool {
+    let mut told = List::new(alloc);
+    let is_told = tell(alloc, call, first, second, &mut told).is_ok();
+    let is_wanted = told.as_slice() == wanted.as_bytes();
+    let is_pushed = told.push(b'!').is_ok();
+    is_told & is_wanted & is_pushed & (told.as_slice() != wanted.as_bytes())
 }
 
 // Writes the result of a call.

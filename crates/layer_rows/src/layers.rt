@@ -92,7 +92,7 @@ fn texts_of_projects(rt: HostRuntime) {
 
 #[test]
 fn traces_of_streams(rt: HostRuntime) {
-    check_calls(&rt, &Call::Trace, traces::TRACES, 7);
+    check_calls(&rt, &Call::Trace, traces::TRACES, 2);
     check_calls(&rt, &Call::WrittenHeader, traces_written::WRITTEN_HEADER, 1);
     check_calls(&rt, &Call::Decoded, decodes::DECODED, 2);
     check_calls(&rt, &Call::Schedule, schedules::SCHEDULES, 14);

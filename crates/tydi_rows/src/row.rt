@@ -54,26 +54,17 @@ impl Row {
 
     /// Takes a line of a table, but the one that ends a row.
     fn take(&mut self, alloc: Global, mark: &str, text: &str) -> Result<(), Memory> {
-        if mark == "$" {
-            self.words = words_of(alloc, text)?;
-        } else if mark == "%" {
-            self.then = words_of(alloc, text)?;
-        } else if mark == "@" {
-            self.end_file(alloc, text)?;
-        } else if mark == "-" {
-            self.take_fault(text)?;
-        } else if mark == ">" {
-            push_line(text, &mut self.out)?;
-        } else if mark == "|" {
-            self.out.extend_from_slice(text.as_bytes())?;
-        } else if mark == "!" {
-            push_line(text, &mut self.err)?;
-        } else if mark == "?" {
-            self.err.extend_from_slice(text.as_bytes())?;
-        } else {
-            push_file(mark, text, &mut self.file)?;
+        match mark.as_bytes().first() {
+            Some(b'$') => put_words(alloc, text, &mut self.words),
+            Some(b'%') => put_words(alloc, text, &mut self.then),
+            Some(b'@') => self.end_file(alloc, text),
+            Some(b'-') => self.take_fault(text),
+            Some(b'>') => push_line(text, &mut self.out),
+            Some(b'|') => self.out.extend_from_slice(text.as_bytes()),
+            Some(b'!') => push_line(text, &mut self.err),
+            Some(b'?') => self.err.extend_from_slice(text.as_bytes()),
+            _ => push_file(mark, text, &mut self.file),
         }
-        Ok(())
     }
 
     /// Ends a file of this name.
@@ -86,16 +77,15 @@ impl Row {
     fn take_fault(&mut self, text: &str) -> Result<(), Memory> {
         let (name, digits) = cut(text);
         let number = number(digits);
-        if name == "store" {
-            self.failing_reads.push(number)?;
-        } else if name == "out" {
-            self.failing_writes.push(number)?;
-        } else if name == "err" {
-            self.failing_lines.push(number)?;
-        } else {
-            self.most = (number.saturating_sub(1) % 65536) as u16;
+        match name.as_bytes().first() {
+            Some(b's') => self.failing_reads.push(number),
+            Some(b'o') => self.failing_writes.push(number),
+            Some(b'e') => self.failing_lines.push(number),
+            _ => {
+                self.most = (number.saturating_sub(1) % 65536) as u16;
+                Ok(())
+            }
         }
-        Ok(())
     }
 
     /// The calls that fail.
@@ -150,11 +140,11 @@ impl Row {
         if failing.is_empty() {
             return Ok(());
         }
-        self.check_reads(rt, number)?;
-        self.check_writes(rt, number, failing)
+        self.check_reads(rt)?;
+        self.check_writes(rt, failing)
     }
 
-    /// Runs the row's words, and compares what came of it. The first row of a table is seen to fail where its texts or its status are others.
+    /// Runs the row's words, and compares what came of it. The first row of a table is seen to fail where its text or its status is another.
     fn check_run(
         &mut self,
         rt: &(impl Abort + AllocGlobal),
@@ -162,38 +152,60 @@ impl Row {
         status: u8,
     ) -> Result<(), Memory> {
         let outcome = self.outcome(rt.alloc(), &self.faults())?;
-        self.expect(rt, number, &outcome, status);
-        if number == 0 {
-            assert!(rt; !self.is_wanted(&outcome, status ^ 1), "a spoilt status");
-            self.out.push(b'!')?;
-            assert!(rt; !self.is_wanted(&outcome, status), "a spoilt row");
-            self.out.pop();
-        }
+        let is_right = is_wanted(&outcome, status, self.out.as_slice(), self.err.as_slice());
+        let is_seen = number > 0 || self.is_spoilt_seen(&outcome, status);
+        assert!(rt; is_right & is_seen, "row {number}");
+        Ok(())
+    }
+
+    /// Whether another status and another text of out are seen to be others.
+    fn is_spoilt_seen(&mut self, outcome: &Outcome, status: u8) -> bool {
+        let is_pushed = self.out.push(b'!').is_ok();
+        let is_other = !is_wanted(outcome, status, self.out.as_slice(), self.err.as_slice());
+        self.out.pop();
+        is_pushed
+            & is_other
+            & !is_wanted(
+                outcome,
+                status ^ 1,
+                self.out.as_slice(),
+                self.err.as_slice(),
+            )
+    }
+
+    /// Runs the row's words where these calls fail, and compares what came of it.
+    fn check_faults(
+        &self,
+        rt: &(impl Abort + AllocGlobal),
+        faults: &Faults<'_>,
+        status: u8,
+        out: &[u8],
+        err: &[u8],
+    ) -> Result<(), Memory> {
+        let outcome = self.outcome(rt.alloc(), faults)?;
+        assert!(rt; is_wanted(&outcome, status, out, err), "a call that fails");
         Ok(())
     }
 
     /// Has each call of the store fail in turn, and last one that is not made. A file that is empty is none that the words name.
-    fn check_reads(&self, rt: &(impl Abort + AllocGlobal), number: usize) -> Result<(), Memory> {
+    fn check_reads(&self, rt: &(impl Abort + AllocGlobal)) -> Result<(), Memory> {
         let mut call = 0u64;
         for (name, file) in self.files.as_slice() {
             let calls = calls_for(file.len(), self.most);
-            self.check_file(rt, number, name, call, calls)?;
+            self.check_file(rt, name, call, calls)?;
             call = call.saturating_add(calls);
         }
         let faults = Faults {
             store: &[call],
             ..self.faults()
         };
-        let outcome = self.outcome(rt.alloc(), &faults)?;
-        self.expect(rt, number, &outcome, 0);
-        Ok(())
+        self.check_faults(rt, &faults, 0, self.out.as_slice(), b"")
     }
 
     /// Has each call of the store for a file fail in turn, from this one on: the run ends in ReadFault with nothing written.
     fn check_file(
         &self,
         rt: &(impl Abort + AllocGlobal),
-        number: usize,
         name: &Text,
         first: u64,
         calls: u64,
@@ -205,68 +217,52 @@ impl Row {
                 store: &[first.saturating_add(call)],
                 ..self.faults()
             };
-            let outcome = self.outcome(rt.alloc(), &faults)?;
-            expect(rt, number, &outcome, 3, b"", line.as_slice());
+            self.check_faults(rt, &faults, 3, b"", line.as_slice())?;
         }
         Ok(())
     }
 
     /// Has each of the first pushes to out fail in turn: the run ends in WriteFault with the pieces before in out.
-    fn check_writes(
-        &self,
-        rt: &(impl Abort + AllocGlobal),
-        number: usize,
-        failing: &str,
-    ) -> Result<(), Memory> {
+    fn check_writes(&self, rt: &(impl Abort + AllocGlobal), failing: &str) -> Result<(), Memory> {
         let (piece, pushes) = cut(failing);
-        let piece = self::number(piece) % 65536;
-        for push in 0..self::number(pushes) {
+        let piece = number(piece) % 65536;
+        for push in 0..number(pushes) {
             let faults = Faults {
                 out: &[push],
                 most: (piece.saturating_sub(1) % 65536) as u16,
                 ..NO_FAULTS
             };
-            let outcome = self.outcome(rt.alloc(), &faults)?;
             match front_of(self.out.as_slice(), piece.saturating_mul(push)) {
-                Some(front) => expect(rt, number, &outcome, 4, front, b"tydi: WriteFault\n"),
-                None => self.expect(rt, number, &outcome, 0),
+                Some(front) => self.check_faults(rt, &faults, 4, front, b"tydi: WriteFault\n")?,
+                None => self.check_faults(rt, &faults, 0, self.out.as_slice(), b"")?,
             }
         }
         Ok(())
     }
 
-    /// Compares what came of the run of this number with what the row has.
-    fn expect(&self, rt: &impl Abort, number: usize, outcome: &Outcome, status: u8) {
-        expect(
-            rt,
-            number,
-            outcome,
-            status,
-            self.out.as_slice(),
-            self.err.as_slice(),
-        );
-    }
-
-    /// Whether this came of the run as the row has it.
-    fn is_wanted(&self, outcome: &Outcome, status: u8) -> bool {
-        (outcome.out.as_slice() == self.out.as_slice())
-            & (outcome.err.as_slice() == self.err.as_slice())
-            & (outcome.status == status)
+    /// Takes a line of a table, and where it ends the row of this number, runs the row and begins the next. Answers how many rows were run.
+    fn take_line(
+        &mut self,
+        rt: &(impl Abort + AllocGlobal),
+        number: usize,
+        most: u16,
+        line: &str,
+    ) -> Result<usize, Memory> {
+        let (mark, text) = cut(line);
+        if mark == "=" {
+            self.check(rt, number, text)?;
+            *self = Row::new(rt.alloc(), most);
+            Ok(1)
+        } else {
+            self.take(rt.alloc(), mark, text)?;
+            Ok(0)
+        }
     }
 }
 
-/// Compares what came of the run of this number.
-pub(crate) fn expect(
-    rt: &impl Abort,
-    number: usize,
-    outcome: &Outcome,
-    status: u8,
-    out: &[u8],
-    err: &[u8],
-) {
-    assert!(rt; outcome.out.as_slice() == out, "out of {number}");
-    assert!(rt; outcome.err.as_slice() == err, "err of {number}");
-    assert!(rt; outcome.status == status, "status of {number}");
+/// Whether this came of a run.
+pub(crate) fn is_wanted(outcome: &Outcome, status: u8, out: &[u8], err: &[u8]) -> bool {
+    (outcome.out.as_slice() == out) & (outcome.err.as_slice() == err) & (outcome.status == status)
 }
 
 /// Runs each row of a table, where a call takes or gives one byte more than this at most, and compares what came of it. Answers how
@@ -275,14 +271,7 @@ fn check_rows(rt: &(impl Abort + AllocGlobal), table: &str, most: u16) -> Result
     let mut row = Row::new(rt.alloc(), most);
     let mut count = 0usize;
     for line in table.lines() {
-        let (mark, text) = cut(line);
-        if mark == "=" {
-            row.check(rt, count, text)?;
-            row = Row::new(rt.alloc(), most);
-            count = count.saturating_add(1);
-        } else {
-            row.take(rt.alloc(), mark, text)?;
-        }
+        count = count.saturating_add(row.take_line(rt, count, most, line)?);
     }
     Ok(count)
 }
@@ -293,12 +282,11 @@ pub(crate) fn check_table(
     table: &str,
     count: usize,
     mosts: &[u16],
-) -> Result<(), Memory> {
+) {
     for most in mosts {
-        let rows = check_rows(rt, table, *most)?;
-        assert!(rt; rows == count, "{rows} rows");
+        let rows = check_rows(rt, table, *most);
+        assert!(rt; rows == Ok(count), "{rows:?}");
     }
-    Ok(())
 }
 
 // The status of a word; that of `again` is Done.
@@ -342,19 +330,20 @@ fn copied(alloc: Global, files: &[(Text, List<u8>)]) -> Result<List<(Text, List<
 
 // Pushes what a line of a file says; a line with another mark says nothing.
 fn push_file(mark: &str, text: &str, file: &mut List<u8>) -> Result<(), Memory> {
-    if mark == "<" {
-        push_line(text, file)
-    } else if mark == "~" {
-        file.extend_from_slice(text.as_bytes())
-    } else if mark == "+" {
-        push_repeated(text, file)
-    } else if mark == "*" {
-        push_bytes(text, file)
-    } else if mark == "^" {
-        push_comment(file)
-    } else {
-        Ok(())
+    match mark.as_bytes().first() {
+        Some(b'<') => push_line(text, file),
+        Some(b'~') => file.extend_from_slice(text.as_bytes()),
+        Some(b'+') => push_repeated(text, file),
+        Some(b'*') => push_bytes(text, file),
+        Some(b'^') => push_comment(file),
+        _ => Ok(()),
     }
+}
+
+// Puts the words of a line in the place of others.
+fn put_words(alloc: Global, line: &str, words: &mut List<Text>) -> Result<(), Memory> {
+    *words = words_of(alloc, line)?;
+    Ok(())
 }
 
 // Pushes a comment of all bytes but LF, and LF.
