@@ -2,7 +2,7 @@
 //! that has none of the reader's rules.
 
 /// Plans whose first two lines are wrong.
-pub(crate) const HEADERS: &str = "\
+pub(crate) const PLAN_HEADERS: &str = "\
 $ drive p a::s.p v q
 ~ namespace a { streamlet s = (p: in Stream(data: Bits(8), throughput: 4, dimensionality: 1, complexity: 8, user: Bits(4))); }
 @ p
@@ -222,7 +222,7 @@ $ drive p a::s.p v q
 ";
 
 /// Plans with a wrong line of a block.
-pub(crate) const LINES: &str = "\
+pub(crate) const PLAN_LINES: &str = "\
 $ drive p a::s.p v q
 ~ namespace a { streamlet s = (p: in Stream(data: Bits(8), throughput: 4, dimensionality: 1, complexity: 8, user: Bits(4))); }
 @ p
@@ -561,7 +561,7 @@ $ drive p a::s.p v q
 ";
 
 /// Plans with a wrong wish or user word.
-pub(crate) const WISHES: &str = "\
+pub(crate) const PLAN_WISHES: &str = "\
 $ drive p a::s.p v q
 ~ namespace a { streamlet s = (p: in Stream(data: Bits(8), throughput: 4, dimensionality: 1, complexity: 8, user: Bits(4))); }
 @ p
@@ -813,7 +813,7 @@ $ drive p a::s.p v q
 ";
 
 /// Plans with a wrong line of two streams.
-pub(crate) const STREAMS: &str = "\
+pub(crate) const PLAN_STREAMS: &str = "\
 $ drive p a::s.p v q
 ~ namespace a { streamlet s = (p: in Stream(data: Group(a: Bits(8), b: Stream(data: Bits(8), throughput: 2, dimensionality: 1)), throughput: 2)); }
 @ p
