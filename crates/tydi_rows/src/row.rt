@@ -126,7 +126,8 @@ impl Row {
         number: usize,
         end: &str,
     ) -> Result<(), Memory> {
-        let (word, failing) = cut(end);
+        let (word, rest) = cut(end);
+        let (_failing, calls) = cut(rest);
         let status = status_of(word);
         if !self.then.is_empty() {
             self.go_on(rt.alloc())?;
@@ -137,11 +138,11 @@ impl Row {
             self.turn_round(rt.alloc())?;
             self.check_run(rt, number, status)?;
         }
-        if failing.is_empty() {
+        if calls.is_empty() {
             return Ok(());
         }
         self.check_reads(rt)?;
-        self.check_writes(rt, failing)
+        self.check_writes(rt, calls)
     }
 
     /// Runs the row's words, and compares what came of it. The first row of a table is seen to fail where its text or its status is another.
@@ -223,8 +224,8 @@ impl Row {
     }
 
     /// Has each of the first pushes to out fail in turn: the run ends in WriteFault with the pieces before in out.
-    fn check_writes(&self, rt: &(impl Abort + AllocGlobal), failing: &str) -> Result<(), Memory> {
-        let (piece, pushes) = cut(failing);
+    fn check_writes(&self, rt: &(impl Abort + AllocGlobal), calls: &str) -> Result<(), Memory> {
+        let (piece, pushes) = cut(calls);
         let piece = number(piece) % 65536;
         for push in 0..number(pushes) {
             let faults = Faults {
