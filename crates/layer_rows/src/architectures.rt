@@ -2,15 +2,29 @@
 
 ghost use Rattle.til_resolve.specs.PlainProject.{HasPortTypes, plain_project};
 
-use crate::projects::VIDEO;
 use crate::types::tree_of;
 use link_check::check;
 use std::alloc::Global;
 use til_parser::Ast;
 use til_resolve::{Project, port_types_are_valid, projects_are_plain, resolve};
-use tydi_base::{Colons, List, Memory, Path, emit};
+use tydi_base::{List, Memory};
 use vhdl_text::{Arch, arch_length, print_arch};
-use vhdl_writer::{ArchFault, architecture, first_clash};
+use vhdl_writer::architecture;
+
+// A component, and an implementation with one instance of it.
+const VIDEO: &str = "namespace video {
+  type rgb = Group(r: Bits(8), g: Bits(8), b: Bits(8));
+  type frames = Stream(data: rgb, throughput: 2.0,
+    dimensionality: 2, complexity: 4);
+  streamlet invert = (a: in frames, b: out frames);
+  streamlet top = (a: in frames, b: out frames);
+  impl wiring of top = { i = invert; a -- i.a; i.b -- b; };
+  test two of top drive a =
+    \"root - = [[{r: 1, g: 2, b: 3}, {r: 4, g: 5, b: 6},
+     {r: 7, g: 8, b: 9}]] [];\" plan \"tydi-plan 1
+cycles 3
+\";
+}";
 
 // The entity of a component, and an architecture with one instance of it.
 const VIDEO_TEXT: &str = "\
@@ -318,19 +332,6 @@ pub(crate) const ARCHITECTURES: &[(&str, &str, &str)] = &[
         "",
         NONE_TEXT,
     ),
-    // Two streams of one path, in the second port and in the third.
-    (
-        "namespace c { type t = Stream(data: Bits(2)); type u = Stream(data: Stream(data: Bits(1)), user: Bits(1)); \
-         type v = Stream(data: Group(x: u)); streamlet s = (p: in t, q: in u, r: in v); }",
-        "",
-        "NameClash c::s.q - -",
-    ),
-    (
-        "namespace c { type u = Stream(data: Stream(data: Bits(1)), user: Bits(1)); \
-         type v = Stream(data: Group(x: u)); streamlet s = (p: out v, q: in u); }",
-        "",
-        "NameClash c::s.p x x",
-    ),
 ];
 
 pub(crate) fn architectures(alloc: Global, text: &str, out: &mut List<u8>) -> Result<(), Memory> {
@@ -357,25 +358,7 @@ fn write_project(alloc: Global, project: &Project, out: &mut List<u8>) -> Result
     };
     match architecture(alloc, project, &nets) {
         Ok(archs) => write_archs(alloc, archs.as_slice(), out),
-        Err(ArchFault::NameClash(path)) => write_clash(alloc, project, &path, out),
-        Err(ArchFault::Memory) => Err(Memory),
-    }
-}
-
-fn write_clash(
-    alloc: Global,
-    project: &Project,
-    path: &Path,
-    out: &mut List<u8>,
-) -> Result<(), Memory>
-    requires { HasPortTypes (plain_project project.now) }
-{
-    match first_clash(alloc, project)? {
-        Some(clash) => emit!(
-            out;
-            "NameClash ", Colons(&clash.streamlet), ".", &clash.port, " ", &clash.path, " ", path,
-        ),
-        None => Err(Memory),
+        Err(_) => Err(Memory),
     }
 }
 

@@ -2,9 +2,8 @@
 //! handed in, and the text of its result. A call that should not come to this ends in `Memory`, which no row expects.
 
 use crate::{
-    architectures, changed_traces, checkers, decodes, fractions, levels, links, nests, plan_texts,
-    projects, readings, splits, streams, text_decodes, tokens, traces, traces_written,
-    value_sweeps, value_texts, values, vhdl_runs, vhdl_texts, views, words,
+    architectures, checkers, decodes, fractions, levels, links, nests, plan_texts, readings, runs,
+    schedules, splits, streams, tokens, traces, traces_written, values, vhdl_texts, views, words,
 };
 use std::alloc::Global;
 use std::process::Abort;
@@ -34,30 +33,23 @@ pub(crate) enum Call {
     Ended,
     Series,
     Trace,
-    WrittenTrace,
+    WrittenHeader,
     Tokens,
     Counted,
-    Project,
-    Nets,
     Sink,
     Split,
     Unpacked,
     Fitting,
-    ValueText,
-    RawText,
-    ManyMembers,
     Viewed,
     Decoded,
-    TextDecoded,
-    Swept,
-    Changed,
     Level,
     WideNumber,
     Binary,
     Plan,
+    Schedule,
+    Cycles,
     Architectures,
     Bench,
-    Run,
 }
 
 /// The first word of a text, and what comes after the space.
@@ -80,18 +72,31 @@ pub(crate) fn byte(digits: &str) -> u8 {
     (number(digits) % 256) as u8
 }
 
-/// Makes the call of each row, and compares its result.
+/// Makes the call of each row of a table with so many, and compares its result.
 pub(crate) fn check_calls(
     rt: &(impl Abort + AllocGlobal),
     call: &Call,
     rows: &[(&str, &str, &str)],
+    count: usize,
 ) {
+    let mut made = 0usize;
     for (first, second, wanted) in rows {
-        let mut told = List::new(rt.alloc());
-        let is_told = tell(rt.alloc(), call, first, second, &mut told).is_ok();
-        let is_wanted = told.as_slice() == wanted.as_bytes();
-        assert!(rt; is_told & is_wanted, "{first} {second}");
+        assert!(rt;
+            is_right(rt.alloc(), call, first, second, wanted),
+            "{first} {second}"
+        );
+        made = made.saturating_add(1);
     }
+    assert!(rt; made == count, "{made} rows");
+}
+
+// Whether a call has this result, and the result with a byte more is seen to be another.
+fn is_right(alloc: Global, call: &Call, first: &str, second: &str, wanted: &str) -> bool {
+    let mut told = List::new(alloc);
+    let is_told = tell(alloc, call, first, second, &mut told).is_ok();
+    let is_wanted = told.as_slice() == wanted.as_bytes();
+    let is_pushed = told.push(b'!').is_ok();
+    is_told & is_wanted & is_pushed & (told.as_slice() != wanted.as_bytes())
 }
 
 // Writes the result of a call.
@@ -125,29 +130,22 @@ fn tell(
         Call::Ended => checkers::ended(alloc, out),
         Call::Series => nests::series(alloc, first, second, out),
         Call::Trace => traces::trace(alloc, first, out),
-        Call::WrittenTrace => traces_written::written_trace(alloc, out),
+        Call::WrittenHeader => traces_written::written_header(alloc, out),
         Call::Tokens => tokens::tokens(alloc, first, out),
         Call::Counted => tokens::counted(alloc, first, second, out),
-        Call::Project => projects::project(alloc, first, out),
         Call::Architectures => architectures::architectures(alloc, first, out),
-        Call::Nets => links::nets(alloc, first, out),
         Call::Sink => links::sink(alloc, first, second, out),
         Call::Unpacked => values::unpacked(alloc, first, second, out),
         Call::Fitting => values::fitting(alloc, first, second, out),
         Call::Viewed => views::viewed(alloc, first, second, out),
         Call::Decoded => decodes::decoded(alloc, first, second, out),
-        Call::TextDecoded => text_decodes::decoded(alloc, first, second, out),
-        Call::Swept => value_sweeps::swept(alloc, first, second, out),
-        Call::Changed => changed_traces::changed(alloc, first, second, out),
-        Call::ValueText => value_texts::value_text(alloc, first, second, out),
-        Call::RawText => value_texts::raw_text(alloc, first, second, out),
-        Call::ManyMembers => value_texts::many_members(alloc, first, second, out),
         Call::Level => levels::level(alloc, first, second, out),
         Call::WideNumber => levels::wide_numbers(first, out),
         Call::Binary => levels::binary(alloc, first, second, out),
         Call::Split => splits::split(alloc, first, second, out),
         Call::Plan => plan_texts::plan(alloc, first, second, out),
-        Call::Bench => vhdl_texts::bench_text(alloc, first, second, out),
-        Call::Run => vhdl_runs::run_text(alloc, first, out),
+        Call::Schedule => schedules::scheduled(alloc, first, second, out),
+        Call::Cycles => runs::run(alloc, first, second, out),
+        Call::Bench => vhdl_texts::printed(alloc, first, out),
     }
 }

@@ -1,12 +1,9 @@
 //! The tests of the layers below the tool. No constant holds all tables: the check of one that did ran out of steps.
 
 use crate::calls::{Call, check_calls};
-use crate::vhdl_tables::BENCH;
-use crate::vhdl_texts::check_front;
 use crate::{
-    architectures, change_tables, checkers, decodes, fractions, levels, link_tables, nests,
-    plan_tables, projects, readings, splits, streams, text_decodes, tokens, traces, traces_written,
-    value_tables, value_texts, values, vhdl_tables, views, words,
+    architectures, checkers, decodes, fractions, levels, links, nests, plan_texts, readings, runs,
+    schedules, splits, streams, tokens, traces, traces_written, values, vhdl_texts, views, words,
 };
 use bench_run::traces_of_benches;
 use complexity_rules::{
@@ -19,8 +16,8 @@ use link_check::{
 };
 use physical_stream::shown_at_greater_levels;
 use port_drive::{driven_ports_are_legal, driven_texts_are_traces, finished_runs_drive};
+use scheduler::plans_keep_their_laws;
 use signal_layout::{Signal, SignalDefault, default_of};
-use std::test::Fail;
 use til_lexer::{spelled_tokens_are_read, tokens_are_of_the_text, tokens_have_their_form};
 use til_parser::{trees_are_apart, trees_are_read_as_printed};
 use trace_decode::{
@@ -43,155 +40,73 @@ use vhdl_text::benches_are_read_as_printed;
 
 #[test]
 fn texts_and_numbers(rt: HostRuntime) {
-    check_calls(&rt, &Call::Fraction, fractions::FRACTIONS);
-    check_calls(&rt, &Call::Product, fractions::PRODUCTS);
-    check_calls(&rt, &Call::Decimal, readings::DECIMALS);
-    check_calls(&rt, &Call::Piece, readings::PIECES);
-    check_calls(&rt, &Call::Name, readings::NAMES);
-    check_calls(&rt, &Call::Path, readings::PATHS);
-    check_calls(&rt, &Call::Compared, readings::COMPARED);
-    check_calls(&rt, &Call::Written, readings::WRITTEN);
-    check_calls(&rt, &Call::Level, levels::LEVELS);
-    check_calls(&rt, &Call::WideNumber, levels::WIDE_NUMBERS);
+    check_calls(&rt, &Call::Fraction, fractions::FRACTIONS, 5);
+    check_calls(&rt, &Call::Product, fractions::PRODUCTS, 2);
+    check_calls(&rt, &Call::Decimal, readings::DECIMALS, 7);
+    check_calls(&rt, &Call::Piece, readings::PIECES, 3);
+    check_calls(&rt, &Call::Name, readings::NAMES, 16);
+    check_calls(&rt, &Call::Path, readings::PATHS, 13);
+    check_calls(&rt, &Call::Compared, readings::COMPARED, 2);
+    check_calls(&rt, &Call::Written, readings::WRITTEN, 1);
+    check_calls(&rt, &Call::Level, levels::LEVELS, 18);
+    check_calls(&rt, &Call::WideNumber, levels::WIDE_NUMBERS, 8);
 }
 
 #[test]
 fn words_of_bits(rt: HostRuntime) {
-    check_calls(&rt, &Call::Width, words::WIDTHS);
-    check_calls(&rt, &Call::Ones, words::ONES);
-    check_calls(&rt, &Call::Digits, words::DIGITS);
-    check_calls(&rt, &Call::Numbered, words::NUMBERS);
-    check_calls(&rt, &Call::Joined, words::JOINED);
-    check_calls(&rt, &Call::Overwritten, words::OVERWRITTEN);
-    check_calls(&rt, &Call::Binary, levels::BINARY);
+    check_calls(&rt, &Call::Width, words::WIDTHS, 7);
+    check_calls(&rt, &Call::Ones, words::ONES, 12);
+    check_calls(&rt, &Call::Digits, words::DIGITS, 4);
+    check_calls(&rt, &Call::Numbered, words::NUMBERS, 3);
+    check_calls(&rt, &Call::Joined, words::JOINED, 1);
+    check_calls(&rt, &Call::Overwritten, words::OVERWRITTEN, 2);
+    check_calls(&rt, &Call::Binary, levels::BINARY, 6);
 }
 
 #[test]
 fn streams_of_items(rt: HostRuntime) {
-    check_calls(&rt, &Call::Limit, streams::LIMITS);
-    check_calls(&rt, &Call::Items, streams::ITEMS);
-    check_calls(&rt, &Call::Copy, streams::COPIES);
-    check_calls(&rt, &Call::Pause, checkers::PAUSES);
-    check_calls(&rt, &Call::Start, checkers::START);
-    check_calls(&rt, &Call::Ended, checkers::ENDED);
-    check_calls(&rt, &Call::Series, nests::SERIES);
-}
-
-#[test]
-fn traces_of_streams(rt: HostRuntime) {
-    check_calls(&rt, &Call::Trace, traces::TRACES);
-    check_calls(&rt, &Call::WrittenTrace, traces_written::WRITTEN_TRACE);
-}
-
-#[test]
-fn tokens_and_projects(rt: HostRuntime) {
-    check_calls(&rt, &Call::Tokens, tokens::TOKENS);
-    check_calls(&rt, &Call::Counted, tokens::COUNTED);
-    check_calls(&rt, &Call::Project, projects::PROJECTS);
-    check_calls(&rt, &Call::Split, splits::FRONTS);
-}
-
-#[test]
-fn architectures_of_projects(rt: HostRuntime) {
-    check_calls(&rt, &Call::Architectures, architectures::ARCHITECTURES);
-}
-
-#[test]
-fn links_of_projects(rt: HostRuntime) {
-    check_calls(&rt, &Call::Nets, link_tables::DESIGNS);
-    check_calls(&rt, &Call::Nets, link_tables::TYPES);
-    check_calls(&rt, &Call::Sink, link_tables::SINKS);
+    check_calls(&rt, &Call::Limit, streams::LIMITS, 7);
+    check_calls(&rt, &Call::Items, streams::ITEMS, 5);
+    check_calls(&rt, &Call::Copy, streams::COPIES, 3);
+    check_calls(&rt, &Call::Pause, checkers::PAUSES, 7);
+    check_calls(&rt, &Call::Start, checkers::START, 1);
+    check_calls(&rt, &Call::Ended, checkers::ENDED, 1);
+    check_calls(&rt, &Call::Series, nests::SERIES, 22);
 }
 
 #[test]
 fn values_of_types(rt: HostRuntime) {
-    check_calls(&rt, &Call::Unpacked, values::UNPACKED);
-    check_calls(&rt, &Call::Fitting, values::FITTING);
-    check_calls(&rt, &Call::Viewed, views::VIEWS);
+    check_calls(&rt, &Call::Unpacked, values::UNPACKED, 15);
+    check_calls(&rt, &Call::Fitting, values::FITTING, 26);
+    check_calls(&rt, &Call::Viewed, views::VIEWS, 15);
 }
 
 #[test]
-fn values_of_traces(rt: HostRuntime) {
-    check_calls(&rt, &Call::Decoded, decodes::DECODED);
-    check_calls(&rt, &Call::TextDecoded, decodes::DECODED);
-    check_calls(&rt, &Call::TextDecoded, text_decodes::TEXT_DECODED);
+fn texts_of_projects(rt: HostRuntime) {
+    check_calls(&rt, &Call::Tokens, tokens::TOKENS, 7);
+    check_calls(&rt, &Call::Counted, tokens::COUNTED, 1);
+    check_calls(&rt, &Call::Split, splits::FRONTS, 1);
+    check_calls(&rt, &Call::Sink, links::SINKS, 10);
+    check_calls(&rt, &Call::Architectures, architectures::ARCHITECTURES, 4);
 }
 
 #[test]
-fn small_values(rt: HostRuntime) {
-    check_calls(&rt, &Call::Swept, value_tables::ELEMENTS);
-    check_calls(&rt, &Call::Swept, value_tables::SYNCHRONICITIES);
-    check_calls(&rt, &Call::Swept, value_tables::NESTED);
-}
-
-#[test]
-fn changed_traces(rt: HostRuntime) {
-    check_calls(&rt, &Call::Changed, change_tables::ELEMENTS);
-}
-
-#[test]
-fn changed_traces_of_several_lanes(rt: HostRuntime) {
-    check_calls(&rt, &Call::Changed, change_tables::LANES);
-}
-
-#[test]
-fn changed_traces_of_streams_in_fields(rt: HostRuntime) {
-    check_calls(&rt, &Call::Changed, change_tables::SYNCHRONICITIES);
-}
-
-#[test]
-fn changed_traces_of_streams_in_variants(rt: HostRuntime) {
-    check_calls(&rt, &Call::Changed, change_tables::VARIANTS);
-}
-
-#[test]
-fn changed_traces_of_nested_streams(rt: HostRuntime) {
-    check_calls(&rt, &Call::Changed, change_tables::NESTED);
+fn traces_of_streams(rt: HostRuntime) {
+    check_calls(&rt, &Call::Trace, traces::TRACES, 2);
+    check_calls(&rt, &Call::WrittenHeader, traces_written::WRITTEN_HEADER, 1);
+    check_calls(&rt, &Call::Decoded, decodes::DECODED, 2);
+    check_calls(&rt, &Call::Schedule, schedules::SCHEDULES, 14);
+    check_calls(&rt, &Call::Cycles, runs::RUNS, 6);
 }
 
 #[test]
 fn plans_of_texts(rt: HostRuntime) {
-    check_calls(&rt, &Call::Plan, plan_tables::HEADERS);
-    check_calls(&rt, &Call::Plan, plan_tables::LINES);
-    check_calls(&rt, &Call::Plan, plan_tables::WISHES);
-    check_calls(&rt, &Call::Plan, plan_tables::STREAMS);
+    check_calls(&rt, &Call::Plan, plan_texts::PLANS, 12);
 }
 
 #[test]
-fn values_as_texts(rt: HostRuntime) {
-    check_calls(&rt, &Call::ValueText, value_texts::READ);
-    check_calls(&rt, &Call::ValueText, value_texts::UNFIT);
-    check_calls(&rt, &Call::ValueText, value_texts::FORMLESS);
-    check_calls(&rt, &Call::RawText, value_texts::RAW);
-    check_calls(&rt, &Call::ManyMembers, value_texts::MANY);
-}
-
-/// Built without proof it takes more than a minute: `rt try --test --seconds 300`.
-#[test]
-fn a_leaf_too_many(rt: HostRuntime) {
-    check_calls(&rt, &Call::ManyMembers, value_texts::TOO_MANY);
-}
-
-#[test]
-fn benches_and_runs(rt: HostRuntime) {
-    check_calls(&rt, &Call::Bench, vhdl_tables::HEADS);
-    check_calls(&rt, &Call::Bench, vhdl_tables::STATEMENTS);
-    check_calls(&rt, &Call::Run, vhdl_tables::RUN_ERRORS);
-    check_calls(&rt, &Call::Run, vhdl_tables::RUNS);
-    check_calls(&rt, &Call::Run, vhdl_tables::ORDERS);
-}
-
-/// A bench that is cut has its error at the line that is cut, or at its end.
-#[test]
-fn benches_that_are_cut(rt: HostRuntime) -> Result<(), Fail> {
-    let mut line = 0;
-    for count in 0..BENCH.len() {
-        check_front(&rt, count, line)?;
-        if BENCH.as_bytes()[count] == b'\n' {
-            line = count + 1;
-        }
-    }
-    Ok(())
+fn benches(rt: HostRuntime) {
+    check_calls(&rt, &Call::Bench, vhdl_texts::BENCHES, 1);
 }
 
 /// The defaults of signals that a stream lacks. How wide each is, a table of the examples says.
@@ -234,6 +149,7 @@ fn laws() {
     driven_texts_are_traces();
     finished_runs_drive();
     rows_keep_their_laws();
+    plans_keep_their_laws();
     traces_have_one_outcome();
     texts_have_one_outcome();
     driven_values_are_carried();

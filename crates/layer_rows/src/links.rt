@@ -1,54 +1,74 @@
-//! Links, by tables whose answers were found by hand: the nets of a project or its first error, and where the nets lead from a port.
+//! Links, by a table whose answers were found by hand: where the nets of a project lead from a port. What `link` says is tried over `run`.
 
 use crate::calls::{cut, number};
 use crate::types::project_of;
-use link_check::{LeafPort, LinkFault, Why, check, nets_text};
+use link_check::{LeafPort, check};
 use std::alloc::Global;
-use tydi_base::{List, Memory, Name, Path, Place, TryClone, emit};
+use tydi_base::{List, Memory, Name, Path, TryClone, emit};
 
-/// The nets of a project, or its first error with its place.
-pub(crate) fn nets(alloc: Global, text: &str, out: &mut List<u8>) -> Result<(), Memory> {
-    let project = project_of(alloc, text)?;
-    match check(alloc, &project) {
-        Ok(nets) => match nets_text(alloc, &project, &nets, 1_000)? {
-            Some(text) => out.extend_from_slice(text.as_slice()),
-            None => Err(Memory),
-        },
-        Err(fault) => write_fault(&fault, out),
-    }
-}
-
-fn write_fault(fault: &LinkFault, out: &mut List<u8>) -> Result<(), Memory> {
-    match fault {
-        LinkFault::UnknownEnd(place) => write_at("UnknownEnd", *place, out),
-        LinkFault::SameSide(place) => write_at("SameSide", *place, out),
-        LinkFault::NotCompatible(place, difference) => {
-            write_at("NotCompatible", *place, out)?;
-            emit!(out; " ", &difference.path, " ", why_word(difference.why))
-        }
-        LinkFault::LinkedTwice(place) => write_at("LinkedTwice", *place, out),
-        LinkFault::Unlinked(place) => write_at("Unlinked", *place, out),
-        LinkFault::DesignTooLarge => emit!(out; "DesignTooLarge"),
-        LinkFault::Memory => Err(Memory),
-    }
-}
-
-fn write_at(name: &str, place: Place, out: &mut List<u8>) -> Result<(), Memory> {
-    emit!(out; name, " ", place.line, ":", place.column)
-}
-
-fn why_word(why: Why) -> &'static str {
-    match why {
-        Why::Shape => "Shape",
-        Why::Throughput => "Throughput",
-        Why::Dims => "Dims",
-        Why::Sync => "Sync",
-        Why::Level => "Level",
-        Why::Direction => "Direction",
-        Why::User => "User",
-        Why::Keep => "Keep",
-    }
-}
+/// A design, and a port by the number of its top and its path: the port to which the nets lead.
+pub(crate) const SINKS: &[(&str, &str, &str)] = &[
+    // Into a hierarchy.
+    (
+        "namespace n { type y = Stream(data: Bits(1)); streamlet leaf = (p: in y, q: out y); streamlet mid = (p: in y, q: out y); streamlet top = (p: in y, q: out y); impl b of mid = { x = leaf; p -- x.p; x.q -- q; }; impl a of top = { m = mid; n = mid; p -- m.p; m.q -- n.p; n.q -- q; }; }",
+        "2 p",
+        "m.x.p",
+    ),
+    // From one instance to another.
+    (
+        "namespace n { type y = Stream(data: Bits(1)); streamlet leaf = (p: in y, q: out y); streamlet mid = (p: in y, q: out y); streamlet top = (p: in y, q: out y); impl b of mid = { x = leaf; p -- x.p; x.q -- q; }; impl a of top = { m = mid; n = mid; p -- m.p; m.q -- n.p; n.q -- q; }; }",
+        "2 m.x.q",
+        "n.x.p",
+    ),
+    // Out of it.
+    (
+        "namespace n { type y = Stream(data: Bits(1)); streamlet leaf = (p: in y, q: out y); streamlet mid = (p: in y, q: out y); streamlet top = (p: in y, q: out y); impl b of mid = { x = leaf; p -- x.p; x.q -- q; }; impl a of top = { m = mid; n = mid; p -- m.p; m.q -- n.p; n.q -- q; }; }",
+        "2 n.x.q",
+        "q",
+    ),
+    // A sink is no source.
+    (
+        "namespace n { type y = Stream(data: Bits(1)); streamlet leaf = (p: in y, q: out y); streamlet mid = (p: in y, q: out y); streamlet top = (p: in y, q: out y); impl b of mid = { x = leaf; p -- x.p; x.q -- q; }; impl a of top = { m = mid; n = mid; p -- m.p; m.q -- n.p; n.q -- q; }; }",
+        "2 q",
+        "none",
+    ),
+    // A port of an instance that has instances and links is no leaf.
+    (
+        "namespace n { type y = Stream(data: Bits(1)); streamlet leaf = (p: in y, q: out y); streamlet mid = (p: in y, q: out y); streamlet top = (p: in y, q: out y); impl b of mid = { x = leaf; p -- x.p; x.q -- q; }; impl a of top = { m = mid; n = mid; p -- m.p; m.q -- n.p; n.q -- q; }; }",
+        "2 m.p",
+        "none",
+    ),
+    // A port that is not there.
+    (
+        "namespace n { type y = Stream(data: Bits(1)); streamlet leaf = (p: in y, q: out y); streamlet mid = (p: in y, q: out y); streamlet top = (p: in y, q: out y); impl b of mid = { x = leaf; p -- x.p; x.q -- q; }; impl a of top = { m = mid; n = mid; p -- m.p; m.q -- n.p; n.q -- q; }; }",
+        "2 r",
+        "none",
+    ),
+    // An instance that is not there.
+    (
+        "namespace n { type y = Stream(data: Bits(1)); streamlet leaf = (p: in y, q: out y); streamlet mid = (p: in y, q: out y); streamlet top = (p: in y, q: out y); impl b of mid = { x = leaf; p -- x.p; x.q -- q; }; impl a of top = { m = mid; n = mid; p -- m.p; m.q -- n.p; n.q -- q; }; }",
+        "2 k.p",
+        "none",
+    ),
+    // A top without instances and links.
+    (
+        "namespace n { type y = Stream(data: Bits(1)); streamlet leaf = (p: in y, q: out y); streamlet mid = (p: in y, q: out y); streamlet top = (p: in y, q: out y); impl b of mid = { x = leaf; p -- x.p; x.q -- q; }; impl a of top = { m = mid; n = mid; p -- m.p; m.q -- n.p; n.q -- q; }; }",
+        "0 p",
+        "none",
+    ),
+    // A top further down.
+    (
+        "namespace n { type y = Stream(data: Bits(1)); streamlet leaf = (p: in y, q: out y); streamlet mid = (p: in y, q: out y); streamlet top = (p: in y, q: out y); impl b of mid = { x = leaf; p -- x.p; x.q -- q; }; impl a of top = { m = mid; n = mid; p -- m.p; m.q -- n.p; n.q -- q; }; }",
+        "1 p",
+        "x.p",
+    ),
+    // No such top.
+    (
+        "namespace n { type y = Stream(data: Bits(1)); streamlet leaf = (p: in y, q: out y); streamlet mid = (p: in y, q: out y); streamlet top = (p: in y, q: out y); impl b of mid = { x = leaf; p -- x.p; x.q -- q; }; impl a of top = { m = mid; n = mid; p -- m.p; m.q -- n.p; n.q -- q; }; }",
+        "7 p",
+        "none",
+    ),
+];
 
 /// The port to which the nets of a project lead from a port, by the number of its top and its path. `none` where they lead from none.
 pub(crate) fn sink(

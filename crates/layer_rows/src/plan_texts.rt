@@ -1,11 +1,70 @@
-//! Plans that texts spell, and the first fault of those that spell none.
+//! Plans that texts spell.
 
-use crate::types::{project_around, type_in};
-use logical_types::{LType, check, number_of_nodes};
-use plan_text::{Plan, PlanFault, StreamPlan, Wish, read};
+use crate::types::{project_around, split_in, type_in};
+use plan_text::{Plan, StreamPlan, Wish, read};
 use std::alloc::Global;
-use tydi_base::{Hex, List, Memory, Place, emit};
-use type_split::{Split, number_of_streams, split_type};
+use tydi_base::{Hex, List, Memory, emit};
+use type_split::Split;
+
+// One stream of four lanes, with user words of four bits.
+const ONE: &str =
+    "Stream(data: Bits(8), throughput: 4, dimensionality: 1, complexity: 8, user: Bits(4))";
+
+// A stream of two lanes, with one of four inside. They have no user words.
+const TWO: &str =
+    "Stream(data: Group(a: Bits(8), b: Stream(data: Bits(8), throughput: 2, dimensionality: 1)), throughput: 2)";
+
+/// A port's type, and a text: its plan. Plans with an error are tried over `run`.
+pub(crate) const PLANS: &[(&str, &str, &str)] = &[
+    (ONE, "tydi-plan 1\ncycles 4", "4; g r 1111 w u"),
+    (
+        ONE,
+        "\n// a plan\ntydi-plan 1\n\n// of so many\ncycles 4\n",
+        "4; g r 1111 w u",
+    ),
+    (ONE, "tydi-plan 1\ncycles 0\n", "0; g r  w u"),
+    (
+        ONE,
+        "tydi-plan 1\ncycles 4\nstream -\ngaps 0 1000000 3\nready 0011\nwishes f+late+laned 0a a+laned 1+late\nusers a 0f 0\n",
+        "4; g 0 1000000 3 r 0011 w 15td 10 10d 1t u a f 0",
+    ),
+    (
+        ONE,
+        "tydi-plan 1\ncycles 4\nstream -\n\nusers a",
+        "4; g r 1111 w u a",
+    ),
+    (
+        ONE,
+        "tydi-plan 1\ncycles 4\nstream -\n// pauses\ngaps 7\n//\n\nwishes 3",
+        "4; g 7 r 1111 w 3 u",
+    ),
+    (
+        ONE,
+        "tydi-plan 1\ncycles 4\nstream -\nwishes 00000000000000000000000000000001 0\n",
+        "4; g r 1111 w 1 0 u",
+    ),
+    (
+        ONE,
+        "tydi-plan 1\ncycles 4\nstream -\nusers 0000000000000000000000000000000000000f 0\n",
+        "4; g r 1111 w u f 0",
+    ),
+    (
+        TWO,
+        "tydi-plan 1\ncycles 2\nstream -\nusers 0 00\nstream b\nwishes c\n",
+        "2; g r 11 w u  ; g r 11 w 12 u",
+    ),
+    (TWO, "tydi-plan 1\ncycles 2\n", "2; g r 11 w u; g r 11 w u"),
+    (
+        TWO,
+        "tydi-plan 1\ncycles 2\nstream b\nready 10\n\nstream -\ngaps 3",
+        "2; g 3 r 11 w u; g r 10 w u",
+    ),
+    (
+        TWO,
+        "tydi-plan 1\ncycles 2\nstream -\nstream b\n",
+        "2; g r 11 w u; g r 11 w u",
+    ),
+];
 
 fn write_wish(wish: &Wish, out: &mut List<u8>) -> Result<(), Memory> {
     emit!(out; " ", wish.mask)?;
@@ -47,23 +106,6 @@ fn write_plan(plan: &Plan, out: &mut List<u8>) -> Result<(), Memory> {
     Ok(())
 }
 
-fn write_at(name: &str, place: Place, out: &mut List<u8>) -> Result<(), Memory> {
-    emit!(out; name, " ", place.line, ":", place.column, " ", place.offset)
-}
-
-fn write_fault(fault: PlanFault, out: &mut List<u8>) -> Result<(), Memory> {
-    match fault {
-        PlanFault::Syntax(place) => write_at("Syntax", place, out),
-        PlanFault::UnknownStream(place) => write_at("UnknownStream", place, out),
-        PlanFault::StreamTwice(place) => write_at("StreamTwice", place, out),
-        PlanFault::ReadyLength(place) => write_at("ReadyLength", place, out),
-        PlanFault::MaskTooWide(place) => write_at("MaskTooWide", place, out),
-        PlanFault::UserTooWide(place) => write_at("UserTooWide", place, out),
-        PlanFault::TooManyCycles(place) => write_at("TooManyCycles", place, out),
-        PlanFault::Memory => Err(Memory),
-    }
-}
-
 fn write_read(
     alloc: Global,
     split: &Split<'_>,
@@ -75,27 +117,11 @@ fn write_read(
     }
     match read(alloc, split, text) {
         Ok(plan) => write_plan(&plan, out),
-        Err(fault) => write_fault(fault, out),
-    }
-}
-
-fn write_for(alloc: Global, ltype: &LType, text: &[u8], out: &mut List<u8>) -> Result<(), Memory> {
-    let LType::Stream(stream) = ltype else {
-        return Err(Memory);
-    };
-    if check(ltype).is_err() || number_of_streams(ltype) > 65536 {
-        return Err(Memory);
-    }
-    if number_of_nodes(ltype) > 65536 {
-        return Err(Memory);
-    }
-    match split_type(alloc, stream.get()) {
-        Ok(split) => write_read(alloc, &split, text, out),
         Err(_) => Err(Memory),
     }
 }
 
-/// Writes the plan that a text spells for a port of this type, or its first fault.
+/// Writes the plan that a text spells for a port of this type.
 pub(crate) fn plan(
     alloc: Global,
     spelled: &str,
@@ -103,5 +129,6 @@ pub(crate) fn plan(
     out: &mut List<u8>,
 ) -> Result<(), Memory> {
     let project = project_around(alloc, spelled)?;
-    write_for(alloc, type_in(&project)?, text.as_bytes(), out)
+    let split = split_in(alloc, type_in(&project)?)?;
+    write_read(alloc, &split, text.as_bytes(), out)
 }

@@ -128,9 +128,22 @@ pub(crate) fn compared(
     out: &mut List<u8>,
 ) -> Result<(), Memory> {
     let first = dotted(alloc, first)?;
-    let is_copied = is_copied(alloc, &first)?;
-    let is_above = dotted(alloc, second)? < first;
-    emit!(out; if is_copied { "same" } else { "other" }, if is_above { " above" } else { " below" })
+    write_compared(alloc, &first, &dotted(alloc, second)?, out)
+}
+
+fn write_compared(
+    alloc: Global,
+    first: &Path,
+    second: &Path,
+    out: &mut List<u8>,
+) -> Result<(), Memory> {
+    let copied = if is_copied(alloc, first)? {
+        "same"
+    } else {
+        "other"
+    };
+    let order = if *second < *first { " above" } else { " below" };
+    emit!(out; copied, order)
 }
 
 pub(crate) fn written(alloc: Global, text: &str, out: &mut List<u8>) -> Result<(), Memory> {

@@ -44,29 +44,6 @@ pub(crate) const RUNS: &[(&str, &str, &str)] = &[
     ("1 0 1 8 0 ", "5 1", "- left 0 after 0"),
 ];
 
-/// A stream and items; gaps, and the ready bits of two streams with these items: the rows of both, and how many transfers are left.
-pub(crate) const PORTS: &[(&str, &str, &str)] = &[
-    (
-        "1 1 3 8 0 Hi0",
-        "01 00111 11111",
-        "48/0 48/0 48/0 - 48/0 69/1 - - 69/1 - left 0 0, 48/0 48/0 48/0 - 48/0 69/1 - - 69/1 - left 0 0",
-    ),
-    (
-        "1 1 3 8 0 Hi0",
-        "01 00110 01000",
-        "48/0 48/0 48/0 48/0 48/0 - - 69/1 69/1 69/1 left 1 1, 48/0 48/0 48/0 48/0 48/0 - - 69/1 69/1 69/1 left 1 1",
-    ),
-];
-
-/// A stream and items: the transfers of a planner, which is rewound and gives them again.
-pub(crate) const FEEDS: &[(&str, &str)] = &[
-    (
-        "3 1 1 8 0 \x01\x02\x03\x04\x050",
-        "d=030201 l=0 s=0 e=2 b=7 u=, d=000504 l=4 s=0 e=1 b=7 u=, left 0, d=030201 l=0 s=0 e=2 b=7 u=, d=000504 l=4 s=0 e=1 b=7 u=, left 0",
-    ),
-    ("1 0 1 8 0 ", "left 0, left 0"),
-];
-
 // A number for each digit.
 fn gaps_in(alloc: Global, digits: &str) -> Result<List<u32>, Memory> {
     let mut gaps = List::new(alloc);
@@ -150,153 +127,14 @@ fn write_both(
     emit!(out; " after ", finish_cycle(cursor, ready))
 }
 
-fn run(alloc: Global, first: &str, second: &str, out: &mut List<u8>) -> Result<(), Memory> {
+pub(crate) fn run(
+    alloc: Global,
+    first: &str,
+    second: &str,
+    out: &mut List<u8>,
+) -> Result<(), Memory> {
     let (gaps, bits) = cut(second);
     let mut cursor = cursor_in(alloc, first, gaps)?;
     let ready = bits_in(alloc, bits)?;
     write_both(&mut cursor, ready.as_slice(), out)
-}
-
-// The runs of two streams, from their starts, with as many ready bits for each.
-fn port_of(
-    alloc: Global,
-    one: Cursor<Planner>,
-    other: Cursor<Planner>,
-    first: List<bool>,
-    second: List<bool>,
-) -> Result<PortRun<Planner>, Memory>
-    requires one { StandsFor rest_of one (whole_of one.feed) [] }
-    requires other { StandsFor rest_of other (whole_of other.feed) [] }
-    ensures { IfOk result (λ run. length (undone_in (runs_in rest_of whole_of run.cursors.items run.ready)) ≡ 2) }
-{
-    let cycles = first.len();
-    if cycles != second.len() || cycles > 1000 {
-        return Err(Memory);
-    }
-    let mut cursors = List::new(alloc);
-    cursors.push(one)?;
-    cursors.push(other)?;
-    let mut ready = List::new(alloc);
-    ready.push(first)?;
-    ready.push(second)?;
-    Ok(PortRun::new(cursors, ready, cycles as u32))
-}
-
-// Writes the rows that are left.
-fn write_rows<R: CycleFeed>(run: &mut R, out: &mut List<u8>) -> Result<(), Memory>
-    ensures over { OnOk result (R.rows run.new ≡ []) }
-    ensures undone { R.undone run.new ≡ R.undone run.old }
-{
-    'rows: while let Some(row) = run.next() {
-        write_cycle(row, out)?;
-    }
-    Ok(())
-}
-
-// Writes the rows, and how many transfers of two streams are left.
-fn write_port<R: CycleFeed>(run: &mut R, out: &mut List<u8>) -> Result<(), Memory>
-    requires { length (R.undone run.old) ≡ 2 }
-    ensures { R.undone run.new ≡ R.undone run.old }
-{
-    write_rows(run, out)?;
-    emit!(out; "left ", run.left(0), " ", run.left(1))
-}
-
-// Writes the rows twice.
-fn write_again<R: CycleFeed>(run: &mut R, out: &mut List<u8>) -> Result<(), Memory>
-    requires { length (R.undone run.old) ≡ 2 }
-{
-    write_port(run, out)?;
-    run.rewind();
-    emit!(out; ", ")?;
-    write_port(run, out)
-}
-
-fn port(alloc: Global, first: &str, second: &str, out: &mut List<u8>) -> Result<(), Memory> {
-    let (gaps, rest) = cut(second);
-    let (bits, others) = cut(rest);
-    let one = cursor_in(alloc, first, gaps)?;
-    let other = cursor_in(alloc, first, gaps)?;
-    let mut run = port_of(
-        alloc,
-        one,
-        other,
-        bits_in(alloc, bits)?,
-        bits_in(alloc, others)?,
-    )?;
-    write_again(&mut run, out)
-}
-
-// Writes the transfers that a planner has left.
-fn write_rest<F: TransferFeed>(
-    p: &Params,
-    feed: &mut F,
-    into: &mut Transfer,
-    out: &mut List<u8>,
-) -> Result<(), Memory>
-    requires same { F.params feed.old ≡ p.now }
-    requires room { Fits p.now into.old }
-    ensures same { F.params feed.new ≡ p.now }
-    ensures room { Fits p.now into.new }
-{
-    'transfers: while feed.next(into) {
-        write_transfer(into, out)?;
-    }
-    emit!(out; "left ", feed.left())
-}
-
-// Writes the transfers of a planner twice.
-fn write_twice<F: Rewind>(
-    alloc: Global,
-    p: &Params,
-    feed: &mut F,
-    out: &mut List<u8>,
-) -> Result<(), Memory>
-    requires { F.params feed.old ≡ p.now }
-{
-    let mut into = Transfer::zero(alloc, p)?;
-    write_rest(p, feed, &mut into, out)?;
-    feed.rewind();
-    emit!(out; ", ")?;
-    write_rest(p, feed, &mut into, out)
-}
-
-fn fed(alloc: Global, first: &str, out: &mut List<u8>) -> Result<(), Memory> {
-    let p = stream_in(first)?;
-    let items = items_in(alloc, &p, behind_stream(first).as_bytes())?;
-    let mut planner = planner_of(alloc, p, items)?;
-    write_twice(alloc, &p, &mut planner, out)
-}
-
-/// The worked rows of runs, with ample memory.
-#[test]
-fn runs(rt: HostRuntime) {
-    for (first, second, wanted) in RUNS {
-        let mut told = List::new(rt.alloc());
-        let is_told = run(rt.alloc(), first, second, &mut told).is_ok();
-        let is_wanted = told.as_slice() == wanted.as_bytes();
-        assert!(rt; is_told & is_wanted, "{first} {second}");
-    }
-}
-
-/// The worked rows of ports, with ample memory.
-#[test]
-fn ports(rt: HostRuntime) {
-    for (first, second, wanted) in PORTS {
-        let mut told = List::new(rt.alloc());
-        let is_told = port(rt.alloc(), first, second, &mut told).is_ok();
-        let is_wanted = told.as_slice() == wanted.as_bytes();
-        assert!(rt; is_told & is_wanted, "{first} {second}");
-    }
-}
-
-/// A planner that is fed, rewound and fed again gives the same.
-#[test]
-fn feeds(rt: HostRuntime) {
-    for (first, wanted) in FEEDS {
-        let mut told = List::new(rt.alloc());
-        let is_told = fed(rt.alloc(), first, &mut told).is_ok();
-        let is_wanted = told.as_slice() == wanted.as_bytes();
-        assert!(rt; is_told & is_wanted, "{first}");
-    }
 }

@@ -6,7 +6,7 @@ ghost use Rattle.scheduler.specs.Planned.{MasksFit};
 use crate::plans::{behind_stream, items_in, plan_in, stream_in};
 use physical_stream::{Item, Params, Transfer};
 use plan_text::StreamPlan;
-use scheduler::{ScheduleFault, plans_keep_their_laws, schedule};
+use scheduler::{ScheduleFault, schedule};
 use std::alloc::Global;
 use tydi_base::{Hex, List, Memory, emit};
 
@@ -104,26 +104,14 @@ fn write_schedule(
     }
 }
 
-fn scheduled(alloc: Global, first: &str, second: &str, out: &mut List<u8>) -> Result<(), Memory> {
+pub(crate) fn scheduled(
+    alloc: Global,
+    first: &str,
+    second: &str,
+    out: &mut List<u8>,
+) -> Result<(), Memory> {
     let p = stream_in(first)?;
     let items = items_in(alloc, &p, behind_stream(first).as_bytes())?;
     let plan = plan_in(alloc, &p, second)?;
     write_schedule(alloc, &p, items.as_slice(), &plan, out)
-}
-
-/// The worked rows of schedules, with ample memory.
-#[test]
-fn schedules(rt: HostRuntime) {
-    for (first, second, wanted) in SCHEDULES {
-        let mut told = List::new(rt.alloc());
-        let is_told = scheduled(rt.alloc(), first, second, &mut told).is_ok();
-        let is_wanted = told.as_slice() == wanted.as_bytes();
-        assert!(rt; is_told & is_wanted, "{first} {second}");
-    }
-}
-
-/// The laws of plans can be called.
-#[test]
-fn laws_of_plans() {
-    plans_keep_their_laws();
 }

@@ -69,25 +69,30 @@ pub(crate) fn ones(
     digits: &str,
     out: &mut List<u8>,
 ) -> Result<(), Memory> {
-    let mut word = Bits::zeros(alloc, number(width) as usize)?;
-    if !word.read_exact_hex(digits.as_bytes()) {
-        emit!(out; "none")?;
-        return ones_of_made(alloc, word.len(), digits, out);
+    let width = number(width) as usize;
+    let read = ones_of_read(alloc, width, digits.as_bytes())?;
+    let made = ones_of_made(alloc, width, digits.as_bytes())?;
+    match read {
+        Some(count) => emit!(out; count, " ", made),
+        None => emit!(out; "none", made),
     }
-    emit!(out; count_ones(&word), " ")?;
-    ones_of_made(alloc, word.len(), digits, out)
 }
 
-// The same of a word that is made, and nothing where none is.
-fn ones_of_made(
-    alloc: Global,
-    width: usize,
-    digits: &str,
-    out: &mut List<u8>,
-) -> Result<(), Memory> {
-    match Bits::from_exact_hex(alloc, width, digits.as_bytes())? {
-        Some(word) => emit!(out; count_ones(&word)),
-        None => Ok(()),
+// The ones of a word that is there, after digits were read into it.
+fn ones_of_read(alloc: Global, width: usize, digits: &[u8]) -> Result<Option<u32>, Memory> {
+    let mut word = Bits::zeros(alloc, width)?;
+    if word.read_exact_hex(digits) {
+        Ok(Some(count_ones(&word)))
+    } else {
+        Ok(None)
+    }
+}
+
+// The same of a word that is made.
+fn ones_of_made(alloc: Global, width: usize, digits: &[u8]) -> Result<Option<u32>, Memory> {
+    match Bits::from_exact_hex(alloc, width, digits)? {
+        Some(word) => Ok(Some(count_ones(&word))),
+        None => Ok(None),
     }
 }
 
@@ -133,13 +138,25 @@ pub(crate) fn joined(
     out: &mut List<u8>,
 ) -> Result<(), Memory> {
     let mut word = word_of(alloc, first)?;
-    word.append(alloc, &word_of(alloc, second)?)?;
+    append_spelled(alloc, &mut word, second)?;
     write_joined(alloc, &word, out)
 }
 
+fn append_spelled(alloc: Global, word: &mut Bits, spelled: &str) -> Result<(), Memory> {
+    word.append(alloc, &word_of(alloc, spelled)?)
+}
+
+fn is_copied(alloc: Global, word: &Bits) -> Result<bool, Memory> {
+    Ok(word.try_clone(alloc)? == *word)
+}
+
 fn write_joined(alloc: Global, word: &Bits, out: &mut List<u8>) -> Result<(), Memory> {
-    let is_same = word.try_clone(alloc)? == *word;
+    let is_same = is_copied(alloc, word)?;
     emit!(out; Hex(word), if is_same { " same " } else { " other " })?;
+    write_part(alloc, word, out)
+}
+
+fn write_part(alloc: Global, word: &Bits, out: &mut List<u8>) -> Result<(), Memory> {
     if word.len() < 12 {
         return Ok(());
     }

@@ -525,3 +525,293 @@ $ decode p n::s.p t
 > disagree stream b packet 1
 = 6
 ";
+
+/// Traces of ports of each kind: the value that each carries, or the first place that has none.
+pub(crate) const VALUES_OF_TRACES: &str = "\
+$ decode p a::s.p t
+~ namespace a { streamlet s = (p: in Stream(data: Bits(8), dimensionality: 1, complexity: 1)); }
+@ p
+< tydi-trace 1
+< cycles 2
+< stream - lanes 1 dims 1 level 1 element 8 user 0 forward
+< 1 1 d=48 l=0 b=1
+< 1 1 d=69 l=1 b=1
+> root - = [72, 105];
+= 0
+$ decode p a::s.p t
+~ namespace a { streamlet s = (p: in Stream(data: Bits(8), dimensionality: 1, complexity: 1)); }
+@ p
+< tydi-trace 1
+< cycles 0
+< stream - lanes 1 dims 1 level 1 element 8 user 0 forward
+> root - = ;
+= 0
+$ decode p a::s.p t
+~ namespace a { streamlet s = (p: in Stream(data: Bits(8), dimensionality: 2, complexity: 1)); }
+@ p
+< tydi-trace 1
+< cycles 2
+< stream - lanes 1 dims 2 level 1 element 8 user 0 forward
+< 1 1 d=00 l=3 b=0
+< 1 1 d=00 l=2 b=0
+> root - = [[]] [];
+= 0
+$ decode p a::s.p t
+~ namespace a { streamlet s = (p: in Stream(data: Union(a: Bits(8), b: Bits(4), c: Null), complexity: 1)); }
+@ p
+< tydi-trace 1
+< cycles 1
+< stream - lanes 1 dims 0 level 1 element 10 user 0 forward
+< 1 1 d=003
+> offence cycle 0 stream - rule 11 Tag
+= 6
+$ decode p a::s.p t
+~ namespace a { streamlet s = (p: in Stream(data: Union(a: Bits(8), b: Bits(4), c: Null), complexity: 1)); }
+@ p
+< tydi-trace 1
+< cycles 2
+< stream - lanes 1 dims 0 level 1 element 10 user 0 forward
+< 1 1 d=3fe
+< 1 1 d=3d5
+> root - = c(null) b(5);
+= 0
+$ decode p a::s.p t
+~ namespace a { streamlet s = (p: in Stream(data: Bits(8), dimensionality: 1, complexity: 1)); }
+@ p
+< tydi-trace 1
+< cycles 1
+< stream - lanes 1 dims 1 level 1 element 8 user 0 forward
+< 1 1 d=48 l=0 b=1
+> unfinished stream - open 0
+= 6
+$ decode p a::s.p t
+~ namespace a { streamlet s = (p: in Stream(data: Bits(8), dimensionality: 1, complexity: 1)); }
+@ p
+< tydi-trace 1
+< cycles 1
+< stream - lanes 1 dims 1 level 1 element 8 user 0 forward
+< 1 0 d=48 l=0 b=1
+> unfinished stream - pending
+= 6
+$ decode p a::s.p t
+~ namespace a { streamlet s = (p: in Stream(data: Group(a: Bits(8), b: Stream(data: Bits(8), dimensionality: 1, synchronicity: Flatten, complexity: 1)), dimensionality: 1, complexity: 1)); }
+@ p
+< tydi-trace 1
+< cycles 3
+< stream - lanes 1 dims 1 level 1 element 8 user 0 forward
+< stream x.b lanes 1 dims 1 level 1 element 8 user 0 forward
+< 1 1 d=01 l=0 b=1
+< 1 1 d=02 l=0 b=1
+< 1 1 d=04 l=1 b=1
+< 1 1 d=03 l=1 b=1
+< 0 1 -
+< 1 1 d=00 l=1 b=0
+! tydi: OtherHeader t 1
+= 1
+$ decode p a::s.p t
+~ namespace a { streamlet s = (p: in Stream(data: Group(a: Bits(8), b: Stream(data: Bits(8), dimensionality: 1, synchronicity: Flatten, complexity: 1)), dimensionality: 1, complexity: 1)); }
+@ p
+< tydi-trace 1
+< cycles 3
+< stream - lanes 1 dims 1 level 1 element 8 user 0 forward
+< stream b lanes 1 dims 1 level 1 element 8 user 0 forward
+< 1 1 d=01 l=0 b=1
+< 1 1 d=02 l=0 b=1
+< 1 1 d=04 l=1 b=1
+< 1 1 d=03 l=1 b=1
+< 0 1 -
+< 1 1 d=00 l=1 b=0
+> root - = [{a: 1, b: [2, 3]}, {a: 4, b: []}];
+= 0
+$ decode p a::s.p t
+~ namespace a { streamlet s = (p: in Stream(data: Group(a: Bits(8), b: Stream(data: Bits(8), dimensionality: 1, synchronicity: Flatten, complexity: 1)), dimensionality: 1, complexity: 1)); }
+@ p
+< tydi-trace 1
+< cycles 3
+< stream - lanes 1 dims 1 level 1 element 8 user 0 forward
+< stream b lanes 1 dims 1 level 1 element 8 user 0 forward
+< 1 1 d=01 l=0 b=1
+< 1 1 d=02 l=0 b=1
+< 1 1 d=04 l=1 b=1
+< 1 1 d=03 l=1 b=1
+< 0 1 -
+< 0 1 -
+> disagree stream b packet 1
+= 6
+$ decode p a::s.p t
+~ namespace a { streamlet s = (p: in Stream(data: Group(a: Bits(8), b: Stream(data: Bits(8), dimensionality: 1, complexity: 1)), dimensionality: 1, complexity: 1)); }
+@ p
+< tydi-trace 1
+< cycles 2
+< stream - lanes 1 dims 1 level 1 element 8 user 0 forward
+< stream b lanes 1 dims 2 level 1 element 8 user 0 forward
+< 1 1 d=01 l=0 b=1
+< 1 1 d=02 l=1 b=1
+< 1 1 d=04 l=1 b=1
+< 1 1 d=00 l=3 b=0
+> root - = [{a: 1, b: [2]}, {a: 4, b: []}];
+= 0
+$ decode p a::s.p t
+~ namespace a { streamlet s = (p: in Stream(data: Group(a: Bits(8), b: Stream(data: Bits(8), dimensionality: 1, complexity: 1)), dimensionality: 1, complexity: 1)); }
+@ p
+< tydi-trace 1
+< cycles 2
+< stream - lanes 1 dims 1 level 1 element 8 user 0 forward
+< stream b lanes 1 dims 2 level 1 element 8 user 0 forward
+< 1 1 d=01 l=1 b=1
+< 1 1 d=02 l=1 b=1
+< 0 1 -
+< 1 1 d=00 l=3 b=0
+> disagree stream b packet 0
+= 6
+$ decode p a::s.p t
+~ namespace a { streamlet s = (p: in Stream(data: Group(a: Bits(8), b: Stream(data: Bits(8), dimensionality: 1, synchronicity: Desync, direction: Reverse, complexity: 1)), complexity: 1)); }
+@ p
+< tydi-trace 1
+< cycles 2
+< stream - lanes 1 dims 0 level 1 element 8 user 0 forward
+< stream b lanes 1 dims 1 level 1 element 8 user 0 reverse
+< 1 1 d=01
+< 1 1 d=02 l=0 b=1
+< 0 1 -
+< 1 1 d=03 l=1 b=1
+> root - = {a: 1, b: apart};
+> root b = [2, 3];
+= 0
+$ decode p a::s.p t
+~ namespace a { streamlet s = (p: in Stream(data: Union(a: Bits(8), b: Stream(data: Bits(8), synchronicity: Flatten, complexity: 1)), complexity: 1)); }
+@ p
+< tydi-trace 1
+< cycles 2
+< stream - lanes 1 dims 0 level 1 element 9 user 0 forward
+< stream b lanes 1 dims 0 level 1 element 8 user 0 forward
+< 1 1 d=00a
+< 1 1 d=06
+< 1 1 d=001
+< 0 1 -
+> root - = a(5) b(6);
+= 0
+$ decode p a::s.p t
+~ namespace a { streamlet s = (p: in Stream(data: Union(a: Bits(8), b: Stream(data: Bits(8), synchronicity: Flatten, complexity: 1)), complexity: 1)); }
+@ p
+< tydi-trace 1
+< cycles 2
+< stream - lanes 1 dims 0 level 1 element 9 user 0 forward
+< stream b lanes 1 dims 0 level 1 element 8 user 0 forward
+< 1 1 d=00a
+< 0 1 -
+< 1 1 d=001
+< 0 1 -
+> disagree stream b packet 0
+= 6
+$ decode p a::s.p t
+~ namespace a { streamlet s = (p: in Stream(data: Bits(8), complexity: 1, user: Bits(4))); }
+@ p
+< tydi-trace 1
+< cycles 2
+< stream - lanes 1 dims 0 level 1 element 8 user 4 forward
+< 1 0 d=01 u=a
+< 1 1 d=01 u=a
+> root - = 1;
+> // users - a
+= 0
+$ decode p a::s.p t
+~ namespace a { streamlet s = (p: in Stream(data: Group(b: Stream(data: Bits(8), dimensionality: 1, synchronicity: Flatten, complexity: 1)), dimensionality: 1, complexity: 1, keep: true)); }
+@ p
+< tydi-trace 1
+< cycles 1
+< stream - lanes 1 dims 1 level 1 element 0 user 0 forward
+< stream b lanes 1 dims 1 level 1 element 8 user 0 forward
+< 1 1 l=1 b=1
+< 1 1 d=07 l=1 b=1
+> root - = [{b: [7]}];
+= 0
+";
+
+/// Texts of traces: the value, the first error of the text, or the first place that has no value.
+pub(crate) const VALUES_OF_TEXTS: &str = "\
+$ decode p a::s.p t
+~ namespace a { streamlet s = (p: in Stream(data: Bits(8), dimensionality: 1, complexity: 1)); }
+@ p
+< tydi-trace 1
+< cycles 2
+< stream - lanes 1 dims 1 level 1 element 8 user 0 forward
+< 1 1 d=48 l=0 b=1
+< 1 1 d=69 l=1 b=1
+> root - = [72, 105];
+= 0
+$ decode p a::s.p t
+~ namespace a { streamlet s = (p: in Stream(data: Bits(8), dimensionality: 1, complexity: 1)); }
+@ p
+< tydi-trace 1
+< cycles 2
+< stream - lanes 1 dims 1 level 1 element 8 user 0 forward
+< 1 1 d=48 l=0 b=1
+~ 1 1 d=69 l=1 b
+! tydi: BadRow t 5
+= 1
+$ decode p a::s.p t
+~ namespace a { streamlet s = (p: in Stream(data: Bits(8), dimensionality: 1, complexity: 1)); }
+@ p
+< tydi-trace 1
+< cycles 2
+< stream - lanes 1 dims 1 level 1 element 8 user 0 forward
+< 1 1 d=48 l=0 b=1
+! tydi: RowsMissing t 2 1
+= 1
+$ decode p a::s.p t
+~ namespace a { streamlet s = (p: in Stream(data: Bits(8), dimensionality: 1, complexity: 1)); }
+@ p
+< tydi-trace 1
+< cycles 1
+< stream x lanes 1 dims 1 level 1 element 8 user 0 forward
+< 1 1 d=48 l=0 b=1
+~ 1
+! tydi: RowsLeft t 5
+= 1
+$ decode p a::s.p t
+~ namespace a { streamlet s = (p: in Stream(data: Bits(8), dimensionality: 1, complexity: 1)); }
+@ p
+< tydi-trace 1
+< cycles 1
+< stream x lanes 1 dims 1 level 1 element 8 user 0 forward
+< 1 1 d=48 l=0 b=1
+! tydi: OtherHeader t 0
+= 1
+$ decode p a::s.p t
+~ namespace a { streamlet s = (p: in Stream(data: Bits(8), dimensionality: 1, complexity: 1)); }
+@ p
+< tydi-trace 1
+< cycles 3
+< stream - lanes 1 dims 1 level 1 element 8 user 0 forward
+< 1 1 d=48 l=0 b=1
+< 0 1 -
+< 1 1 d=69 l=0 b=1
+> offence cycle 1 stream - rule 8 InnerPause
+= 6
+$ decode p a::s.p t
+~ namespace a { streamlet s = (p: in Stream(data: Union(a: Bits(8), b: Bits(4), c: Null), complexity: 1)); }
+@ p
+< tydi-trace 1
+< cycles 2
+< stream - lanes 1 dims 0 level 1 element 10 user 0 forward
+< 1 0 d=003
+< 1 1 d=3d5
+> offence cycle 0 stream - rule 11 Tag
+= 6
+$ decode p a::s.p t
+~ namespace a { streamlet s = (p: in Stream(data: Union(a: Bits(8), b: Bits(4), c: Null), complexity: 1)); }
+@ p
+< tydi-trace 1
+< cycles 2
+< stream - lanes 1 dims 0 level 1 element 10 user 0 forward
+< 1 1 d=003
+~ 1 1 d=3d
+! tydi: BadRow t 5
+= 1
+$ decode p a::s.p t
+~ namespace a { streamlet s = (p: in Stream(data: Bits(8), dimensionality: 1, complexity: 1)); }
+@ p
+! tydi: BadHeader t 1
+= 1
+";

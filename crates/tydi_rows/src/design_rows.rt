@@ -318,3 +318,19 @@ $ vhdl p
 ! tydi: ReadFault p
 = 3
 ";
+
+/// Ports with two streams of one path.
+pub(crate) const CLASHING: &str = "\
+# two streams of one path in the second port and in the third
+$ vhdl p
+~ namespace c { type t = Stream(data: Bits(2)); type u = Stream(data: Stream(data: Bits(1)), user: Bits(1)); type v = Stream(data: Group(x: u)); streamlet s = (p: in t, q: in u, r: in v); }
+@ p
+! tydi: NameClash c::s.q -
+= 1
+# two streams of one path inside a field
+$ vhdl p
+~ namespace c { type u = Stream(data: Stream(data: Bits(1)), user: Bits(1)); type v = Stream(data: Group(x: u)); streamlet s = (p: out v, q: in u); }
+@ p
+! tydi: NameClash c::s.p x
+= 1
+";

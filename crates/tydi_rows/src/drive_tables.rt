@@ -608,3 +608,72 @@ $ drive p n::s.p v q
 ! tydi: NoCarrier -
 = 1
 ";
+
+/// Runs of two streams, and of nothing.
+pub(crate) const RUNS: &str = "\
+# a gap and a sink that waits on one of two streams
+$ drive p a::s.p v q
+~ namespace a { streamlet s = (p: in Stream(data: Group(x: Bits(8), b: Stream(data: Bits(8), dimensionality: 1, synchronicity: FlatDesync, complexity: 3)), dimensionality: 1, complexity: 3)); }
+@ p
+< root - = [{x: 72, b: apart}, {x: 105, b: apart}];
+< root b = [72, 105];
+@ v
+< tydi-plan 1
+< cycles 5
+< stream -
+< gaps 0 1
+< ready 00111
+< stream b
+< gaps 0 1
+< ready 11111
+@ q
+> tydi-trace 1
+> cycles 5
+> stream - lanes 1 dims 1 level 3 element 8 user 0 forward
+> stream b lanes 1 dims 1 level 3 element 8 user 0 forward
+> 1 0 d=48 l=0 b=1
+> 1 1 d=48 l=0 b=1
+> 1 0 d=48 l=0 b=1
+> 0 1 -
+> 1 1 d=48 l=0 b=1
+> 1 1 d=69 l=1 b=1
+> 0 1 -
+> 0 1 -
+> 1 1 d=69 l=1 b=1
+> 0 1 -
+= 0
+# a transfer that is left on each stream
+$ drive p a::s.p v q
+~ namespace a { streamlet s = (p: in Stream(data: Group(x: Bits(8), b: Stream(data: Bits(8), dimensionality: 1, synchronicity: FlatDesync, complexity: 3)), dimensionality: 1, complexity: 3)); }
+@ p
+< root - = [{x: 72, b: apart}, {x: 105, b: apart}];
+< root b = [72, 105];
+@ v
+< tydi-plan 1
+< cycles 5
+< stream -
+< gaps 0 1
+< ready 00110
+< stream b
+< gaps 0 1
+< ready 01000
+@ q
+! tydi: NotFinished - 1
+= 1
+# nothing is sent
+$ drive p a::s.p v q
+~ namespace a { streamlet s = (p: in Stream(data: Bits(8), complexity: 1)); }
+@ p
+< root - = ;
+@ v
+< tydi-plan 1
+< cycles 1
+< stream -
+< gaps 5
+@ q
+> tydi-trace 1
+> cycles 1
+> stream - lanes 1 dims 0 level 1 element 8 user 0 forward
+> 0 1 -
+= 0
+";

@@ -5,35 +5,23 @@
 #[cfg(test)]
 mod bench_rows;
 #[cfg(test)]
-mod benches;
-#[cfg(test)]
-mod carries;
-#[cfg(test)]
 mod carry_rows;
 #[cfg(test)]
 mod decode_tables;
 #[cfg(test)]
-mod decodes;
-#[cfg(test)]
 mod design_rows;
-#[cfg(test)]
-mod designs;
 #[cfg(test)]
 mod drive_tables;
 #[cfg(test)]
-mod drives;
-#[cfg(test)]
-mod dumps;
-#[cfg(test)]
 mod edge;
+#[cfg(test)]
+mod failing_rows;
 #[cfg(test)]
 mod job_tables;
 #[cfg(test)]
-mod jobs;
-#[cfg(test)]
 mod link_rows;
 #[cfg(test)]
-mod long_projects;
+mod plan_rows;
 #[cfg(test)]
 mod project_tables;
 #[cfg(test)]
@@ -50,5 +38,7 @@ mod split_tables;
 mod tests;
 #[cfg(test)]
 mod trace_tables;
+#[cfg(test)]
+mod value_rows;
 #[cfg(test)]
 mod vcd_rows;

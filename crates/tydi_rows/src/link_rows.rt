@@ -155,3 +155,327 @@ $ link u
 ! tydi: NoFile u
 = 1
 ";
+
+/// Designs: their nets, or their first error.
+pub(crate) const DESIGNS: &str = "\
+# the nets of a design
+$ link p
+< namespace video {
+<   type rgb = Group(r: Bits(8), g: Bits(8), b: Bits(8));
+<   type frames = Stream(data: rgb, throughput: 2.0,
+<     dimensionality: 2, complexity: 4);
+<   streamlet invert = (a: in frames, b: out frames);
+<   streamlet top = (a: in frames, b: out frames);
+<   impl wiring of top = { i = invert; a -- i.a; i.b -- b; };
+~ }
+@ p
+> impl video::top
+> net a i.a
+> net i.b b
+= 0
+# the end that gives the data comes first, in whatever order the ends are written
+$ link p
+< namespace video {
+<   type rgb = Group(r: Bits(8), g: Bits(8), b: Bits(8));
+<   type frames = Stream(data: rgb, throughput: 2.0,
+<     dimensionality: 2, complexity: 4);
+<   streamlet invert = (a: in frames, b: out frames);
+<   streamlet top = (a: in frames, b: out frames);
+<   impl wiring of top = { i = invert; i.a -- a; b -- i.b; };
+~ }
+@ p
+> impl video::top
+> net a i.a
+> net i.b b
+= 0
+# an own port without a link
+$ link p
+< namespace video {
+<   type rgb = Group(r: Bits(8), g: Bits(8), b: Bits(8));
+<   type frames = Stream(data: rgb, throughput: 2.0,
+<     dimensionality: 2, complexity: 4);
+<   streamlet invert = (a: in frames, b: out frames);
+<   streamlet top = (a: in frames, b: out frames);
+<   impl wiring of top = { i = invert; a -- i.a; };
+~ }
+@ p
+! tydi: Unlinked p 7:18
+= 1
+# the later link of an end
+$ link p
+< namespace video {
+<   type rgb = Group(r: Bits(8), g: Bits(8), b: Bits(8));
+<   type frames = Stream(data: rgb, throughput: 2.0,
+<     dimensionality: 2, complexity: 4);
+<   streamlet invert = (a: in frames, b: out frames);
+<   streamlet top = (a: in frames, b: out frames);
+<   impl wiring of top = { i = invert; a -- i.a; a -- b; };
+~ }
+@ p
+! tydi: LinkedTwice p 7:48
+= 1
+# a port that the instance lacks
+$ link p
+< namespace video {
+<   type rgb = Group(r: Bits(8), g: Bits(8), b: Bits(8));
+<   type frames = Stream(data: rgb, throughput: 2.0,
+<     dimensionality: 2, complexity: 4);
+<   streamlet invert = (a: in frames, b: out frames);
+<   streamlet top = (a: in frames, b: out frames);
+<   impl wiring of top = { i = invert; a -- i.c; i.b -- b; };
+~ }
+@ p
+! tydi: UnknownEnd p 7:38
+= 1
+# an instance that is not there
+$ link p
+< namespace video {
+<   type rgb = Group(r: Bits(8), g: Bits(8), b: Bits(8));
+<   type frames = Stream(data: rgb, throughput: 2.0,
+<     dimensionality: 2, complexity: 4);
+<   streamlet invert = (a: in frames, b: out frames);
+<   streamlet top = (a: in frames, b: out frames);
+<   impl wiring of top = { i = invert; a -- j.a; i.b -- b; };
+~ }
+@ p
+! tydi: UnknownEnd p 7:38
+= 1
+# an end with itself is two source ends, and no second link
+$ link p
+< namespace video {
+<   type rgb = Group(r: Bits(8), g: Bits(8), b: Bits(8));
+<   type frames = Stream(data: rgb, throughput: 2.0,
+<     dimensionality: 2, complexity: 4);
+<   streamlet invert = (a: in frames, b: out frames);
+<   streamlet top = (a: in frames, b: out frames);
+<   impl wiring of top = { i = invert; a -- a; i.b -- b; };
+~ }
+@ p
+! tydi: SameSide p 7:38
+= 1
+# two source ends
+$ link p
+< namespace video {
+<   type rgb = Group(r: Bits(8), g: Bits(8), b: Bits(8));
+<   type frames = Stream(data: rgb, throughput: 2.0,
+<     dimensionality: 2, complexity: 4);
+<   streamlet invert = (a: in frames, b: out frames);
+<   streamlet top = (a: in frames, b: out frames);
+<   impl wiring of top = { i = invert; a -- i.b; i.a -- b; };
+~ }
+@ p
+! tydi: SameSide p 7:38
+= 1
+# implementations come in the order of their text, not in that of the streamlets
+$ link p
+~ namespace n { type y = Stream(data: Bits(1)); streamlet s = (p: in y, q: out y); streamlet t = (p: in y, q: out y); impl b of t = { p -- q; }; impl a of s = { p -- q; }; }
+@ p
+> impl n::t
+> net p q
+> impl n::s
+> net p q
+= 0
+# so the first error is that of the first of them
+$ link p
+~ namespace n { type y = Stream(data: Bits(1)); streamlet s = (p: in y, q: out y); streamlet t = (p: in y, q: out y); impl b of t = { }; impl a of s = { p -- r; }; }
+@ p
+! tydi: Unlinked p 1:127
+= 1
+# types that are not compatible come before a second link
+$ link p
+~ namespace n { streamlet s = (p: in Stream(data: Bits(1)), q: out Stream(data: Bits(1)), r: out Stream(data: Bits(2))); impl b of s = { p -- q; p -- r; }; }
+@ p
+! tydi: NotCompatible p 1:144 - Shape
+= 1
+# sixteen levels of two instances each have 131,070
+$ link p
+~ namespace n { streamlet s0 = (); streamlet s1 = (); streamlet s2 = (); streamlet s3 = (); streamlet s4 = (); streamlet s5 = (); streamlet s6 = (); streamlet s7 = (); streamlet s8 = (); streamlet s9 = (); streamlet s10 = (); streamlet s11 = (); streamlet s12 = (); streamlet s13 = (); streamlet s14 = (); streamlet s15 = (); streamlet s16 = (); impl w0 of s0 = { i = s1; k = s1; }; impl w1 of s1 = { i = s2; k = s2; }; impl w2 of s2 = { i = s3; k = s3; }; impl w3 of s3 = { i = s4; k = s4; }; impl w4 of s4 = { i = s5; k = s5; }; impl w5 of s5 = { i = s6; k = s6; }; impl w6 of s6 = { i = s7; k = s7; }; impl w7 of s7 = { i = s8; k = s8; }; impl w8 of s8 = { i = s9; k = s9; }; impl w9 of s9 = { i = s10; k = s10; }; impl w10 of s10 = { i = s11; k = s11; }; impl w11 of s11 = { i = s12; k = s12; }; impl w12 of s12 = { i = s13; k = s13; }; impl w13 of s13 = { i = s14; k = s14; }; impl w14 of s14 = { i = s15; k = s15; }; impl w15 of s15 = { i = s16; k = s16; }; }
+@ p
+! tydi: DesignTooLarge p
+= 1
+# fifteen have 65,534
+$ link p
+~ namespace n { streamlet s0 = (); streamlet s1 = (); streamlet s2 = (); streamlet s3 = (); streamlet s4 = (); streamlet s5 = (); streamlet s6 = (); streamlet s7 = (); streamlet s8 = (); streamlet s9 = (); streamlet s10 = (); streamlet s11 = (); streamlet s12 = (); streamlet s13 = (); streamlet s14 = (); streamlet s15 = (); impl w0 of s0 = { i = s1; k = s1; }; impl w1 of s1 = { i = s2; k = s2; }; impl w2 of s2 = { i = s3; k = s3; }; impl w3 of s3 = { i = s4; k = s4; }; impl w4 of s4 = { i = s5; k = s5; }; impl w5 of s5 = { i = s6; k = s6; }; impl w6 of s6 = { i = s7; k = s7; }; impl w7 of s7 = { i = s8; k = s8; }; impl w8 of s8 = { i = s9; k = s9; }; impl w9 of s9 = { i = s10; k = s10; }; impl w10 of s10 = { i = s11; k = s11; }; impl w11 of s11 = { i = s12; k = s12; }; impl w12 of s12 = { i = s13; k = s13; }; impl w13 of s13 = { i = s14; k = s14; }; impl w14 of s14 = { i = s15; k = s15; }; }
+@ p
+> impl n::s0
+> impl n::s1
+> impl n::s2
+> impl n::s3
+> impl n::s4
+> impl n::s5
+> impl n::s6
+> impl n::s7
+> impl n::s8
+> impl n::s9
+> impl n::s10
+> impl n::s11
+> impl n::s12
+> impl n::s13
+> impl n::s14
+= 0
+";
+
+/// Pairs of types at a link: what they differ in, and where.
+pub(crate) const TYPES: &str = "\
+# a higher level does not drive a lower one
+$ link p
+~ namespace n { streamlet s = (p: out Stream(data: Bits(8), complexity: 5)); streamlet k = (q: in Stream(data: Bits(8), complexity: 3)); streamlet t = (); impl x of t = { a = s; b = k; a.p -- b.q; }; }
+@ p
+! tydi: NotCompatible p 1:184 - Level
+= 1
+# a lower level drives a higher one
+$ link p
+~ namespace n { streamlet s = (p: out Stream(data: Bits(8), complexity: 3)); streamlet k = (q: in Stream(data: Bits(8), complexity: 5)); streamlet t = (); impl x of t = { a = s; b = k; a.p -- b.q; }; }
+@ p
+> impl n::t
+> net a.p b.q
+= 0
+# levels are compared number by number
+$ link p
+~ namespace n { streamlet s = (p: out Stream(data: Bits(8), complexity: 4.10)); streamlet k = (q: in Stream(data: Bits(8), complexity: 4.9)); streamlet t = (); impl x of t = { a = s; b = k; a.p -- b.q; }; }
+@ p
+! tydi: NotCompatible p 1:189 - Level
+= 1
+# rising numbers
+$ link p
+~ namespace n { streamlet s = (p: out Stream(data: Bits(8), complexity: 4.9)); streamlet k = (q: in Stream(data: Bits(8), complexity: 4.10)); streamlet t = (); impl x of t = { a = s; b = k; a.p -- b.q; }; }
+@ p
+> impl n::t
+> net a.p b.q
+= 0
+# numbers that are 0 are left out
+$ link p
+~ namespace n { streamlet s = (p: out Stream(data: Bits(8), complexity: 4)); streamlet k = (q: in Stream(data: Bits(8), complexity: 4.0)); streamlet t = (); impl x of t = { a = s; b = k; a.p -- b.q; }; }
+@ p
+> impl n::t
+> net a.p b.q
+= 0
+# at a reversed Stream the sink's level is the lower one
+$ link p
+~ namespace n { streamlet s = (p: out Stream(data: Bits(8), complexity: 5, direction: Reverse)); streamlet k = (q: in Stream(data: Bits(8), complexity: 3, direction: Reverse)); streamlet t = (); impl x of t = { a = s; b = k; a.p -- b.q; }; }
+@ p
+> impl n::t
+> net a.p b.q
+= 0
+# a higher level does not come back
+$ link p
+~ namespace n { streamlet s = (p: out Stream(data: Bits(8), complexity: 3, direction: Reverse)); streamlet k = (q: in Stream(data: Bits(8), complexity: 5, direction: Reverse)); streamlet t = (); impl x of t = { a = s; b = k; a.p -- b.q; }; }
+@ p
+! tydi: NotCompatible p 1:224 - Level
+= 1
+# another width
+$ link p
+~ namespace n { streamlet s = (p: out Stream(data: Bits(8))); streamlet k = (q: in Stream(data: Bits(9))); streamlet t = (); impl x of t = { a = s; b = k; a.p -- b.q; }; }
+@ p
+! tydi: NotCompatible p 1:154 - Shape
+= 1
+# another name of a field
+$ link p
+~ namespace n { streamlet s = (p: out Stream(data: Group(a: Bits(8)))); streamlet k = (q: in Stream(data: Group(b: Bits(8)))); streamlet t = (); impl x of t = { a = s; b = k; a.p -- b.q; }; }
+@ p
+! tydi: NotCompatible p 1:174 - Shape
+= 1
+# another width in a field
+$ link p
+~ namespace n { streamlet s = (p: out Stream(data: Group(a: Bits(8), b: Bits(8)))); streamlet k = (q: in Stream(data: Group(a: Bits(8), b: Bits(7)))); streamlet t = (); impl x of t = { a = s; b = k; a.p -- b.q; }; }
+@ p
+! tydi: NotCompatible p 1:198 b Shape
+= 1
+# another throughput
+$ link p
+~ namespace n { streamlet s = (p: out Stream(data: Bits(8), throughput: 1.0)); streamlet k = (q: in Stream(data: Bits(8), throughput: 2.0)); streamlet t = (); impl x of t = { a = s; b = k; a.p -- b.q; }; }
+@ p
+! tydi: NotCompatible p 1:188 - Throughput
+= 1
+# another dimensionality
+$ link p
+~ namespace n { streamlet s = (p: out Stream(data: Bits(8), dimensionality: 1)); streamlet k = (q: in Stream(data: Bits(8), dimensionality: 2)); streamlet t = (); impl x of t = { a = s; b = k; a.p -- b.q; }; }
+@ p
+! tydi: NotCompatible p 1:192 - Dims
+= 1
+# another synchronicity of the outermost Stream
+$ link p
+~ namespace n { streamlet s = (p: out Stream(data: Bits(8), synchronicity: Sync)); streamlet k = (q: in Stream(data: Bits(8), synchronicity: Flatten)); streamlet t = (); impl x of t = { a = s; b = k; a.p -- b.q; }; }
+@ p
+! tydi: NotCompatible p 1:199 - Sync
+= 1
+# another direction. The level comes before it
+$ link p
+~ namespace n { streamlet s = (p: out Stream(data: Bits(8), direction: Reverse)); streamlet k = (q: in Stream(data: Bits(8))); streamlet t = (); impl x of t = { a = s; b = k; a.p -- b.q; }; }
+@ p
+! tydi: NotCompatible p 1:174 - Direction
+= 1
+# the level before the direction: the source's node is reversed
+$ link p
+~ namespace n { streamlet s = (p: out Stream(data: Bits(8), complexity: 3, direction: Reverse)); streamlet k = (q: in Stream(data: Bits(8), complexity: 5)); streamlet t = (); impl x of t = { a = s; b = k; a.p -- b.q; }; }
+@ p
+! tydi: NotCompatible p 1:204 - Level
+= 1
+# another user type
+$ link p
+~ namespace n { streamlet s = (p: out Stream(data: Bits(8), user: Bits(1))); streamlet k = (q: in Stream(data: Bits(8), user: Bits(2))); streamlet t = (); impl x of t = { a = s; b = k; a.p -- b.q; }; }
+@ p
+! tydi: NotCompatible p 1:184 - User
+= 1
+# another keep flag
+$ link p
+~ namespace n { streamlet s = (p: out Stream(data: Bits(8), keep: true)); streamlet k = (q: in Stream(data: Bits(8))); streamlet t = (); impl x of t = { a = s; b = k; a.p -- b.q; }; }
+@ p
+! tydi: NotCompatible p 1:166 - Keep
+= 1
+# inside a Group, by the names that lead there
+$ link p
+~ namespace n { streamlet s = (p: out Stream(data: Group(a: Bits(8), b: Stream(data: Bits(8), complexity: 5)))); streamlet k = (q: in Stream(data: Group(a: Bits(8), b: Stream(data: Bits(8), complexity: 3)))); streamlet t = (); impl x of t = { a = s; b = k; a.p -- b.q; }; }
+@ p
+! tydi: NotCompatible p 1:256 b Level
+= 1
+# inside a reversed Stream the levels turn round
+$ link p
+~ namespace n { streamlet s = (p: out Stream(data: Group(a: Bits(8), b: Stream(data: Bits(8), complexity: 5, direction: Reverse)))); streamlet k = (q: in Stream(data: Group(a: Bits(8), b: Stream(data: Bits(8), complexity: 3, direction: Reverse)))); streamlet t = (); impl x of t = { a = s; b = k; a.p -- b.q; }; }
+@ p
+> impl n::t
+> net a.p b.q
+= 0
+# a level inside a reversed Stream that does not turn
+$ link p
+~ namespace n { streamlet s = (p: out Stream(data: Group(a: Bits(8), b: Stream(data: Bits(8), complexity: 3, direction: Reverse)))); streamlet k = (q: in Stream(data: Group(a: Bits(8), b: Stream(data: Bits(8), complexity: 5, direction: Reverse)))); streamlet t = (); impl x of t = { a = s; b = k; a.p -- b.q; }; }
+@ p
+! tydi: NotCompatible p 1:296 b Level
+= 1
+# an inner throughput
+$ link p
+~ namespace n { streamlet s = (p: out Stream(data: Group(a: Bits(8), b: Stream(data: Bits(8), throughput: 2.0)))); streamlet k = (q: in Stream(data: Group(a: Bits(8), b: Stream(data: Bits(8), throughput: 3.0)))); streamlet t = (); impl x of t = { a = s; b = k; a.p -- b.q; }; }
+@ p
+! tydi: NotCompatible p 1:260 b Throughput
+= 1
+# an inner dimensionality
+$ link p
+~ namespace n { streamlet s = (p: out Stream(data: Group(a: Bits(8), b: Stream(data: Bits(8), dimensionality: 1)))); streamlet k = (q: in Stream(data: Group(a: Bits(8), b: Stream(data: Bits(8), dimensionality: 0)))); streamlet t = (); impl x of t = { a = s; b = k; a.p -- b.q; }; }
+@ p
+! tydi: NotCompatible p 1:264 b Dims
+= 1
+# an inner synchronicity
+$ link p
+~ namespace n { streamlet s = (p: out Stream(data: Group(a: Bits(8), b: Stream(data: Bits(8), synchronicity: Desync)))); streamlet k = (q: in Stream(data: Group(a: Bits(8), b: Stream(data: Bits(8), synchronicity: Flatten)))); streamlet t = (); impl x of t = { a = s; b = k; a.p -- b.q; }; }
+@ p
+! tydi: NotCompatible p 1:273 b Sync
+= 1
+# an inner direction
+$ link p
+~ namespace n { streamlet s = (p: out Stream(data: Group(a: Bits(8), b: Stream(data: Bits(8), direction: Reverse)))); streamlet k = (q: in Stream(data: Group(a: Bits(8), b: Stream(data: Bits(8))))); streamlet t = (); impl x of t = { a = s; b = k; a.p -- b.q; }; }
+@ p
+! tydi: NotCompatible p 1:246 b Direction
+= 1
+# an inner user type
+$ link p
+~ namespace n { streamlet s = (p: out Stream(data: Group(a: Bits(8), b: Stream(data: Bits(8), user: Bits(1))))); streamlet k = (q: in Stream(data: Group(a: Bits(8), b: Stream(data: Bits(8))))); streamlet t = (); impl x of t = { a = s; b = k; a.p -- b.q; }; }
+@ p
+! tydi: NotCompatible p 1:241 b User
+= 1
+# an inner keep flag
+$ link p
+~ namespace n { streamlet s = (p: out Stream(data: Group(a: Bits(8), b: Stream(data: Bits(8))))); streamlet k = (q: in Stream(data: Group(a: Bits(8), b: Stream(data: Bits(8), keep: true)))); streamlet t = (); impl x of t = { a = s; b = k; a.p -- b.q; }; }
+@ p
+! tydi: NotCompatible p 1:238 b Keep
+= 1
+";

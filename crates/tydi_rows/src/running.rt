@@ -23,18 +23,6 @@ pub(crate) struct Outcome {
     pub(crate) err: List<u8>,
 }
 
-/// Runs the tool on these words, over a store with one file, which is named `t`, and two sinks with room for 4,096 bytes.
-pub(crate) fn run_on(
-    alloc: Global,
-    words: &[Text],
-    file: List<u8>,
-    faults: &Faults<'_>,
-) -> Result<Outcome, Memory> {
-    let mut files = List::new(alloc);
-    files.push((Text::new(alloc, "t")?, file))?;
-    run_over(alloc, words, files, faults)
-}
-
 /// Runs the tool on these words, over a store with these files, and two sinks with room for 4,096 bytes.
 pub(crate) fn run_over(
     alloc: Global,

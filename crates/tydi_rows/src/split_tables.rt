@@ -300,3 +300,180 @@ $ split t n::s.p
 >   field - 0 4
 = 0
 ";
+
+/// Projects that trees stand for: their ports and bodies.
+pub(crate) const RESOLVED: &str = "\
+# port invert.a of a design
+$ split p video::invert.a
+< namespace video {
+<   type rgb = Group(r: Bits(8), g: Bits(8), b: Bits(8));
+<   type frames = Stream(data: rgb, throughput: 2.0,
+<     dimensionality: 2, complexity: 4);
+<   streamlet invert = (a: in frames, b: out frames);
+<   streamlet top = (a: in frames, b: out frames);
+<   impl wiring of top = { i = invert; a -- i.a; i.b -- b; };
+<   test two of top drive a =
+<     \"root - = [[{r: 1, g: 2, b: 3}, {r: 4, g: 5, b: 6},
+<      {r: 7, g: 8, b: 9}]] [];\" plan \"tydi-plan 1
+< cycles 3
+< \";
+~ }
+@ p
+> stream - lanes 2 dims 2 level 4 element 24 user 0 forward
+>   root -
+>   valid 1
+>   ready 1
+>   data 48
+>   last 4
+>   endi 1
+>   strb 2
+>   field r 0 8
+>   field g 8 8
+>   field b 16 8
+= 0
+# port invert.b of a design
+$ split p video::invert.b
+< namespace video {
+<   type rgb = Group(r: Bits(8), g: Bits(8), b: Bits(8));
+<   type frames = Stream(data: rgb, throughput: 2.0,
+<     dimensionality: 2, complexity: 4);
+<   streamlet invert = (a: in frames, b: out frames);
+<   streamlet top = (a: in frames, b: out frames);
+<   impl wiring of top = { i = invert; a -- i.a; i.b -- b; };
+<   test two of top drive a =
+<     \"root - = [[{r: 1, g: 2, b: 3}, {r: 4, g: 5, b: 6},
+<      {r: 7, g: 8, b: 9}]] [];\" plan \"tydi-plan 1
+< cycles 3
+< \";
+~ }
+@ p
+> stream - lanes 2 dims 2 level 4 element 24 user 0 forward
+>   root -
+>   valid 1
+>   ready 1
+>   data 48
+>   last 4
+>   endi 1
+>   strb 2
+>   field r 0 8
+>   field g 8 8
+>   field b 16 8
+= 0
+# port top.a of a design
+$ split p video::top.a
+< namespace video {
+<   type rgb = Group(r: Bits(8), g: Bits(8), b: Bits(8));
+<   type frames = Stream(data: rgb, throughput: 2.0,
+<     dimensionality: 2, complexity: 4);
+<   streamlet invert = (a: in frames, b: out frames);
+<   streamlet top = (a: in frames, b: out frames);
+<   impl wiring of top = { i = invert; a -- i.a; i.b -- b; };
+<   test two of top drive a =
+<     \"root - = [[{r: 1, g: 2, b: 3}, {r: 4, g: 5, b: 6},
+<      {r: 7, g: 8, b: 9}]] [];\" plan \"tydi-plan 1
+< cycles 3
+< \";
+~ }
+@ p
+> stream - lanes 2 dims 2 level 4 element 24 user 0 forward
+>   root -
+>   valid 1
+>   ready 1
+>   data 48
+>   last 4
+>   endi 1
+>   strb 2
+>   field r 0 8
+>   field g 8 8
+>   field b 16 8
+= 0
+# port top.b of a design
+$ split p video::top.b
+< namespace video {
+<   type rgb = Group(r: Bits(8), g: Bits(8), b: Bits(8));
+<   type frames = Stream(data: rgb, throughput: 2.0,
+<     dimensionality: 2, complexity: 4);
+<   streamlet invert = (a: in frames, b: out frames);
+<   streamlet top = (a: in frames, b: out frames);
+<   impl wiring of top = { i = invert; a -- i.a; i.b -- b; };
+<   test two of top drive a =
+<     \"root - = [[{r: 1, g: 2, b: 3}, {r: 4, g: 5, b: 6},
+<      {r: 7, g: 8, b: 9}]] [];\" plan \"tydi-plan 1
+< cycles 3
+< \";
+~ }
+@ p
+> stream - lanes 2 dims 2 level 4 element 24 user 0 forward
+>   root -
+>   valid 1
+>   ready 1
+>   data 48
+>   last 4
+>   endi 1
+>   strb 2
+>   field r 0 8
+>   field g 8 8
+>   field b 16 8
+= 0
+# the ports of an interface are written in its own namespace
+$ split p a::s.p
+~ namespace a { streamlet s = b::i; } namespace b { type t = Stream(data: Bits(1)); interface i = (p: out t); } namespace a { impl j of s = \"here\"; streamlet r = (); impl k of r = { x = s; }; }
+@ p
+> stream - lanes 1 dims 0 level 4 element 1 user 0 forward
+>   root -
+>   valid 1
+>   ready 1
+>   data 1
+>   field - 0 1
+= 0
+# a namespace that is opened again is one: its instance has an end without a link
+$ link p
+~ namespace a { streamlet s = b::i; } namespace b { type t = Stream(data: Null); interface i = (p: out t); } namespace a { impl j of s = \"here\"; streamlet r = (); impl k of r = { x = s; }; }
+@ p
+! tydi: Unlinked p 1:172
+= 1
+# a type by a name of another name
+$ split p a::s.p
+~ namespace a { type t = u; type u = Stream(data: Bits(1), dimensionality: 3); streamlet s = (p: in t, q: in u, r: in Stream(data: u)); }
+@ p
+> stream - lanes 1 dims 3 level 4 element 1 user 0 forward
+>   root -
+>   valid 1
+>   ready 1
+>   data 1
+>   last 3
+>   strb 1
+>   field - 0 1
+= 0
+# a type by its name
+$ split p a::s.q
+~ namespace a { type t = u; type u = Stream(data: Bits(1), dimensionality: 3); streamlet s = (p: in t, q: in u, r: in Stream(data: u)); }
+@ p
+> stream - lanes 1 dims 3 level 4 element 1 user 0 forward
+>   root -
+>   valid 1
+>   ready 1
+>   data 1
+>   last 3
+>   strb 1
+>   field - 0 1
+= 0
+# a type by its name inside a Stream
+$ split p a::s.r
+~ namespace a { type t = u; type u = Stream(data: Bits(1), dimensionality: 3); streamlet s = (p: in t, q: in u, r: in Stream(data: u)); }
+@ p
+> stream - lanes 1 dims 3 level 4 element 1 user 0 forward
+>   root -
+>   valid 1
+>   ready 1
+>   data 1
+>   last 3
+>   strb 1
+>   field - 0 1
+= 0
+# a project of nothing
+$ link p
+~ namespace a { }
+@ p
+= 0
+";

@@ -1,176 +1,192 @@
-//! The tests of the tool.
+//! The tests of the tool: a table or more for each command, with how many rows it has and in which pieces it is run.
 
+use crate::bench_rows::BENCHED;
+use crate::carry_rows::CARRIED;
+use crate::decode_tables::{DECODED, VALUES_OF_TEXTS, VALUES_OF_TRACES};
+use crate::design_rows::{CLASHING, DESIGNED};
+use crate::drive_tables::{DRIVEN, RUNS, UNDRIVEN};
+use crate::failing_rows::{FAILING, LARGE, LINE_THAT_FAILS};
+use crate::job_tables::JOBS;
+use crate::link_rows::{DESIGNS, LINKED, TYPES};
+use crate::plan_rows::{PLAN_HEADERS, PLAN_LINES, PLAN_STREAMS, PLAN_WISHES};
 use crate::project_tables::{CANONICAL, FAULTS};
 use crate::refusal_tables::{HEADERS, ROWS, WORDS};
-use crate::row::{NO_FAULTS, check_rows, expect, words_of};
-use crate::running::{Faults, Outcome, run_on};
-use crate::split_tables::SPLITS;
-use crate::trace_tables::{KINDS, LONG, ONE_STREAM, PIECES, SEVERAL_STREAMS, VERSIONS};
+use crate::row::{NO_FAULTS, check_table, is_wanted, words_of};
+use crate::running::{Faults, Outcome, run_over};
+use crate::sim_tables::SIMULATED;
+use crate::split_tables::{RESOLVED, SPLITS};
+use crate::trace_tables::{KINDS, LONG, ONE_STREAM, PIECES, SEVERAL_STREAMS, SURVEYED, VERSIONS};
+use crate::value_rows::{FORMLESS, MANY, RAW, READ_BACK, UNFIT};
+use crate::vcd_rows::{AGAINST_PROFILE, DUMP_WORDS, SAMPLED, UNSAMPLED};
 use std::alloc::Global;
-use std::process::Abort;
-use std::test::Fail;
-use tydi_base::{List, Memory};
-use tydi_tool::{answers_are_one, causes_are_told, drives_are_legal};
+use tydi_base::{List, Memory, Text};
+use tydi_tool::{
+    answers_are_one, benches_drive_ports, causes_are_told, drives_are_legal, dumps_are_sampled,
+};
 
-const PACKET: &[u8] =
-    b"tydi-trace 1\ncycles 2\nstream - lanes 1 dims 1 level 1 element 8 user 0 forward\n1 1 d=48 l=0 b=1\n1 1 d=69 l=1 b=1\n";
+/// One less than the most bytes that a call takes or gives, where files and texts come whole.
+const WHOLE: &[u16] = &[u16::MAX];
 
-const REPORT: &[u8] = b"legal\nstream - transfers 2 packets 1\n";
+/// The same, where they come whole, and in pieces of 1 and 7 bytes.
+const CUT: &[u16] = &[u16::MAX, 0, 6];
 
-/// Each kind of answer, where memory is ample.
+/// The same, where they come whole, and in pieces of 1, 2 and 7 bytes.
+const CUT_SMALL: &[u16] = &[u16::MAX, 0, 1, 6];
+
 #[test]
-fn tables(rt: HostRuntime) -> Result<(), Fail> {
-    for (table, count) in &[
-        (KINDS, 6),
-        (WORDS, 12),
-        (HEADERS, 18),
-        (ROWS, 29),
-        (ONE_STREAM, 21),
-        (SEVERAL_STREAMS, 9),
-        (VERSIONS, 12),
-        (CANONICAL, 4),
-        (FAULTS, 20),
-        (SPLITS, 27),
-    ] {
-        assert!(rt; check_rows(&rt, table, u16::MAX)? == *count);
-    }
-    Ok(())
+fn words(rt: HostRuntime) {
+    check_table(&rt, KINDS, 6, WHOLE);
+    check_table(&rt, WORDS, 12, WHOLE);
 }
 
-/// Traces that come in pieces of 1, 2, 3, 7 and 1,000 bytes.
 #[test]
-fn pieces(rt: HostRuntime) -> Result<(), Fail> {
-    for most in &[0, 1, 2, 6, 999] {
-        assert!(rt; check_rows(&rt, PIECES, *most)? == 9);
-    }
-    Ok(())
+fn checked(rt: HostRuntime) {
+    check_table(&rt, HEADERS, 18, WHOLE);
+    check_table(&rt, ROWS, 29, WHOLE);
+    check_table(&rt, ONE_STREAM, 21, WHOLE);
+    check_table(&rt, SEVERAL_STREAMS, 9, WHOLE);
+    check_table(&rt, SURVEYED, 5, WHOLE);
+    check_table(&rt, VERSIONS, 12, WHOLE);
+    check_table(&rt, PIECES, 9, &[0, 1, 2, 6, 999]);
 }
 
-/// The outcome of a run of these words on this file.
-fn outcome_of(
-    alloc: Global,
-    words: &str,
-    file: List<u8>,
-    faults: &Faults<'_>,
-) -> Result<Outcome, Memory> {
-    run_on(alloc, words_of(alloc, words)?.as_slice(), file, faults)
-}
-
-/// Compares what comes of a text in pieces of 1, 2, 3 and 7 bytes with what comes of it whole.
-fn check_cut(rt: &(impl Abort + AllocGlobal), text: &[u8]) -> Result<(), Memory> {
-    let file = List::from_slice(rt.alloc(), text)?;
-    let whole = outcome_of(rt.alloc(), "check t", file, &NO_FAULTS)?;
-    for most in &[0, 1, 2, 6] {
-        let faults = Faults {
-            most: *most,
-            ..NO_FAULTS
-        };
-        let file = List::from_slice(rt.alloc(), text)?;
-        let outcome = outcome_of(rt.alloc(), "check t", file, &faults)?;
-        expect(
-            rt,
-            text.len(),
-            &outcome,
-            whole.status,
-            whole.out.as_slice(),
-            whole.err.as_slice(),
-        );
-    }
-    Ok(())
-}
-
-/// A text that is cut has one error, in whatever pieces it comes.
 #[test]
-fn cut_texts(rt: HostRuntime) -> Result<(), Fail> {
-    for cut in 0..LONG.len() {
-        check_cut(&rt, &LONG[..cut])?;
-    }
-    Ok(())
+fn read(rt: HostRuntime) {
+    check_table(&rt, CANONICAL, 4, WHOLE);
+    check_table(&rt, FAULTS, 20, WHOLE);
 }
 
-/// Files of bytes: the longest project, one byte more, and a text that is not UTF-8.
 #[test]
-fn bytes(rt: HostRuntime) -> Result<(), Fail> {
-    for (count, byte, err) in &[
-        (4_194_304, 32, b"tydi: EndOfText t\n".as_slice()),
-        (4_194_305, 32, b"tydi: TooLong t\n".as_slice()),
-        (3, 255, b"tydi: NotUtf8 t 0\n".as_slice()),
-    ] {
-        let file = List::from_vec(vec![in rt.alloc(); *byte; *count]?);
-        let outcome = outcome_of(rt.alloc(), "read t", file, &NO_FAULTS)?;
-        expect(&rt, *count, &outcome, 1, b"", err);
-    }
-    Ok(())
+fn split(rt: HostRuntime) {
+    check_table(&rt, SPLITS, 27, WHOLE);
+    check_table(&rt, RESOLVED, 10, WHOLE);
 }
 
-/// The outcome of `check` on the packet.
-fn packet_outcome(alloc: Global, faults: &Faults<'_>) -> Result<Outcome, Memory> {
-    let file = List::from_slice(alloc, PACKET)?;
-    outcome_of(alloc, "check t", file, faults)
-}
-
-/// Each call of the store failing in turn: the run ends in ReadFault with nothing written, or the call was not made.
 #[test]
-fn reads_that_fail(rt: HostRuntime) -> Result<(), Fail> {
-    for number in 0..12u8 {
-        let faults = Faults {
-            store: &[u64::from(number)],
-            out: &[],
-            err: &[],
-            most: 15,
-        };
-        let outcome = packet_outcome(rt.alloc(), &faults)?;
-        let number = usize::from(number);
-        if number < 10 {
-            expect(&rt, number, &outcome, 3, b"", b"tydi: ReadFault t\n");
-        } else {
-            expect(&rt, number, &outcome, 0, REPORT, b"");
-        }
-    }
-    Ok(())
+fn driven(rt: HostRuntime) {
+    check_table(&rt, DRIVEN, 29, CUT_SMALL);
+    check_table(&rt, UNDRIVEN, 14, WHOLE);
+    check_table(&rt, RUNS, 3, CUT);
 }
 
-/// Each push to out failing in turn, in pieces of four bytes: the run ends in WriteFault with the pieces before in out.
 #[test]
-fn writes_that_fail(rt: HostRuntime) -> Result<(), Fail> {
-    for number in 0..12u8 {
-        let faults = Faults {
-            store: &[],
-            out: &[u64::from(number)],
-            err: &[],
-            most: 3,
-        };
-        let outcome = packet_outcome(rt.alloc(), &faults)?;
-        let number = usize::from(number);
-        let written = 4 * number;
-        if written < REPORT.len() {
-            expect(
-                &rt,
-                number,
-                &outcome,
-                4,
-                &REPORT[..written],
-                b"tydi: WriteFault\n",
+fn decoded(rt: HostRuntime) {
+    check_table(&rt, DECODED, 44, CUT_SMALL);
+    check_table(&rt, VALUES_OF_TRACES, 17, WHOLE);
+    check_table(&rt, VALUES_OF_TEXTS, 9, CUT);
+}
+
+#[test]
+fn values(rt: HostRuntime) {
+    check_table(&rt, READ_BACK, 20, WHOLE);
+    check_table(&rt, UNFIT, 38, WHOLE);
+    check_table(&rt, FORMLESS, 41, WHOLE);
+    check_table(&rt, RAW, 6, WHOLE);
+}
+
+/// Built without proof it takes more than a minute: `rt try --test --seconds 300`.
+#[test]
+fn values_of_many_members(rt: HostRuntime) {
+    check_table(&rt, MANY, 2, WHOLE);
+}
+
+#[test]
+fn plans(rt: HostRuntime) {
+    check_table(&rt, PLAN_HEADERS, 21, WHOLE);
+    check_table(&rt, PLAN_LINES, 27, WHOLE);
+    check_table(&rt, PLAN_WISHES, 20, WHOLE);
+    check_table(&rt, PLAN_STREAMS, 14, WHOLE);
+}
+
+#[test]
+fn linked(rt: HostRuntime) {
+    check_table(&rt, LINKED, 16, WHOLE);
+    check_table(&rt, DESIGNS, 13, WHOLE);
+    check_table(&rt, TYPES, 26, WHOLE);
+}
+
+#[test]
+fn carried(rt: HostRuntime) {
+    check_table(&rt, CARRIED, 28, CUT_SMALL);
+}
+
+#[test]
+fn designed(rt: HostRuntime) {
+    check_table(&rt, DESIGNED, 18, CUT);
+    check_table(&rt, CLASHING, 2, WHOLE);
+}
+
+#[test]
+fn benched(rt: HostRuntime) {
+    check_table(&rt, BENCHED, 36, CUT);
+}
+
+#[test]
+fn simulated(rt: HostRuntime) {
+    check_table(&rt, SIMULATED, 13, WHOLE);
+}
+
+#[test]
+fn sampled(rt: HostRuntime) {
+    check_table(&rt, SAMPLED, 16, CUT);
+    check_table(&rt, AGAINST_PROFILE, 26, CUT);
+    check_table(&rt, UNSAMPLED, 28, WHOLE);
+    check_table(&rt, DUMP_WORDS, 9, WHOLE);
+}
+
+#[test]
+fn generated(rt: HostRuntime) {
+    check_table(&rt, JOBS, 28, CUT_SMALL);
+}
+
+#[test]
+fn calls_that_fail(rt: HostRuntime) {
+    check_table(&rt, FAILING, 7, WHOLE);
+    check_table(&rt, LINE_THAT_FAILS, 1, WHOLE);
+}
+
+/// The same.
+#[test]
+fn large_files(rt: HostRuntime) {
+    check_table(&rt, LARGE, 9, WHOLE);
+}
+
+/// The outcome of `check` on a text, where a call takes or gives one byte more than this at most.
+fn checked_text(alloc: Global, text: &[u8], most: u16) -> Result<Outcome, Memory> {
+    let faults = Faults { most, ..NO_FAULTS };
+    let mut files = List::new(alloc);
+    files.push((Text::new(alloc, "t")?, List::from_slice(alloc, text)?))?;
+    run_over(
+        alloc,
+        words_of(alloc, "check t")?.as_slice(),
+        files,
+        &faults,
+    )
+}
+
+/// Whether the same comes of a text in pieces of one byte more than this as of it whole.
+fn is_same_cut(alloc: Global, text: &[u8], most: u16) -> Result<bool, Memory> {
+    let whole = checked_text(alloc, text, u16::MAX)?;
+    let cut = checked_text(alloc, text, most)?;
+    Ok(is_wanted(
+        &cut,
+        whole.status,
+        whole.out.as_slice(),
+        whole.err.as_slice(),
+    ))
+}
+
+/// A text that is cut has one error, in whatever pieces it comes: of 1, 2, 3 and 7 bytes, and whole.
+#[test]
+fn cut_texts(rt: HostRuntime) {
+    for count in 0..LONG.len() {
+        for most in &[0, 1, 2, 6] {
+            assert!(rt;
+                is_same_cut(rt.alloc(), &LONG[..count], *most) == Ok(true),
+                "{count}"
             );
-        } else {
-            expect(&rt, number, &outcome, 0, REPORT, b"");
         }
     }
-    Ok(())
-}
-
-/// A push of the line of a failed read that fails: err has the front before it.
-#[test]
-fn a_line_that_fails(rt: HostRuntime) -> Result<(), Fail> {
-    let faults = Faults {
-        store: &[0],
-        out: &[],
-        err: &[1],
-        most: 7,
-    };
-    let outcome = packet_outcome(rt.alloc(), &faults)?;
-    expect(&rt, 0, &outcome, 4, b"", b"tydi: Re");
-    Ok(())
 }
 
 /// Each law is a function that can be called.
@@ -179,4 +195,6 @@ fn laws() {
     answers_are_one();
     causes_are_told();
     drives_are_legal();
+    benches_drive_ports();
+    dumps_are_sampled();
 }

@@ -550,3 +550,52 @@ $ check t
 ! tydi: BadHeader t 1
 = 1
 ";
+
+/// Traces of one stream and of two: the first violation, the stream that does not end whole, or the error.
+pub(crate) const SURVEYED: &str = "\
+# a pause in the second stream
+$ check t
+< tydi-trace 1
+< cycles 2
+< stream a lanes 1 dims 0 level 1 element 4 user 0 forward
+< stream b lanes 1 dims 1 level 1 element 4 user 0 forward
+< 0 1 -
+< 1 1 d=f l=0 b=1
+< 0 1 -
+< 0 1 -
+> offence cycle 1 stream b rule 8 InnerPause
+= 6
+# a sequence of 128 lanes without bits that is open
+$ check t
+< tydi-trace 1
+< cycles 1
+< stream a lanes 1 dims 0 level 1 element 4 user 0 forward
+< stream b lanes 128 dims 1 level 1 element 0 user 0 forward
+< 1 1 d=f
+< 1 1 l=00000000000000000000000000000000 e=127 b=ffffffffffffffffffffffffffffffff
+> unfinished stream b open 0
+= 6
+# a number of cycles that is too great, and a line that is cut
+$ check t
+< tydi-trace 1
+< cycles 1000001
+~ stream a
+! tydi: BadHeader t 3
+= 1
+# rows of a million that are missing
+$ check t
+< tydi-trace 1
+< cycles 1000000
+< stream a lanes 1 dims 0 level 1 element 4 user 0 forward
+< 1 1 d=f
+! tydi: RowsMissing t 1000000 1
+= 1
+# a space at the end of a row
+$ check t
+< tydi-trace 1
+< cycles 1
+< stream a lanes 1 dims 0 level 1 element 4 user 0 forward
+< 1 1 d=0000000000000000000000000000000000000000 
+! tydi: BadRow t 4
+= 1
+";
