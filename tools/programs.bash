@@ -7,7 +7,7 @@ kit='rattle-kit-13f logic dac8208d650f15bf'
 proved=$top/bin/tydi              # comes with the repository, with what it was made from in tydi.made
 built=$top/crates/tydi/out/tydi   # proved and built here, by tools/build or `rt ci`
 tried=$top/crates/tydi/out/tried  # built here without proof, by tools/try
-to_build="$top/tools/build proves and builds it in a quarter of an hour or more, $top/tools/try builds it without proof in some minutes"
+to_build="$top/tools/build proves and builds one in an hour or more, $top/tools/try builds one without proof in some minutes"
 
 # source_folders: sets `folders` to the src/, specs/ and proofs/ of each crate that the program stands on, as crates.txt lists them
 source_folders() {
