@@ -1,4 +1,4 @@
-//! A testbench that is read, and printed again as it stands. What `sim` says of others is tried on the program, by the sweeps among the examples.
+//! A testbench that is read, and printed again as it stands. Others are tried by `sim`, in the sweeps among the examples.
 
 ghost use Rattle.vhdl_text.specs.WellFormed.{IsWellFormed};
 
