@@ -88,7 +88,7 @@ pub(crate) const BENCHES: &[(&str, &str, &str)] = &[
     ),
 ];
 
-// The bench of tables with its first such part replaced by another.
+// The bench with its first such part replaced by another.
 fn edited(alloc: Global, part: &str, other: &str) -> Result<List<u8>, Memory> {
     let (front, back) = BENCH.split_once(part).unwrap_or((BENCH, ""));
     let mut text = List::new(alloc);
@@ -122,7 +122,7 @@ fn write_read(alloc: Global, text: &[u8], out: &mut List<u8>) -> Result<(), Memo
     }
 }
 
-/// The same of the bench of tables with its first such part replaced by another.
+/// The same of the bench with its first such part replaced by another.
 pub(crate) fn bench_text(
     alloc: Global,
     part: &str,
