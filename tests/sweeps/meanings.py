@@ -149,7 +149,7 @@ def roots_of(text):
 
 
 def text_of_element(ltype, value):
-    """What the word of this value says."""
+    """The meaning of the word of this value."""
     if ltype.kind == "Bits":
         return str(value)
     if ltype.kind == "Group":
@@ -216,7 +216,7 @@ def signals_of(row):
 
 
 def text_of_word(ltype, word):
-    """What the lowest bits of a word say by a type, what is left of the word, and whether each tag that is read names a variant."""
+    """The meaning of the lowest bits of a word by a type, the bits that are left, and whether each tag that is read names a variant."""
     if ltype.kind == "Bits":
         return str(word % (1 << ltype.bits)), word >> ltype.bits, True
     if ltype.kind == "Group":
@@ -281,7 +281,7 @@ class Port:
         return [part for nest in around for part in replaced(node.parent.dims, nest, of_element)]
 
     def series_of_value(self, text):
-        """What a value carries, stream by stream, each with an LF behind it."""
+        """The series that a value carries, stream by stream, each with an LF behind it."""
         roots = roots_of(text)
 
         def said(node, depth, nest):
@@ -293,7 +293,7 @@ class Port:
                        for node in self.streams)
 
     def shown(self, rows):
-        """What the transfers done carry, stream by stream, and the number of the first row with valid that has a tag of no variant."""
+        """The series of the transfers done, stream by stream, and the number of the first row with valid that has a tag of no variant."""
         series, bad = ["" for _ in self.streams], None
         for number, row in enumerate(rows):
             stream = number % len(self.streams)

@@ -3,7 +3,7 @@
 four on streams of up to three lanes and two dimensions, at each level and by six wishes, are driven and decoded. bench.vhd is run by the texts
 of `runs`, with the edits of `edits`, and cut at each byte.
   tests/sweeps/run PROGRAM
-What is expected is found by meanings.py, which has none of the program's code, except that `check` names the first violation of rules 1 to 10.
+The answers that are expected come from meanings.py, which has none of the program's code, except that `check` names the first violation of rules 1 to 10.
 Each part says how many it ran, and the counts are compared. One answer of each part is spoilt, and is seen to fail."""
 import itertools, os, re, subprocess, sys, tempfile
 from concurrent.futures import ThreadPoolExecutor
@@ -37,13 +37,13 @@ def store(text):
 
 
 def answer(*words):
-    """What the program says to these words: its status, and both of its texts."""
+    """The answer of the program to these words: its status, and both of its texts."""
     said = subprocess.run([PROGRAM, *words], stdin=subprocess.DEVNULL, capture_output=True)
     return said.returncode, said.stdout.decode(), said.stderr.decode()
 
 
 def answer_of_text(command, project, text):
-    """What a command says of a trace."""
+    """The answer of a command to a trace."""
     trace = store(text)
     words = [project, "a::s.p", trace] if project else [trace]
     said = answer(command, *words)
@@ -52,7 +52,7 @@ def answer_of_text(command, project, text):
 
 
 def drive(project, value, plan):
-    """What `drive` says to a value."""
+    """The answer of `drive` to a value."""
     file = store(value)
     said = answer("drive", project, "a::s.p", file, plan)
     os.unlink(file)
@@ -222,7 +222,7 @@ def unescaped(text):
 
 
 def simulated(bench, run):
-    """What `sim` says of a testbench and a run: the trace, or the error without the name of its file."""
+    """The answer of `sim` to a testbench and a run: the trace, or the error without the name of its file."""
     files = store(bench), store(run)
     status, out, err = answer("sim", *files)
     for file in files:

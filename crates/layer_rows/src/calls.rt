@@ -146,6 +146,6 @@ fn tell(
         Call::Plan => plan_texts::plan(alloc, first, second, out),
         Call::Schedule => schedules::scheduled(alloc, first, second, out),
         Call::Cycles => runs::run(alloc, first, second, out),
-        Call::Bench => vhdl_texts::printed(alloc, first, out),
+        Call::Bench => vhdl_texts::bench_text(alloc, first, second, out),
     }
 }

@@ -16,7 +16,7 @@ const BYTES: &str = "Stream(data: Bits(8), dimensionality: 1, complexity: 1)";
 // A Stream with user words.
 const USED: &str = "Stream(data: Bits(8), complexity: 1, user: Bits(4))";
 
-/// A port's type and a trace of its streams: the value that it carries with the user words. What `decode` says of others is tried over `run`.
+/// A port's type and a trace of its streams: the value that it carries with the user words. Others are tried over `run`.
 pub(crate) const DECODED: &[(&str, &str, &str)] = &[
     (
         BYTES,

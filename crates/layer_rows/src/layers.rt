@@ -106,7 +106,7 @@ fn plans_of_texts(rt: HostRuntime) {
 
 #[test]
 fn benches(rt: HostRuntime) {
-    check_calls(&rt, &Call::Bench, vhdl_texts::BENCHES, 1);
+    check_calls(&rt, &Call::Bench, vhdl_texts::BENCHES, 3);
 }
 
 /// The defaults of signals that a stream lacks. How wide each is, a table of the examples says.

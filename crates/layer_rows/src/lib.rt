@@ -1,6 +1,5 @@
-//! Tests of the layers below the tool: tables of calls, whose answers were found by hand. What a command
-//! writes is tried over `run`, by tables of another crate. They stand in one crate, so that no
-//! crate is proved a second time for its tests.
+//! Tests of the layers below the tool: tables of calls, whose answers were found by hand. The answers of commands are tried over `run`, by tables
+//! of another crate. The tests stand in one crate, so that no crate is proved a second time for its tests.
 #![tactic(auto)]
 
 #[cfg(test)]

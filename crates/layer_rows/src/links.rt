@@ -1,4 +1,4 @@
-//! Links, by a table whose answers were found by hand: where the nets of a project lead from a port. What `link` says is tried over `run`.
+//! Links, by a table whose answers were found by hand: where the nets of a project lead from a port. The answers of `link` are tried over `run`.
 
 use crate::calls::{cut, number};
 use crate::types::project_of;

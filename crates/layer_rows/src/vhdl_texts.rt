@@ -1,9 +1,9 @@
-//! A testbench that is read, and printed again as it stands. What `sim` says of others is tried on the program, by the sweeps among the examples.
+//! A testbench that is read, and printed again as it stands. Others are tried by `sim`, in the sweeps among the examples.
 
 ghost use Rattle.vhdl_text.specs.WellFormed.{IsWellFormed};
 
 use std::alloc::Global;
-use tydi_base::{List, Memory};
+use tydi_base::{List, Memory, emit};
 use vhdl_text::{Bench, benches_are_read_as_printed, print_bench, read_bench};
 
 // A bench of two streams and three processes: a pause, waits for each stream, a signal that is assigned twice in one turn, and signals of a
@@ -77,21 +77,58 @@ begin
 end architecture;
 ";
 
-/// A bench: how it is printed.
-pub(crate) const BENCHES: &[(&str, &str, &str)] = &[(BENCH, "", BENCH)];
+/// The bench with its first such part replaced by another: whether it is printed as it stands.
+pub(crate) const BENCHES: &[(&str, &str, &str)] = &[
+    ("", "", "same"),
+    ("1 to 2 loop", "1 to 1000000 loop", "same"),
+    (
+        "end architecture;\n",
+        "  process\n  begin\n    wait;\n  end process;\nend architecture;\n",
+        "same",
+    ),
+];
 
-// Writes the text of a bench.
-fn write_printed(alloc: Global, bench: &Bench, out: &mut List<u8>) -> Result<(), Memory>
+// The bench with its first such part replaced by another.
+fn edited(alloc: Global, part: &str, other: &str) -> Result<List<u8>, Memory> {
+    let (front, back) = BENCH.split_once(part).unwrap_or((BENCH, ""));
+    let mut text = List::new(alloc);
+    emit!(text; front, other, back)?;
+    Ok(text)
+}
+
+// Writes whether the bench is printed as this text.
+fn write_printed(
+    alloc: Global,
+    bench: &Bench,
+    text: &[u8],
+    out: &mut List<u8>,
+) -> Result<(), Memory>
     requires { IsWellFormed bench.now }
 {
     let printed = print_bench(alloc, bench)?;
-    out.extend_from_slice(printed.as_slice())
+    if printed.as_slice() == text {
+        emit!(out; "same")
+    } else {
+        emit!(out; "other")
+    }
 }
 
-pub(crate) fn printed(alloc: Global, text: &str, out: &mut List<u8>) -> Result<(), Memory> {
+// Writes `same` where the bench that a text spells is printed as this text.
+fn write_read(alloc: Global, text: &[u8], out: &mut List<u8>) -> Result<(), Memory> {
     benches_are_read_as_printed();
-    match read_bench(alloc, text.as_bytes()) {
-        Ok(bench) => write_printed(alloc, &bench, out),
+    match read_bench(alloc, text) {
+        Ok(bench) => write_printed(alloc, &bench, text, out),
         Err(_) => Err(Memory),
     }
+}
+
+/// The same of the bench with its first such part replaced by another.
+pub(crate) fn bench_text(
+    alloc: Global,
+    part: &str,
+    other: &str,
+    out: &mut List<u8>,
+) -> Result<(), Memory> {
+    let text = edited(alloc, part, other)?;
+    write_read(alloc, text.as_slice(), out)
 }

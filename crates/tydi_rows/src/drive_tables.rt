@@ -609,7 +609,7 @@ $ drive p n::s.p v q
 = 1
 ";
 
-/// Runs of two streams, and of nothing.
+/// Runs of two streams, of nothing, and of every signal.
 pub(crate) const RUNS: &str = "\
 # a gap and a sink that waits on one of two streams
 $ drive p a::s.p v q
@@ -675,5 +675,21 @@ $ drive p a::s.p v q
 > cycles 1
 > stream - lanes 1 dims 0 level 1 element 8 user 0 forward
 > 0 1 -
+= 0
+# a row with every signal
+$ drive p a::s.p v q
+~ namespace a { streamlet s = (p: in Stream(data: Bits(4), throughput: 2, dimensionality: 1, complexity: 8, user: Bits(3))); }
+@ p
+~ root - = [5, 10];
+@ v
+< tydi-plan 1
+< cycles 1
+< stream -
+< users 5
+@ q
+> tydi-trace 1
+> cycles 1
+> stream - lanes 2 dims 1 level 8 element 4 user 3 forward
+> 1 1 d=a5 l=2 s=0 e=1 b=3 u=5
 = 0
 ";

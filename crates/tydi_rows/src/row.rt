@@ -104,7 +104,7 @@ impl Row {
         run_over(alloc, self.words.as_slice(), files, faults)
     }
 
-    /// Runs the row's words. What they write is the file that is not ended yet, and the second words are those of the row.
+    /// Runs the row's words. Their output becomes the file that is not ended yet, and the second words become those of the row.
     fn go_on(&mut self, alloc: Global) -> Result<(), Memory> {
         let Outcome { out, .. } = self.outcome(alloc, &NO_FAULTS)?;
         self.file = out;

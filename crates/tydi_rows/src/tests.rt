@@ -66,7 +66,7 @@ fn split(rt: HostRuntime) {
 fn driven(rt: HostRuntime) {
     check_table(&rt, DRIVEN, 29, CUT_SMALL);
     check_table(&rt, UNDRIVEN, 14, WHOLE);
-    check_table(&rt, RUNS, 3, CUT);
+    check_table(&rt, RUNS, 4, CUT);
 }
 
 #[test]
