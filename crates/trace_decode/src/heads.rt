@@ -7,8 +7,9 @@ ghost use Rattle.trace_decode.specs.Outcome.{DifferFirst};
 use physical_stream::Head;
 use type_split::Phys;
 
-/// The first place at which the heads of a trace are not those of these streams. None exactly where they are the same.
-pub(crate) fn other_head(heads: &[Head], streams: &[Phys]) -> Option<usize>
+/// The first place, from 0, at which the heads of a trace are not those of these streams. None exactly where they are the same. It takes no
+/// memory.
+pub fn other_head(heads: &[Head], streams: &[Phys]) -> Option<usize>
     ensures { MatchOption result (heads.now ≡ map head_of_stream streams.now) (DifferFirst heads.now (map head_of_stream streams.now)) }
 {
     'streams: for (place, stream) in streams.iter().enumerate() {

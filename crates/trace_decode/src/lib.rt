@@ -24,6 +24,7 @@ pub use decoded::Decoded;
 pub use decoder::Decoder;
 pub use decoding::decode;
 pub use fault::DecodeFault;
+pub use heads::other_head;
 pub use laws::{
     driven_values_are_carried, offences_fall_with_tags, texts_have_one_outcome,
     traces_have_one_outcome,
