@@ -78,17 +78,21 @@ module _ (split : PlainSplit) (value : List (List Tree)) (plan : Plan) (runs : L
         let m = mapped-from stream_of_run runs k stream (sym (ap (λ (l : List StreamTrace). slice_get l k) streams-so) ∙ there) in
         subst IsLegalStream (sym m.same) ((runs-so k m.from m.there).legal (finished k m.from m.there))
 
-    spells-so : (k : ℕ) (stream : Phys) (items : List Item) → slice_get split.streams k ≡ Some stream → slice_get (done_on (streams_of (trace_of split plan.cycles runs))) k ≡ Some items
-        → SpellsNode (series_of_nodes split.nodes value) stream items
-    spells-so k stream items is_stream there =
+    done-so : (k : ℕ) (stream : Phys) (items : List Item) → slice_get split.streams k ≡ Some stream → slice_get (done_on (streams_of (trace_of split plan.cycles runs))) k ≡ Some items
+        → items ≡ items_on split value k stream
+    done-so k stream items is_stream there =
         let d = mapped-from (λ (s : StreamTrace). items_done s.params s.cycles) (streams_of (trace_of split plan.cycles runs)) k items there in
         let m = mapped-from stream_of_run runs k d.from (sym (ap (λ (l : List StreamTrace). slice_get l k) streams-so) ∙ d.there) in
         let a = at k m.from m.there in
         let same_stream : a.stream ≡ stream = same-found (slice_get split.streams k) a.stream stream a.stream_there is_stream in
         let done : items ≡ items_on split value k a.stream =
         d.same ∙ ap (λ (s : StreamTrace). items_done s.params s.cycles) m.same ∙ (runs-so k m.from m.there).done (finished k m.from m.there) in
-        subst (λ (s : Phys). SpellsNode (series_of_nodes split.nodes value) s items) same_stream
-        (subst (SpellsNode (series_of_nodes split.nodes value) a.stream) (sym done) (items-so split value can.port can.value_fits k a.stream a.stream_there).spelled)
+        done ∙ ap (items_on split value k) same_stream
+
+    spells-so : (k : ℕ) (stream : Phys) (items : List Item) → slice_get split.streams k ≡ Some stream → slice_get (done_on (streams_of (trace_of split plan.cycles runs))) k ≡ Some items
+        → SpellsNode (series_of_nodes split.nodes value) stream items
+    spells-so k stream items is_stream there =
+        subst (SpellsNode (series_of_nodes split.nodes value) stream) (sym (done-so k stream items is_stream there)) (items-so split value can.port can.value_fits k stream is_stream).spelled
 
     many-done : length split.streams ≡ length (done_on (streams_of (trace_of split plan.cycles runs)))
     many-done =
@@ -102,6 +106,7 @@ module _ (split : PlainSplit) (value : List (List Tree)) (plan : Plan) (runs : L
       streams = streams-so;
       planned = planned-so;
       legal = legal-so;
+      items = done-so;
       carries = record { fits = can.value_fits; spelled = each-pair (SpellsNode (series_of_nodes split.nodes value)) split.streams (done_on (streams_of (trace_of split plan.cycles runs))) many-done spells-so };
     }
 

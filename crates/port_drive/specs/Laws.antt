@@ -48,13 +48,15 @@ pub record IsRunOf (split : PlainSplit) (value : List (List Tree)) (number : ℕ
   pub ready : run.ready ≡ plan.ready
 
 -- where these runs drive a port: their rows are those of a trace, where the heads can stand in one; each stream of it has its
--- run, breaks no rule and ends whole, and the items done carry the value
+-- run, breaks no rule and ends whole, and the items done on it are exactly those of the value, so that they carry it
 pub record IsDriven (split : PlainSplit) (value : List (List Tree)) (plan : Plan) (runs : List StreamRun) : Type 0 where
   pub is_trace : are_heads (heads_of split) ≡ true → IsTrace (trace_of split plan.cycles runs)
   pub streams : streams_of (trace_of split plan.cycles runs) ≡ map stream_of_run runs
   pub planned : (number : ℕ) (stream : Phys) (one : StreamPlan) (run : StreamRun) → slice_get split.streams number ≡ Some stream → slice_get plan.streams number ≡ Some one
       → slice_get runs number ≡ Some run → IsRunOf split value number stream one run
   pub legal : (number : ℕ) (stream : StreamTrace) → slice_get (streams_of (trace_of split plan.cycles runs)) number ≡ Some stream → IsLegalStream stream
+  pub items : (number : ℕ) (stream : Phys) (done : List Item) → slice_get split.streams number ≡ Some stream
+      → slice_get (done_on (streams_of (trace_of split plan.cycles runs))) number ≡ Some done → done ≡ items_on split value number stream
   pub carries : Carries split value (done_on (streams_of (trace_of split plan.cycles runs)))
 
 abbrev pub DrivenPortsAreLegal : Type 0
