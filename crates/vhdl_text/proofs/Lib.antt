@@ -16,3 +16,5 @@ mod TakingLemmas
 mod WholeLemmas
 pub mod BenchFaults
 pub mod PartLemmas
+pub mod VerilogLemmas
+mod VerilogExamples

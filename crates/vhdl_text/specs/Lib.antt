@@ -7,3 +7,4 @@ pub mod Drivers
 pub mod Processes
 pub mod ArchText
 pub mod Parts
+pub mod VerilogText

@@ -4,6 +4,7 @@ ghost use Rattle.vhdl_text.specs.ArchText as spec;
 
 use crate::arch::{ArchMap, ArchPart, ArchPort, ArchSet, ArchSource, ArchWire};
 use crate::counted::Counted;
+use crate::form::OwnText;
 use crate::frame::HighestBit;
 use crate::separated::Separated;
 use tydi_base::{Binary, List, Memory, Path, Written, emit, parts};
@@ -132,7 +133,7 @@ impl Written for ArchPart {
         emit!(
             out;
             "  \\", &self.name, "\\ : entity work.", EntityName(&self.entity), " port map (\n",
-            Separated(",\n", self.maps.as_slice()), "\n  );\n",
+            Separated(",\n", self.maps.as_slice(), OwnText), "\n  );\n",
         )
     }
 }
@@ -145,7 +146,7 @@ impl Counted for ArchPart {
             "\\ : entity work.",
             EntityName(&self.entity),
             " port map (\n",
-            Separated(",\n", self.maps.as_slice()),
+            Separated(",\n", self.maps.as_slice(), OwnText),
             "\n  );\n"
         )
         .count()

@@ -8,6 +8,7 @@ ghost use Rattle.vhdl_text.specs.ArchText.{arch_text};
 use crate::arch::Arch;
 use crate::arch_lines::EntityName;
 use crate::counted::Counted;
+use crate::form::OwnText;
 use crate::separated::Separated;
 use std::alloc::Global;
 use tydi_base::{Each, List, Memory, Written, emit, parts};
@@ -57,7 +58,7 @@ impl Written for Entity<'_> {
         emit!(
             out;
             "library ieee;\nuse ieee.std_logic_1164.all;\nentity ", EntityName(&self.0.name),
-            " is\n  port (\n", Separated(";\n", self.0.ports.as_slice()), "\n  );\nend entity;\n",
+            " is\n  port (\n", Separated(";\n", self.0.ports.as_slice(), OwnText), "\n  );\nend entity;\n",
         )
     }
 }
@@ -68,7 +69,7 @@ impl Counted for Entity<'_> {
             "library ieee;\nuse ieee.std_logic_1164.all;\nentity ",
             EntityName(&self.0.name),
             " is\n  port (\n",
-            Separated(";\n", self.0.ports.as_slice()),
+            Separated(";\n", self.0.ports.as_slice(), OwnText),
             "\n  );\nend entity;\n"
         )
         .count()

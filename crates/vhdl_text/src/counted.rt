@@ -31,6 +31,12 @@ impl Counted for &str {
     }
 }
 
+impl Counted for usize {
+    fn count(&self) -> u64 {
+        decimal_length(*self as u64)
+    }
+}
+
 impl Counted for Text {
     fn count(&self) -> u64 {
         self.as_bytes().len() as u64
