@@ -13,5 +13,6 @@ mod NetLemmas
 mod ChannelLemmas
 mod SetLemmas
 mod CarryingLemmas
+mod LeastLemmas
 mod LengthLemmas
 mod PieceLemmas

@@ -7,9 +7,10 @@ use Rattle.vhdl_writer.specs.Architecture.{signals_at}
 use Rattle.vhdl_writer.specs.declared.component.Component.{Component}
 use Rattle.vhdl_writer.specs.declared.component.PortSignal.{PortSignal}
 
--- the bytes of the two lines for a signal of an instance: the signal that is tied to it, and the port map
+-- the bytes of the two lines for a signal of an instance, in either language: the signal that is tied to it, and the port map. In Verilog
+-- they have 24 beside the names where the signal is one bit, and in VHDL more.
 abbrev pub least_of_signal : List ℕ → PortSignal → ℕ
-least_of_signal instance signal = 2 * length instance + 3 * length signal.name + 39
+least_of_signal instance signal = 2 * length instance + 3 * length signal.name + 24
 
 abbrev pub least_of_signals : List ℕ → List PortSignal → ℕ
 least_of_signals instance signals = sum_by (least_of_signal instance) signals

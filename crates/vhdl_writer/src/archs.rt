@@ -11,6 +11,7 @@ ghost use Rattle.vhdl_writer.specs.Designs.{AreWithin, IsDesignText};
 
 use crate::component::Component;
 use crate::design::Design;
+use crate::directives::directives_length;
 use crate::entity::entity_ports;
 use crate::fault::ArchFault;
 use crate::inside::Inside;
@@ -25,7 +26,7 @@ use link_check::{ImplNets, Net, Nets};
 use std::alloc::Global;
 use til_resolve::{Impl, Instance, Project, Streamlet};
 use tydi_base::{List, Memory, TryClone};
-use vhdl_text::{Arch, arch_length};
+use vhdl_text::{Arch, Language, length_in};
 
 /// The entity of each streamlet in text order, with the architecture that these nets, which `link_check::check` gives, make of its
 /// instances and links. NameClash comes exactly where the type of some port has two physical streams of one path; it names the path of the
@@ -41,6 +42,7 @@ pub fn architecture(alloc: Global, project: &Project, nets: &Nets) -> Result<Lis
         streamlets,
         components.as_slice(),
         nets.impls.as_slice(),
+        Language::Vhdl,
         u64::MAX - 1,
     )?;
     match made {
@@ -49,18 +51,20 @@ pub fn architecture(alloc: Global, project: &Project, nets: &Nets) -> Result<Lis
     }
 }
 
-/// The text of the entities and architectures that `architecture` gives, in pieces that are made one after another, and how many bytes it
-/// has. None where it has more bytes than the limit: no text is made then, and no architecture whose signals and port maps alone pass it.
-/// NameClash comes exactly where `architecture` has it. Memory comes where there is none for the entities and architectures.
+/// The text of the entities and architectures that `architecture` gives, in this language, in pieces that are made one after another, and
+/// how many bytes it has. None where it has more bytes than the limit: no text is made then, and no architecture whose signals and port
+/// maps alone pass it. NameClash comes exactly where `architecture` has it. Memory comes where there is none for the entities and
+/// architectures.
 pub fn design_text(
     alloc: Global,
     project: &Project,
     nets: &Nets,
+    language: Language,
     limit: u64,
 ) -> Result<Option<DesignText>, ArchFault>
     requires types { HasPortTypes (plain_project project.now) }
     requires limit { limit < most_bytes }
-    ensures { IsDesignText (plain_project project.now).streamlets nets.now.impls limit result }
+    ensures { IsDesignText (plain_project project.now).streamlets nets.now.impls language limit result }
 {
     let streamlets = project.streamlets.as_slice();
     let components = components_of(alloc, streamlets)?;
@@ -69,28 +73,35 @@ pub fn design_text(
         streamlets,
         components.as_slice(),
         nets.impls.as_slice(),
+        language,
         limit,
     )?;
     match made {
         Some(Measured { archs, length }) => Ok(Some(DesignText {
-            pieces: DesignPieces::new(archs),
+            pieces: DesignPieces::new(language, archs),
             length,
         })),
         None => Ok(None),
     }
 }
 
-/// The entities and architectures of streamlets that have these components and nets, where their text has at most so many bytes.
+/// The entities and architectures of streamlets that have these components and nets, where their text in this language has at most so
+/// many bytes.
 fn archs_within(
     alloc: Global,
     streamlets: &[Streamlet],
     components: &[Component],
     impls: &[ImplNets],
+    language: Language,
     limit: u64,
 ) -> Result<Option<Measured>, Memory>
     requires { limit < most_bytes }
-    ensures { IfOk result (AreWithin limit (spec.archs_from (map plain_streamlet streamlets.now) components.now impls.now 0 (map plain_streamlet streamlets.now))) }
+    ensures { IfOk result (AreWithin language limit (spec.archs_from (map plain_streamlet streamlets.now) components.now impls.now 0 (map plain_streamlet streamlets.now))) }
 {
+    let mut length = directives_length(language);
+    if length > limit {
+        return Ok(None);
+    }
     let design = Design {
         streamlets,
         components,
@@ -99,13 +110,12 @@ fn archs_within(
         nets_by_number: nets_by_number(alloc, impls)?,
     };
     let mut archs = List::new(alloc);
-    let mut length: u64 = 0;
     'streamlets: for (number, streamlet) in streamlets.iter().enumerate() {
         if is_over(components, instances_of(streamlet), limit - length) {
             return Ok(None);
         }
         let arch = arch_of(alloc, &design, number, streamlet)?;
-        length = length.saturating_add(arch_length(&arch));
+        length = length.saturating_add(length_in(language, &arch));
         if length > limit {
             return Ok(None);
         }

@@ -1,5 +1,5 @@
-//! How many bytes the text of an architecture has at least. It is counted before any of the text is made, so that a design that is too long
-//! takes no memory.
+//! How many bytes the text of an architecture has at least, in either language. It is counted before any of the text is made, so that a
+//! design that is too long takes no memory.
 
 ghost use Rattle.std.specs.Prelude.{◌≡◌, ◌+◌, ◌<◌, ◌≤◌, nat_lt, min};
 ghost use Rattle.tydi_base.specs.Lengths.{most_bytes};
@@ -54,7 +54,7 @@ fn least_of_signal(instance: &Name, signal: &PortSignal) -> u64
     instance
         .saturating_mul(2)
         .saturating_add(name.saturating_mul(3))
-        .saturating_add(39)
+        .saturating_add(24)
 }
 
 /// A sum within the limit.

@@ -1,9 +1,9 @@
-//! From a project and its nets to VHDL: an entity for each streamlet, and an architecture for each implementation that has instances and
-//! links. `architecture` makes them. Where the type of some port has two physical streams of one path there are none, and `first_clash`
-//! finds the first such port without nets. `specs/Components.antt` says which signals an entity has, and `specs/Architecture.antt` which
-//! signals, instances and assignments an architecture has. `laws.rt` says how the assignments carry a cycle from one end of a net to the
-//! other. The crate stands on `link_check`, whose nets it writes, and on `vhdl_text`, which has the types of entities and architectures and
-//! their text.
+//! From a project and its nets to VHDL or to Verilog: an entity for each streamlet, and an architecture for each implementation that has
+//! instances and links. `architecture` makes them, and `design_text` their text in either language. Where the type of some port has two
+//! physical streams of one path there are none, and `first_clash` finds the first such port without nets. `specs/Components.antt` says
+//! which signals an entity has, and `specs/Architecture.antt` which signals, instances and assignments an architecture has. `laws.rt` says
+//! how the assignments carry a cycle from one end of a net to the other. The crate stands on `link_check`, whose nets it writes, and on
+//! `vhdl_text`, which has the types of entities and architectures and their text.
 #![tactic(auto)]
 
 mod archs;
@@ -11,6 +11,7 @@ mod clash;
 mod component;
 mod defaults;
 mod design;
+mod directives;
 mod end_stream;
 mod ends;
 mod entity;

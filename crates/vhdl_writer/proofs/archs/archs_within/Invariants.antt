@@ -6,5 +6,5 @@ use Rattle.vhdl_writer.proofs.archs.archs_within.Given as goal
 
 -- the architectures so far and those to come are all, and the bytes of those so far are counted
 abbrev pub invariant-streamlets : goal.invariant-streamlets
-invariant-streamlets l = AreMade l.limit (archs_from (map plain_streamlet l.streamlets) l.components l.impls 0 (map plain_streamlet l.streamlets)) l.archs
+invariant-streamlets l = AreMade l.language l.limit (archs_from (map plain_streamlet l.streamlets) l.components l.impls 0 (map plain_streamlet l.streamlets)) l.archs
     (archs_from (map plain_streamlet l.streamlets) l.components l.impls l.number (map plain_streamlet (drop l.number l.streamlets))) l.length
