@@ -1,0 +1,5 @@
+pub mod FrontLemmas
+pub mod CountLemmas
+pub mod KeepLemmas
+pub mod RunLemmas
+pub mod TellLemmas
