@@ -1,5 +1,5 @@
 -- The differences of streams, stream by stream.
-use Rattle.std.proofs.Common.{◌≡◌, ◌∙◌, ◌⊎◌, inl, inr, ℕ, ◌+◌, ◌<◌, ◌≤◌, List, [], ◌∷◌, ◌++◌, length, Option, Some, slice_get, refl, sym, ap, subst, arith, append-nil}
+use Rattle.std.proofs.Common.{◌≡◌, ◌∙◌, ◌⊎◌, inl, inr, ℕ, ◌+◌, ◌<◌, ◌≤◌, List, [], ◌∷◌, ◌++◌, length, get_or, Option, Some, Result, Ok, Err, IfOk, slice_get, refl, sym, ap, subst, arith, append-nil}
 use Rattle.std.specs.Prelude.{option_map}
 use Rattle.std.specs.List.{flat_map}
 use Rattle.std.specs.Option.{option_to_list}
@@ -8,18 +8,22 @@ use Rattle.std.proofs.lemmas.Grind.{flat_map-append}
 use Rattle.std.proofs.lemmas.List.{length_push}
 use Rattle.std.proofs.lemmas.Option.{slice_get_within}
 use Rattle.tydi_base.proofs.PlaceLemmas.{slice_get-front, slice_get-next, slice_get-there}
+use Rattle.physical_stream.specs.Params.{Parameters}
 use Rattle.physical_stream.specs.Cycles.{StreamTrace}
 use Rattle.physical_stream.specs.declared.head.Head.{Head}
 use Rattle.physical_stream.specs.declared.item.Item.{Item}
 use Rattle.type_split.specs.Streams.{PlainSplit}
+use Rattle.type_split.specs.declared.split.Phys.{Phys}
 use Rattle.cycle_trace.specs.Trace.{TraceText, streams_of}
 use Rattle.cycle_trace.proofs.StreamLemmas.{length-streams, stream_of_head, stream_with}
-use Rattle.trace_decode.proofs.RowLemmas.{same_some}
+use Rattle.trace_decode.proofs.RowLemmas.{is_read, same_some}
 use Rattle.trace_decode.proofs.RunLemmas.{HasPhys, has_phys}
 use Rattle.trace_compare.specs.Differences.{AreDifferences, IsCompared}
+use Rattle.trace_compare.specs.Keeping.{ComparesStream}
 use Rattle.trace_compare.specs.Standing.{HasStream, RunsOver, TellsStream}
 use Rattle.trace_compare.specs.declared.compare_run.CompareRun.{CompareRun}
 use Rattle.trace_compare.specs.declared.difference.Difference.{Difference}
+use Rattle.trace_compare.specs.declared.stream_compared.StreamCompared.{StreamCompared}
 
 -- the differences of the first so many streams
 pub record AreTold (wants : List (List Item)) (streams : List StreamTrace) (count : ℕ) (found : List Difference) : Type 0 where
@@ -62,10 +66,21 @@ all_told wants streams count found told end = record { firsts = told.firsts; man
 
 -- ---- what the code reads
 
-module _ (split : PlainSplit) (wants : List (List Item)) (t : TraceText) (run : CompareRun) (runs : RunsOver split wants t run) where
-  pub all_states : length run.states.items ≡ length (streams_of t)
-  all_states = runs.states.many
+-- the difference of the stream that is read
+pub tells : {E : Type 0} → (split : PlainSplit) (wants : List (List Item)) (states : List StreamCompared) (i : ℕ) (phys : Phys) (want : List Item) (state : StreamCompared) (read : List Item)
+    (streams : List Phys) (dims : ℕ) (result : Result (Option Difference) E) → dims ≡ phys.params.dims → streams ≡ split.streams → phys ≡ get_or streams i phys → want ≡ get_or wants i want
+    → state ≡ get_or states i state → read ≡ want
+    → ((s : StreamTrace) → s.params.dims ≡ dims → ComparesStream read s state → IfOk result (IsCompared i read s)) → IfOk result (TellsStream split wants states i)
+tells split wants states i phys want state read streams dims (Err e) wide all is_phys is_want is_state same_read said = tt
+tells split wants states i phys want state read streams dims (Ok first) wide all is_phys is_want is_state same_read said = λ phys' want' state' s there' wanted' found' params compares.
+    let same_phys : phys ≡ phys' = is_read split.streams streams i phys' phys there' all is_phys in
+    let same_want : read ≡ want' = same_read ∙ is_read wants wants i want' want wanted' refl is_want in
+    let same_state : state ≡ state' = is_read states states i state' state found' refl is_state in
+    let deep : s.params.dims ≡ dims = ap (λ (p : Parameters). p.dims) params ∙ ap (λ (q : Phys). q.params.dims) (sym same_phys) ∙ sym wide in
+    subst (λ (w : List Item). IsCompared i w s first) same_want
+    (said s deep (subst (λ (k : StreamCompared). ComparesStream read s k) (sym same_state) (subst (λ (w : List Item). ComparesStream w s state') (sym same_want) compares)))
 
+module _ (split : PlainSplit) (wants : List (List Item)) (t : TraceText) (run : CompareRun) (runs : RunsOver split wants t run) where
   module _ (i : ℕ) (within : i < length run.states.items) where
     head : (h : Head) × (slice_get t.heads i ≡ Some h)
     head = slice_get-there t.heads i (omega (arith, within, runs.states.many, length-streams t 0 t.heads))
