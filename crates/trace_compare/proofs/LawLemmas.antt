@@ -1,12 +1,12 @@
 -- Exactly one thing is said of a text, and there are no differences exactly where the items done are the expected ones.
-use Rattle.std.proofs.Common.{◌≡◌, ◌∙◌, ◌⊎◌, inl, inr, ℕ, zero, suc, ◌+◌, ◌-◌, ◌<◌, ◌≤◌, List, [], ◌∷◌, ◌++◌, length, map, take, drop, Option, Some, None, slice_get, Result, Ok, Err, refl, sym, ap, subst, arith}
+use Rattle.std.proofs.Common.{◌≡◌, ◌∙◌, ◌⊎◌, inl, inr, ℕ, zero, suc, ◌+◌, ◌-◌, ◌<◌, ◌≤◌, List, [], ◌∷◌, ◌++◌, length, take, drop, Option, Some, None, slice_get, Result, Ok, Err, refl, sym, ap, subst, arith}
 use Rattle.std.specs.Prelude.{option_map}
 use Rattle.std.specs.List.{flat_map}
 use Rattle.std.specs.Option.{option_to_list}
 use Rattle.std.proofs.Math.Seq.{take-add}
 use Rattle.std.proofs.lemmas.Bool.{cases_lt}
 use Rattle.std.proofs.lemmas.Grind.{flat_map-append}
-use Rattle.std.proofs.lemmas.List.{length-append, length-map, take-append-drop, take_all}
+use Rattle.std.proofs.lemmas.List.{length-append, length-map, take-append-drop}
 use Rattle.std.proofs.lemmas.List.Concat.{flat_map-cons}
 use Rattle.std.proofs.lemmas.Option.{slice_get-map, slice_get_within}
 use Rattle.tydi_base.proofs.PlaceLemmas.{slice_get-there}
@@ -17,19 +17,17 @@ use Rattle.physical_stream.specs.declared.item.Item.{Item}
 use Rattle.type_split.specs.Streams.{PlainSplit}
 use Rattle.cycle_trace.specs.Trace.{TraceText, streams_of}
 use Rattle.cycle_trace.specs.TraceText.{trace_of}
-use Rattle.cycle_trace.specs.declared.fault.TraceFault.{TraceFault}
 use Rattle.cycle_trace.proofs.StreamLemmas.{length-streams}
 use Rattle.port_drive.specs.Drives.{head_of_stream, heads_of}
 use Rattle.port_drive.specs.Laws.{done_on}
 use Rattle.trace_decode.specs.Outcome as heads
 use Rattle.trace_decode.proofs.LawLemmas.{lists_same, not_other, one_place}
 use Rattle.trace_decode.proofs.RowLemmas.{same_some}
-use Rattle.trace_decode.proofs.SomeLemmas.{differ_or_same}
 use Rattle.trace_compare.specs.Differences.{AreDifferences, DifferFirst, IsCompared, IsDoneIn, IsFirstDifference, count_done, done_by}
-use Rattle.trace_compare.specs.Laws.{NoneWhereSame, OneComparison, SomeComparison}
+use Rattle.trace_compare.specs.Laws.{NoneWhereSame, OneComparison}
 use Rattle.trace_compare.specs.Places.{place_after}
 use Rattle.trace_compare.specs.Standing.{OneForEach}
-use Rattle.trace_compare.specs.Texts.{Compared, IsComparison, Misspelled, OtherHeader}
+use Rattle.trace_compare.specs.Texts.{Compared, Misspelled, OtherHeader}
 use Rattle.trace_compare.specs.declared.difference.Difference.{Difference}
 
 -- ---- no differences

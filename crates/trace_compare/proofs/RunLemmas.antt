@@ -1,5 +1,5 @@
 -- The state that a comparer keeps: before the first row, and one row more.
-use Rattle.std.proofs.Common.{◌≡◌, ◌∙◌, ◌⊎◌, inl, inr, ℕ, ◌+◌, ◌*◌, ◌/◌, ◌%◌, ◌<◌, ◌≤◌, List, [], ◌∷◌, ◌++◌, length, Option, Some, None, All, IfSome, slice_get, refl, sym, ap, subst, arith}
+use Rattle.std.proofs.Common.{◌≡◌, ◌∙◌, ◌⊎◌, inl, inr, ℕ, ◌+◌, ◌*◌, ◌/◌, ◌%◌, ◌<◌, List, [], ◌∷◌, ◌++◌, length, Some, slice_get, refl, sym, ap, subst, arith}
 use Rattle.std.specs.Prelude.{option_map}
 use Rattle.std.proofs.Math.Nat.{mod-lt}
 use Rattle.std.proofs.lemmas.List.{length-map, length_push}
@@ -8,13 +8,11 @@ use Rattle.std.proofs.lemmas.Option.{slice_get_within}
 use Rattle.tydi_base.proofs.PlaceLemmas.{same_or_other, slice_get-there}
 use Rattle.physical_stream.specs.Params.{Parameters}
 use Rattle.physical_stream.specs.Cycles.{Cycle, StreamTrace}
-use Rattle.physical_stream.specs.Signals.{Fits}
 use Rattle.physical_stream.specs.declared.head.Head.{Head}
 use Rattle.physical_stream.specs.declared.head.Header.{Header}
 use Rattle.physical_stream.specs.declared.item.Item.{Item}
 use Rattle.physical_stream.proofs.AddedLemmas.{HasMore}
 use Rattle.type_split.specs.Streams.{PlainSplit}
-use Rattle.type_split.specs.declared.split.Phys.{Phys}
 use Rattle.cycle_trace.specs.RowSink.{CanTake, IsHeader, begun_by, with_row}
 use Rattle.cycle_trace.specs.Surveying.{IsNextRow}
 use Rattle.cycle_trace.specs.Trace.{TraceText, cycles_of_stream, most_cycles, owed, params_of_heads, streams_of}
@@ -25,8 +23,8 @@ use Rattle.cycle_trace.proofs.SurveyorLemmas.{HasTurn, has_turn}
 use Rattle.port_drive.specs.Drives.{head_of_stream, heads_of}
 use Rattle.trace_decode.proofs.RowLemmas.{all-at, same_some}
 use Rattle.trace_decode.proofs.RunLemmas.{HasPhys, cycles-none, few_streams, has_phys, shown-fits}
-use Rattle.trace_compare.specs.Keeping.{ComparesStream, IsFresh, TakesCycle}
-use Rattle.trace_compare.specs.Standing.{AreFresh, AreStates, CanTakeRow, OneForEach, RunsOver, TakesRow}
+use Rattle.trace_compare.specs.Keeping.{ComparesStream, IsFresh}
+use Rattle.trace_compare.specs.Standing.{AreFresh, CanTakeRow, OneForEach, RunsOver, TakesRow}
 use Rattle.trace_compare.specs.declared.compare_run.CompareRun.{CompareRun}
 use Rattle.trace_compare.specs.declared.stream_compared.StreamCompared.{StreamCompared}
 use Rattle.trace_compare.proofs.KeepLemmas.{fresh_compares}

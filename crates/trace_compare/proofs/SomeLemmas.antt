@@ -3,10 +3,9 @@ use Rattle.std.proofs.Common.{◌≡◌, ◌∙◌, ◌⊎◌, inl, inr, ℕ, ze
 use Rattle.std.specs.List.{flat_map}
 use Rattle.std.specs.Option.{option_to_list}
 use Rattle.std.proofs.lemmas.Bool.{cases_lt}
-use Rattle.std.proofs.lemmas.List.{length-map, take_all}
+use Rattle.std.proofs.lemmas.List.{take_all}
 use Rattle.physical_stream.specs.Cycles.{Cycle, StreamTrace, items_done}
 use Rattle.physical_stream.specs.declared.item.Item.{Item}
-use Rattle.type_split.specs.Streams.{PlainSplit}
 use Rattle.cycle_trace.specs.Trace.{TraceText, streams_of}
 use Rattle.cycle_trace.specs.TraceText.{trace_of}
 use Rattle.cycle_trace.specs.declared.fault.TraceFault.{TraceFault}
@@ -16,8 +15,7 @@ use Rattle.trace_decode.proofs.SomeLemmas.{differ_or_same}
 use Rattle.trace_compare.specs.Differences.{AreDifferences, DifferFirst, IsCompared, IsDoneIn, count_done, done_by}
 use Rattle.trace_compare.specs.Laws.{SomeComparison}
 use Rattle.trace_compare.specs.Places.{place_after}
-use Rattle.trace_compare.specs.Standing.{OneForEach}
-use Rattle.trace_compare.specs.Texts.{Compared, Comparison, IsComparison, Misspelled, OtherHeader}
+use Rattle.trace_compare.specs.Texts.{Compared, Misspelled, OtherHeader}
 use Rattle.trace_compare.specs.declared.difference.Difference.{Difference}
 use Rattle.trace_compare.proofs.LawLemmas.{long_wants}
 
@@ -56,10 +54,10 @@ some_first : (number : ℕ) (want : List Item) (s : StreamTrace) → ((first : O
 some_first number want s none =
     items_differ_or_same want (done_by s)
     (λ item differ.
-        let cycle = some_cycle s item in
-        let d : Difference =
-        record { stream = number; item = item; place = place_after s.params.dims (take item want); cycle = cycle.0; want = slice_get want item; got = slice_get (done_by s) item } in
-        none (Some d) (record { stream = refl; first = differ; place = refl; cycle = cycle.1; expected = refl; done = refl }))
+    let cycle = some_cycle s item in
+    let d : Difference =
+    record { stream = number; item = item; place = place_after s.params.dims (take item want); cycle = cycle.0; want = slice_get want item; got = slice_get (done_by s) item } in
+    none (Some d) (record { stream = refl; first = differ; place = refl; cycle = cycle.1; expected = refl; done = refl }))
     (λ same. none None (sym same))
 
 -- the first differences of the streams from this number on
@@ -91,11 +89,11 @@ some_firsts number (want ∷ wants) (s ∷ streams) long none =
 
 some_differences : (wants : List (List Item)) (streams : List StreamTrace) → length wants ≡ length streams → ((differences : List Difference) → AreDifferences wants streams differences → ⊥) → ⊥
 some_differences wants streams long none = some_firsts 0 wants streams long (λ has. none (flat_map option_to_list has.firsts) (record {
-    firsts = has.firsts;
-    many = has.many;
-    each = λ i want s first wanted here there. subst (λ (n : ℕ). IsCompared n want s first) (let is : 0 + i ≡ i = omega arith in is) (has.each i want s first wanted here there);
-    are = refl;
-  }))
+  firsts = has.firsts;
+  many = has.many;
+  each = λ i want s first wanted here there. subst (λ (n : ℕ). IsCompared n want s first) (let is : 0 + i ≡ i = omega arith in is) (has.each i want s first wanted here there);
+  are = refl;
+}))
 
 pub some_comparison : SomeComparison
 some_comparison split wants lists bytes none = by_read (trace_of bytes) refl

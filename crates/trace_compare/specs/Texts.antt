@@ -1,5 +1,5 @@
 -- What a comparison says of the text of a trace (this project's own).
-use Rattle.std.specs.Prelude.{◌≡◌, ℕ, List, length, Option, Some, None, IfSome, Result, Ok, Err}
+use Rattle.std.specs.Prelude.{◌≡◌, ℕ, List, Option, Some, None, IfSome, Result, Ok, Err}
 use Rattle.std.specs.Option.{option_map}
 use Rattle.physical_stream.specs.declared.item.Item.{Item}
 use Rattle.type_split.specs.Streams.{PlainSplit}

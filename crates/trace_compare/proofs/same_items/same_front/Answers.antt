@@ -1,7 +1,7 @@
-use Rattle.std.proofs.Common.{◌≡◌, ◌∙◌, true, Some, slice_get, length, sym, ap}
+use Rattle.std.proofs.Common.{◌≡◌, ◌∙◌, true, Some, slice_get, sym, ap}
 use Rattle.std.proofs.lemmas.Option.{slice_get-get_or}
 use Rattle.physical_stream.specs.declared.item.Item.{Item}
-use Rattle.trace_compare.proofs.FrontLemmas.{front_here, same_more}
+use Rattle.trace_compare.proofs.FrontLemmas.{same_more}
 use Rattle.trace_compare.proofs.same_items.same_front.Goals as goal
 
 pub items-preserved : goal.items-preserved

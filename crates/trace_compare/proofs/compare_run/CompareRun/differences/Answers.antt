@@ -1,4 +1,4 @@
-use Rattle.std.proofs.Common.{◌≡◌, ◌∙◌, ◌<◌, List, length, sym, subst, arith, ap}
+use Rattle.std.proofs.Common.{◌<◌, List, length, sym, subst, arith}
 use Rattle.type_split.specs.Streams.{plain_split}
 use Rattle.trace_compare.specs.Standing.{HasStream, TellsStream}
 use Rattle.trace_compare.specs.declared.stream_compared.StreamCompared.{StreamCompared}

@@ -1,5 +1,5 @@
 use Rattle.std.proofs.Common.{◌≡◌, ◌∙◌, true}
-use Rattle.trace_compare.proofs.KeepLemmas.{takes-offered, takes_transfer}
+use Rattle.trace_compare.proofs.KeepLemmas.{takes_transfer}
 use Rattle.trace_compare.proofs.stream_compared.StreamCompared.see_shown.Goals as goal
 
 pub returns : goal.returns
