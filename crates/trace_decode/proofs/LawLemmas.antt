@@ -67,7 +67,7 @@ same_views : (phys : Phys) (one other : List nests.Tree) (done : List Item) → 
 same_views phys one other done is is' =
     sym (list_of-trees_of one) ∙ ap list_of (same_nests phys.params.dims (trees_of one) (trees_of other) is.depth is'.depth (is.flat_is ∙ sym is'.flat_is)) ∙ list_of-trees_of other
 
-lists_same : {A : Type 0} (xs ys : List A) → length xs ≡ length ys → ((i : ℕ) (x y : A) → slice_get xs i ≡ Some x → slice_get ys i ≡ Some y → x ≡ y) → xs ≡ ys
+pub lists_same : {A : Type 0} (xs ys : List A) → length xs ≡ length ys → ((i : ℕ) (x y : A) → slice_get xs i ≡ Some x → slice_get ys i ≡ Some y → x ≡ y) → xs ≡ ys
 lists_same [] [] long each = refl
 lists_same [] (y ∷ ys) long each = absurd (omega arith)
 lists_same (x ∷ xs) [] long each = absurd (omega arith)
@@ -184,7 +184,7 @@ same_disagreement : (split : PlainSplit) (done : List (List Item)) (one other : 
 same_disagreement split done one other is is' =
     same_some (sym is.first ∙ ap (disagreement_of split) (same_lists_of_views split is.views is'.views done is.spelled is'.spelled) ∙ is'.first)
 
-not_other : (one other : List Head) (place : ℕ) → DifferFirst one other place → one ≡ other → ⊥
+pub not_other : (one other : List Head) (place : ℕ) → DifferFirst one other place → one ≡ other → ⊥
 not_other one other place differ same = differ.differ (ap (λ (l : List Head). slice_get l place) same)
 
 -- lists that are the same up to a place have the same element before it
@@ -197,7 +197,7 @@ same_before one other place at same less = sym (taken one place at less) ∙ ap 
     taken (x ∷ l) (suc n) zero less = refl
     taken (x ∷ l) (suc n) (suc k) less = taken l n k (omega arith)
 
-one_place : (one other : List Head) (n m : ℕ) → DifferFirst one other n → DifferFirst one other m → n ≡ m
+pub one_place : (one other : List Head) (n m : ℕ) → DifferFirst one other n → DifferFirst one other m → n ≡ m
 one_place one other n m is is' = by_cases (cases_lt n m) (cases_lt m n)
   where
     by_cases : (n < m) ⊎ (m ≤ n) → (m < n) ⊎ (n ≤ m) → n ≡ m

@@ -64,7 +64,7 @@ fresh-more streams n phys kept one at within is last =
     subst (λ (l : List Phys). AreFresh l (kept ++ one ∷ [])) (sym next) (fresh-push (take n streams) phys kept one at last)
 
 -- no cycle stands in a trace without rows
-cycles-none : (t : TraceText) (stream : ℕ) → t.rows ≡ [] → cycles_of_stream t stream ≡ []
+pub cycles-none : (t : TraceText) (stream : ℕ) → t.rows ≡ [] → cycles_of_stream t stream ≡ []
 cycles-none t stream none = from t.cycles
   where
     from : (n : ℕ) → parts_below (row_in t stream) n ≡ []
@@ -104,7 +104,7 @@ few_streams heads are = grind (arith, nat_tests)
 
 -- ---- one row more
 
-shown-fits : (p q : Parameters) (shown : Option Transfer) → p ≡ q → IfSome shown (Shows p) → IfSome shown (Fits q)
+pub shown-fits : (p q : Parameters) (shown : Option Transfer) → p ≡ q → IfSome shown (Shows p) → IfSome shown (Fits q)
 shown-fits p q None same shows = tt
 shown-fits p q (Some t) same shows = subst (λ (r : Parameters). Fits r t) same shows.fits
 

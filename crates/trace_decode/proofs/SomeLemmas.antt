@@ -55,7 +55,7 @@ use Rattle.trace_decode.proofs.SeriesLemmas.{series_of_items}
 -- ---- heads
 
 -- two lists differ first at some place, or they are the same
-differ_or_same : (one other : List Head) → ((place : ℕ) → DifferFirst one other place → ⊥) → (one ≡ other → ⊥) → ⊥
+pub differ_or_same : (one other : List Head) → ((place : ℕ) → DifferFirst one other place → ⊥) → (one ≡ other → ⊥) → ⊥
 differ_or_same [] [] differ same = same refl
 differ_or_same [] (y ∷ ys) differ same = differ 0 (record { same = refl; differ = λ e. cc })
 differ_or_same (x ∷ xs) [] differ same = differ 0 (record { same = refl; differ = λ e. cc })
