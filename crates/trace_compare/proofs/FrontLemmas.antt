@@ -29,20 +29,6 @@ same_more want items place x before here there =
     take-slice_get : (l : List Item) (at : ℕ) (h : Item) → slice_get l at ≡ Some h → take (suc at) l ≡ take at l ++ h ∷ []
     take-slice_get l at h found = take-suc l at h (slice_get_within l at h found) ∙ ap (λ (k : Item). take at l ++ k ∷ []) (get_or_from_slice_get l at h h found)
 
--- another item comes, or none is expected
-pub front_here : (want items : List Item) (place : ℕ) (x : Item) → SameTo want items place → slice_get items place ≡ Some x → (slice_get want place ≡ Some x → ⊥) → IsSameFront want items place
-front_here want items place x before there unlike =
-    record { same = before.same; expected = before.expected; within = before.within; other = λ less same. unlike (same ∙ there) }
-
--- the items end
-pub front_all : (want items : List Item) (place : ℕ) → SameTo want items place → place ≡ length items → IsSameFront want items (length items)
-front_all want items place before end = record {
-  same = ap (λ (k : ℕ). take k want) (sym end) ∙ before.same ∙ ap (λ (k : ℕ). take k items) end;
-  expected = let most = before.expected in omega (arith, end);
-  within = omega arith;
-  other = λ less. absurd (omega arith);
-}
-
 -- the items of a slice up to its end
 pub front_rest : (want items : List Item) (same count : ℕ) → IsSameFront (take (length want - same) (drop same want)) items count → IsSameFront (drop same want) items count
 front_rest want items same count front =

@@ -1,5 +1,5 @@
 -- Exactly one thing is said of a text, and there are no differences exactly where the items done are the expected ones.
-use Rattle.std.proofs.Common.{◌≡◌, ◌∙◌, ◌⊎◌, inl, inr, ℕ, zero, suc, ◌+◌, ◌-◌, ◌<◌, ◌≤◌, List, [], ◌∷◌, ◌++◌, length, take, drop, Option, Some, None, slice_get, Result, Ok, Err, refl, sym, ap, subst, arith}
+use Rattle.std.proofs.Common.{◌≡◌, ◌∙◌, ◌⊎◌, inl, inr, ℕ, zero, suc, ◌+◌, ◌-◌, ◌<◌, ◌≤◌, List, [], ◌∷◌, ◌++◌, length, map, take, drop, Option, Some, None, slice_get, Result, Ok, Err, refl, sym, ap, subst, arith}
 use Rattle.std.specs.Prelude.{option_map}
 use Rattle.std.specs.List.{flat_map}
 use Rattle.std.specs.Option.{option_to_list}
@@ -24,10 +24,10 @@ use Rattle.trace_decode.specs.Outcome as heads
 use Rattle.trace_decode.proofs.LawLemmas.{lists_same, not_other, one_place}
 use Rattle.trace_decode.proofs.RowLemmas.{same_some}
 use Rattle.trace_compare.specs.Differences.{AreDifferences, DifferFirst, IsCompared, IsDoneIn, IsFirstDifference, count_done, done_by}
-use Rattle.trace_compare.specs.Laws.{NoneWhereSame, OneComparison}
+use Rattle.trace_compare.specs.Laws.{NoneSaidWhereSame, NoneWhereSame, OneComparison}
 use Rattle.trace_compare.specs.Places.{place_after}
 use Rattle.trace_compare.specs.Standing.{OneForEach}
-use Rattle.trace_compare.specs.Texts.{Compared, Misspelled, OtherHeader}
+use Rattle.trace_compare.specs.Texts.{Compared, IsComparison, Misspelled, OtherHeader}
 use Rattle.trace_compare.specs.declared.difference.Difference.{Difference}
 
 -- ---- no differences
@@ -197,3 +197,36 @@ one_comparison split wants lists bytes (Compared d) (OtherHeader m) a b =
 one_comparison split wants lists bytes (Compared d) (Compared e) a b =
     let same : b.0 ≡ a.0 = same_ok (sym b.1.0 ∙ a.1.0) in
     ap Compared (one_list wants (streams_of a.0) d e (long_wants split wants a.0 lists a.1.1.0) a.1.1.1 (subst (λ (t : TraceText). AreDifferences wants (streams_of t) e) same b.1.1.1))
+
+-- ---- no differences of a text
+
+-- no stream has a difference, where the items done are the expected ones
+no_firsts : (wants : List (List Item)) (streams : List StreamTrace) → done_on streams ≡ wants → AreDifferences wants streams []
+no_firsts wants streams same_items = record {
+  firsts = map none_of streams;
+  many = length-map streams none_of;
+  each = λ number want s first wanted here there.
+      let is : Some first ≡ Some None = sym there ∙ slice_get-map none_of streams number ∙ ap (option_map none_of) here in
+      let same : done_by s ≡ want = same_some (sym (done_there streams number s here) ∙ ap (λ (l : List (List Item)). slice_get l number) same_items ∙ wanted) in
+      subst (λ (f : Option Difference). IsCompared number want s f) (sym (same_some is)) same;
+  are = sym (nothing_left (map none_of streams) (λ i first here. all_of_map streams i first here));
+}
+  where
+    none_of : StreamTrace → Option Difference
+    none_of s = None
+
+    all_of_map : (l : List StreamTrace) (i : ℕ) (first : Option Difference) → slice_get (map none_of l) i ≡ Some first → first ≡ None
+    all_of_map [] i first here = absurd cc
+    all_of_map (s ∷ l) zero first here = sym (same_some here)
+    all_of_map (s ∷ l) (suc i) first here = all_of_map l i first here
+
+pub none_said_where_same : NoneSaidWhereSame
+none_said_where_same split wants lists bytes t read same = (there, back)
+  where
+    there : IsComparison split wants bytes (Compared []) → done_on (streams_of t) ≡ wants
+    there said =
+        let is : said.0 ≡ t = same_ok (sym said.1.0 ∙ read) in
+        (none_where_same wants (streams_of t) (long_wants split wants t lists same) [] (subst (λ (x : TraceText). AreDifferences wants (streams_of x) []) is said.1.1.1)).0 refl
+
+    back : done_on (streams_of t) ≡ wants → IsComparison split wants bytes (Compared [])
+    back same_items = (t, (read, (same, no_firsts wants (streams_of t) same_items)))

@@ -18,7 +18,7 @@ use Rattle.cycle_trace.specs.Trace.{TraceText, streams_of}
 use Rattle.cycle_trace.proofs.StreamLemmas.{length-streams, stream_of_head, stream_with}
 use Rattle.trace_decode.proofs.RowLemmas.{is_read, same_some}
 use Rattle.trace_decode.proofs.RunLemmas.{HasPhys, has_phys}
-use Rattle.trace_compare.specs.Differences.{AreDifferences, IsCompared}
+use Rattle.trace_compare.specs.Differences.{IsCompared}
 use Rattle.trace_compare.specs.Keeping.{ComparesStream}
 use Rattle.trace_compare.specs.Standing.{HasStream, RunsOver, TellsStream}
 use Rattle.trace_compare.specs.declared.compare_run.CompareRun.{CompareRun}
@@ -32,9 +32,6 @@ pub record AreTold (wants : List (List Item)) (streams : List StreamTrace) (coun
   pub each : (i : ℕ) (want : List Item) (s : StreamTrace) (first : Option Difference) → slice_get wants i ≡ Some want → slice_get streams i ≡ Some s → slice_get firsts i ≡ Some first
       → IsCompared i want s first
   pub are : found ≡ flat_map option_to_list firsts
-
-pub none_told : (wants : List (List Item)) (streams : List StreamTrace) (found : List Difference) → found ≡ [] → AreTold wants streams 0 found
-none_told wants streams found none = record { firsts = []; many = refl; each = λ i want s first wanted here there. absurd cc; are = none }
 
 -- one stream more
 pub more_told : (wants : List (List Item)) (streams : List StreamTrace) (count : ℕ) (found next : List Difference) (first : Option Difference) → AreTold wants streams count found
@@ -59,10 +56,6 @@ more_told wants streams count found next first told here now = record {
         let number : count ≡ i = omega (arith, last, told.many) in
         let compared = here want s (ap (slice_get wants) number ∙ wanted) (ap (slice_get streams) number ∙ is) in
         subst (λ (d : Option Difference). IsCompared i want s d) same (subst (λ (n : ℕ). IsCompared n want s first) number compared)
-
-pub all_told : (wants : List (List Item)) (streams : List StreamTrace) (count : ℕ) (found : List Difference) → AreTold wants streams count found → count ≡ length streams
-    → AreDifferences wants streams found
-all_told wants streams count found told end = record { firsts = told.firsts; many = told.many ∙ end; each = told.each; are = told.are }
 
 -- ---- what the code reads
 

@@ -44,6 +44,6 @@ IsCompared number want s (Some d) = IsFirstDifference number want s d
 pub record AreDifferences (wants : List (List Item)) (streams : List StreamTrace) (differences : List Difference) : Type 0 where
   pub firsts : List (Option Difference)
   pub many : length firsts ≡ length streams
-  pub each : (number : ℕ) (want : List Item) (s : StreamTrace) (first : Option Difference) → slice_get wants number ≡ Some want → slice_get streams number ≡ Some s
-      → slice_get firsts number ≡ Some first → IsCompared number want s first
+  pub each : (number : ℕ) (want : List Item) (s : StreamTrace) (first : Option Difference) → slice_get wants number ≡ Some want
+      → slice_get streams number ≡ Some s → slice_get firsts number ≡ Some first → IsCompared number want s first
   pub are : differences ≡ flat_map option_to_list firsts

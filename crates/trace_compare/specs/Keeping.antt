@@ -42,13 +42,14 @@ pub record IsSameFront (want items : List Item) (count : ℕ) : Type 0 where
 -- the state of a stream takes the items that are done in this cycle, for all cycles before it
 abbrev pub TakesItems : List Item → ℕ → List Item → (old new : StreamCompared) → Type 0
 TakesItems want cycle taken old new =
-    (p : Parameters) (cycles : List Cycle) (row : Cycle) → length cycles ≡ cycle → items_of_all p (done_in row) ≡ taken → ComparesStream want (record { params = p; cycles = cycles }) old
-    → ComparesStream want (record { params = p; cycles = cycles ++ row ∷ [] }) new
+    (p : Parameters) (cycles : List Cycle) (row : Cycle) → length cycles ≡ cycle → items_of_all p (done_in row) ≡ taken
+    → ComparesStream want (record { params = p; cycles = cycles }) old → ComparesStream want (record { params = p; cycles = cycles ++ row ∷ [] }) new
 
 -- the state of a stream with these parameters takes a row, which is that of this cycle
 abbrev pub TakesCycle : List Item → Parameters → ℕ → Cycle → (old new : StreamCompared) → Type 0
 TakesCycle want p cycle row old new =
-    (cycles : List Cycle) → length cycles ≡ cycle → ComparesStream want (record { params = p; cycles = cycles }) old → ComparesStream want (record { params = p; cycles = cycles ++ row ∷ [] }) new
+    (cycles : List Cycle) → length cycles ≡ cycle → ComparesStream want (record { params = p; cycles = cycles }) old
+    → ComparesStream want (record { params = p; cycles = cycles ++ row ∷ [] }) new
 
 -- ---- places
 

@@ -24,8 +24,8 @@ use Rattle.trace_compare.specs.declared.stream_compared.StreamCompared.{StreamCo
 pub record AreStates (wants : List (List Item)) (streams : List StreamTrace) (states : List StreamCompared) : Type 0 where
   pub many : length states ≡ length streams
   pub lists : length wants ≡ length streams
-  pub each : (i : ℕ) (want : List Item) (s : StreamTrace) (state : StreamCompared) → slice_get wants i ≡ Some want → slice_get streams i ≡ Some s → slice_get states i ≡ Some state
-      → ComparesStream want s state
+  pub each : (i : ℕ) (want : List Item) (s : StreamTrace) (state : StreamCompared) → slice_get wants i ≡ Some want → slice_get streams i ≡ Some s
+      → slice_get states i ≡ Some state → ComparesStream want s state
 
 -- so many states, of which each is fresh
 pub record AreFresh (streams : ℕ) (states : List StreamCompared) : Type 0 where
@@ -70,8 +70,8 @@ pub record TakesRow (split : PlainSplit) (wants : List (List Item)) (stream cycl
 -- the first difference of the stream of this number, or none, for all cycles that its state may stand for
 abbrev pub TellsStream : PlainSplit → List (List Item) → List StreamCompared → ℕ → Option Difference → Type 0
 TellsStream split wants states stream first =
-    (phys : Phys) (want : List Item) (state : StreamCompared) (s : StreamTrace) → slice_get split.streams stream ≡ Some phys → slice_get wants stream ≡ Some want
-    → slice_get states stream ≡ Some state → s.params ≡ phys.params → ComparesStream want s state → IsCompared stream want s first
+    (phys : Phys) (want : List Item) (state : StreamCompared) (s : StreamTrace) → slice_get split.streams stream ≡ Some phys
+    → slice_get wants stream ≡ Some want → slice_get states stream ≡ Some state → s.params ≡ phys.params → ComparesStream want s state → IsCompared stream want s first
 
 -- ---- the comparer
 

@@ -74,7 +74,8 @@ impl<'s, 't> Comparer<'s, 't> {
     #[inline(always)]
     pub(crate) fn take(&mut self, alloc: Global, row: Row<'_>) -> Result<(), Memory>
         requires { (t : TraceText) × (ComparerStands self.old (Some t) × CanTake t (cycle_in row)) }
-        ensures taken { (t : TraceText) → ComparerStands self.old (Some t) → CanTake t (cycle_in row.entry) → OnOk result (ComparerStands self.new (Some (with_row t (cycle_in row.entry)))) }
+        ensures taken { (t : TraceText) → ComparerStands self.old (Some t) → CanTake t (cycle_in row.entry)
+            → OnOk result (ComparerStands self.new (Some (with_row t (cycle_in row.entry)))) }
         ensures asked { asked_of self.new ≡ asked_of self.old }
     {
         match &mut self.stage {

@@ -86,7 +86,8 @@ fn told(
     got: Option<&Item>,
 ) -> Result<Difference, Memory>
     requires { item ≤ length want.now }
-    ensures { IfOk result (λ d. d ≡ record { stream = stream; item = item; place = place_after dims (take item want.now); cycle = cycle; want = slice_get want.now item; got = option_copied got.entry }) }
+    ensures { let place = place_after dims (take item want.now) in let expected = slice_get want.now item in
+        IfOk result (λ d. d ≡ record { stream = stream; item = item; place = place; cycle = cycle; want = expected; got = option_copied got.entry }) }
 {
     let place = place_after(alloc, dims, &want[..item])?;
     let expected = copied(alloc, item_at(want, item))?;
