@@ -46,6 +46,32 @@ $ decode p n::s.p t
 > root - = [1, 2] [];
 > // users - 3 1 2
 = 0 failing 4 16
+# compare
+$ compare p n::s.p v t
+~ namespace n { type t = Stream(data: Bits(8), dimensionality: 1, complexity: 1); streamlet s = (p: in t); }
+@ p
+~ root - = [1, 2];
+@ v
+< tydi-trace 1
+< cycles 2
+< stream - lanes 1 dims 1 level 1 element 8 user 0 forward
+< 1 1 d=01 l=0 b=1
+< 1 1 d=02 l=1 b=1
+> same
+= 0 failing 4 2
+# verilog
+$ verilog p
+< namespace a { streamlet s = (); }
+@ p
+> `default_nettype none
+> module \\a.s (
+>   input wire clk,
+>   input wire rst
+> );
+>   `include \"a.s.vh\"
+> endmodule
+> `default_nettype wire
+= 0 failing 4 20
 # bench
 $ bench p n::s.p v q
 < namespace n { streamlet s = (p: in Stream(data: Bits(2), complexity: 1)); test x of s drive p = \"root - = 2;\" plan \"tydi-plan 1

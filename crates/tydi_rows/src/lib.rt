@@ -7,6 +7,8 @@ mod bench_rows;
 #[cfg(test)]
 mod carry_rows;
 #[cfg(test)]
+mod compare_rows;
+#[cfg(test)]
 mod decode_tables;
 #[cfg(test)]
 mod design_rows;
@@ -42,3 +44,5 @@ mod trace_tables;
 mod value_rows;
 #[cfg(test)]
 mod vcd_rows;
+#[cfg(test)]
+mod verilog_rows;

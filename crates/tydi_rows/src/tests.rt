@@ -2,6 +2,7 @@
 
 use crate::bench_rows::BENCHED;
 use crate::carry_rows::CARRIED;
+use crate::compare_rows::{COMPARED, UNCOMPARED};
 use crate::decode_tables::{DECODED, VALUES_OF_TEXTS, VALUES_OF_TRACES};
 use crate::design_rows::{CLASHING, DESIGNED};
 use crate::drive_tables::{DRIVEN, RUNS, UNDRIVEN};
@@ -18,10 +19,12 @@ use crate::split_tables::{RESOLVED, SPLITS};
 use crate::trace_tables::{KINDS, LONG, ONE_STREAM, PIECES, SEVERAL_STREAMS, SURVEYED, VERSIONS};
 use crate::value_rows::{FORMLESS, MANY, RAW, READ_BACK, UNFIT};
 use crate::vcd_rows::{AGAINST_PROFILE, DUMP_WORDS, SAMPLED, UNSAMPLED};
+use crate::verilog_rows::VERILOG;
 use std::alloc::Global;
 use tydi_base::{List, Memory, Text};
 use tydi_tool::{
     answers_are_one, benches_drive_ports, causes_are_told, drives_are_legal, dumps_are_sampled,
+    traces_are_compared, written_designs_are_wired,
 };
 
 /// One less than the most bytes that a call takes or gives, where files and texts come whole.
@@ -77,6 +80,12 @@ fn decoded(rt: HostRuntime) {
 }
 
 #[test]
+fn compared(rt: HostRuntime) {
+    check_table(&rt, COMPARED, 22, CUT_SMALL);
+    check_table(&rt, UNCOMPARED, 16, WHOLE);
+}
+
+#[test]
 fn values(rt: HostRuntime) {
     check_table(&rt, READ_BACK, 20, WHOLE);
     check_table(&rt, UNFIT, 38, WHOLE);
@@ -114,6 +123,7 @@ fn carried(rt: HostRuntime) {
 fn designed(rt: HostRuntime) {
     check_table(&rt, DESIGNED, 18, CUT);
     check_table(&rt, CLASHING, 2, WHOLE);
+    check_table(&rt, VERILOG, 15, CUT);
 }
 
 #[test]
@@ -141,7 +151,7 @@ fn generated(rt: HostRuntime) {
 
 #[test]
 fn calls_that_fail(rt: HostRuntime) {
-    check_table(&rt, FAILING, 7, WHOLE);
+    check_table(&rt, FAILING, 9, WHOLE);
     check_table(&rt, LINE_THAT_FAILS, 1, WHOLE);
 }
 
@@ -197,4 +207,6 @@ fn laws() {
     drives_are_legal();
     benches_drive_ports();
     dumps_are_sampled();
+    traces_are_compared();
+    written_designs_are_wired();
 }

@@ -1,5 +1,5 @@
 -- A trace that is read as its text comes, and the answer to what arrives of it.
-use Rattle.std.proofs.Common.{◌≡◌, ◌≢◌, ◌∙◌, ℕ, zero, suc, ◌<◌, ◌≤◌, ◌⊎◌, inl, inr, Bool, true, false, cond, nat_lt, List, [], ◌∷◌, ◌++◌, length, take}
+use Rattle.std.proofs.Common.{◌≡◌, ◌∙◌, ℕ, zero, suc, ◌<◌, ◌⊎◌, inl, inr, List, [], ◌∷◌, take}
 use Rattle.std.proofs.Common.{Option, Some, None, Result, Ok, Err, IfOk, refl, sym, ap, subst, arith}
 use Rattle.std.specs.Prelude.{MatchOption}
 use Rattle.std.specs.List.{slice_get}
@@ -14,7 +14,6 @@ use Rattle.cycle_trace.specs.Faults.{fault_in}
 use Rattle.cycle_trace.specs.declared.fault.TraceFault.{TraceFault}
 use Rattle.cycle_trace.specs.declared.fault.TraceFault.TheVariants as reading
 use Rattle.link_check.specs.Carry.{FirstOther, carried}
-use Rattle.link_check.specs.KeptTexts.{if_kept, text_so_far}
 use Rattle.link_check.specs.declared.carrier.Carrier.{Carrier}
 use Rattle.link_check.specs.declared.end_heads.EndHeads.{EndHeads}
 use Rattle.link_check.specs.declared.kept_text.KeptText.{KeptText}
@@ -26,11 +25,11 @@ use Rattle.tydi_tool.specs.declared.answer.Reply.TheVariants as replies
 use Rattle.tydi_tool.specs.declared.arrivals.Arrival.{Arrival}
 use Rattle.tydi_tool.specs.declared.arrivals.Arrival.TheVariants as arrivals
 use Rattle.tydi_tool.specs.declared.arrivals.ArrivalFile.{ArrivalFile}
-use Rattle.tydi_tool.specs.Arrivals.{HasRows, IsArrival, IsNewArrival, Keeps, ReadsArrival, ReadsCycles, StandsForTrace, TellsArrived, TellsOther}
+use Rattle.tydi_tool.specs.Arrivals.{HasRows, IsArrival, IsNewArrival, Keeps, ReadsArrival, ReadsCycles, StandsForTrace, TellsArrived}
 use Rattle.tydi_tool.specs.Arrivals.{arrives_after, ends_of, other_header}
 use Rattle.tydi_tool.specs.Ask.{IsAsked, Judges}
 use Rattle.tydi_tool.specs.Laws.{HasSome, ReadsOnce}
-use Rattle.tydi_tool.specs.Outcome.{output_answer, output_limit, output_too_long_line}
+use Rattle.tydi_tool.specs.Outcome.{output_answer, output_too_long_line}
 use Rattle.tydi_tool.specs.Reading.{IsRefusedBy, ReadsAs, ReadsResult, RefusesBy}
 use Rattle.tydi_tool.specs.Refusals.{Refusal, refusal_line, refusal_of_trace}
 use Rattle.tydi_tool.specs.Words.{FileWord}

@@ -1,15 +1,15 @@
 -- The testbenches that `bench` and `testbench` write.
-use Rattle.std.proofs.Common.{◌≡◌, ◌≢◌, ℕ, ◌≤◌, ◌⊎◌, ◌↔◌, inl, inr, Bool, true, false, cond, nat_lt, List, length, Option, Some, None, Result, Ok, Err, refl, sym, ap, ◌∙◌, subst, arith}
+use Rattle.std.proofs.Common.{◌≡◌, ◌≢◌, ℕ, ◌≤◌, ◌↔◌, inl, inr, Bool, true, false, cond, nat_lt, List, length, Option, Some, Result, Ok, Err, refl, sym, ap, ◌∙◌, subst, arith}
 use Rattle.tydi_base.specs.Reading.{◌>>=◌}
 use Rattle.tydi_io.specs.Store.{Files}
 use Rattle.bench_run.specs.Traces.{trace_text_of}
 use Rattle.handshake.specs.Rows.{StreamRun}
-use Rattle.logical_value.specs.Tree.{Tree, plain_port}
+use Rattle.logical_value.specs.Tree.{plain_port}
 use Rattle.logical_value.specs.declared.value.PortValue.{PortValue}
 use Rattle.plan_text.specs.Text.{plan_of}
 use Rattle.plan_text.specs.declared.plan.Plan.{Plan}
 use Rattle.port_bench.specs.Benches.{bench_of_runs, bench_text_of}
-use Rattle.port_bench.specs.Laws.{BenchesShowTheirRuns, DrivenPortsHaveBenches, IsRunOfPlan}
+use Rattle.port_bench.specs.Laws.{BenchesShowTheirRuns, DrivenPortsHaveBenches}
 use Rattle.port_drive.specs.Drives.{Undriven, drive_of}
 use Rattle.port_drive.specs.Laws.{IsDriven, trace_of}
 use Rattle.port_drive.specs.Text.{MayDrive, drive_text, written_text}
@@ -18,20 +18,19 @@ use Rattle.til_resolve.specs.PlainProject.{PlainPort, PlainProject}
 use Rattle.til_resolve.specs.declared.project.Test.{Test}
 use Rattle.type_split.specs.Streams.{PlainSplit}
 use Rattle.value_text.specs.Reading.{IsValue}
-use Rattle.vhdl_meaning.specs.declared.run.SimRun.{SimRun}
 use Rattle.vhdl_meaning.proofs.RunFitLemmas.{runs_fit}
 use Rattle.vhdl_text.specs.Reading.{bench_of}
 use Rattle.vhdl_text.specs.Text.{bench_text}
 use Rattle.tydi_tool.specs.declared.answer.Answer.{Answer}
 use Rattle.tydi_tool.specs.declared.answer.Answer.TheVariants as answers
-use Rattle.tydi_tool.specs.Ask.{Ask, Asks, Ends, SaysBy, SaysOfFile, TellsOf, goes_on}
+use Rattle.tydi_tool.specs.Ask.{Ask, Asks, Ends, SaysBy, SaysOfFile, goes_on}
 use Rattle.tydi_tool.specs.BenchLaw.{AcceptedPortsHaveBenches, BenchesAreRefusedAsDrives, HoldsTexts, IsBenchOf, ShowsDrive, TestbenchesAreBenches, WritesBench, WritesTestbench}
 use Rattle.tydi_tool.specs.BenchLaw.{WrittenBenchesDrive, WrittenTestbenchesDrive, test_words}
 use Rattle.tydi_tool.specs.Causes as rows
 use Rattle.tydi_tool.specs.Causes.{DriveWords, HasBytes, HasDrive, HasRead, HasRun, HasTestDrive, IsBenchText, IsTestbenchText, TestWords, TextCause}
 use Rattle.tydi_tool.specs.Commands.{Says, carried_ask, planned_ask}
-use Rattle.tydi_tool.specs.DriveLaw.{Accepts, drive_words}
-use Rattle.tydi_tool.specs.Drives.{TellsBench, TellsDriven, TellsMade, carried, refusal_of_driving, refused_by}
+use Rattle.tydi_tool.specs.DriveLaw.{drive_words}
+use Rattle.tydi_tool.specs.Drives.{TellsBench, TellsDriven, TellsMade, carried}
 use Rattle.tydi_tool.specs.Files.{Lack}
 use Rattle.tydi_tool.specs.Outcome.{output_answer, output_limit, output_too_long_line}
 use Rattle.tydi_tool.specs.Ports.{port_named, split_at}
@@ -39,7 +38,7 @@ use Rattle.tydi_tool.specs.Projects.{ReadsProject}
 use Rattle.tydi_tool.specs.Refusals.{Refusal}
 use Rattle.tydi_tool.specs.Tests.{AreShort, HasPortWord, test_named, tested_port}
 use Rattle.tydi_tool.specs.Texts.{ReadsPlan, ReadsValue}
-use Rattle.tydi_tool.specs.Words.{Bench, Drive, FileWord, Request, Sim, Testbench, project_file, text_file}
+use Rattle.tydi_tool.specs.Words.{Bench, Drive, FileWord, Sim, Testbench, project_file, text_file}
 use Rattle.tydi_tool.proofs.CauseLemmas.{exactly, says-simulated, says_text}
 use Rattle.tydi_tool.proofs.CommandLemmas.{SaysBy-request}
 use Rattle.tydi_tool.proofs.DriveLawLemmas.{accepted-driven, may-drive, may-drive-by}
@@ -183,7 +182,7 @@ module _ {X : Type 0} (Reads : List ℕ → Result X (List ℕ) → Type 0) (One
   over-file word (Ok bytes) a (inl line) = inl line
   over-file word (Ok bytes) a (inr x) = inr (x.0, (x.1.0, each x.0 x.1.1))
 
-over-ask : {X : Type 0} (known : Files) (file : FileWord) (Reads : List ℕ → Result X (List ℕ) → Type 0) (one other : X → Ask) (a : Answer)
+pub over-ask : {X : Type 0} (known : Files) (file : FileWord) (Reads : List ℕ → Result X (List ℕ) → Type 0) (one other : X → Ask) (a : Answer)
     → ((x : X) → SaysBy (Some known) (one x) a → SaysBy (Some known) (other x) a) → SaysBy (Some known) (Asks file X Reads one) a → SaysBy (Some known) (Asks file X Reads other) a
 over-ask {X} known file Reads one other a each says =
     (says.0, (says.1.0, over-file Reads (λ x. SaysBy (Some known) (one x) a) (λ x. SaysBy (Some known) (other x) a) each file.word says.0 a says.1.1))
@@ -208,7 +207,7 @@ module _ (known : Files) (project port value plan : List ℕ) (One Other : Plain
       (λ v. over-ask known (text_file plan) (ReadsPlan plan split) (λ p. Ends (One split v p)) (λ p. Ends (Other split v p)) a (λ p says. each split v p says)))))
 
 -- a text is refused for its length alone
-long-alone : (text line : List ℕ) → answers.Refused line ≡ output_answer text → line ≡ output_too_long_line
+pub long-alone : (text line : List ℕ) → answers.Refused line ≡ output_answer text → line ≡ output_too_long_line
 long-alone text line is = by (nat_lt output_limit (length text)) is
   where
     by : (long : Bool) → answers.Refused line ≡ cond long (answers.Refused output_too_long_line) (answers.Done text) → line ≡ output_too_long_line

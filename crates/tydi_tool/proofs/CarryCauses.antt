@@ -1,5 +1,5 @@
 -- Each answer of `carry` comes exactly where its cause stands.
-use Rattle.std.proofs.Common.{◌≡◌, ◌∙◌, ◌++◌, ℕ, inl, inr, List, Option, Some, None, option_map, Result, Ok, Err, codes, decimal, refl, sym, ap, subst}
+use Rattle.std.proofs.Common.{◌≡◌, ◌∙◌, ◌++◌, ℕ, inl, inr, List, Option, Some, None, Result, Ok, Err, codes, decimal, refl, sym, ap, subst}
 use Rattle.tydi_base.specs.Path.{path_text}
 use Rattle.tydi_io.specs.Store.{Files}
 use Rattle.cycle_trace.specs.Trace.{TraceText}
@@ -15,18 +15,18 @@ use Rattle.port_drive.specs.Text.{written_text}
 use Rattle.tydi_tool.specs.declared.answer.Answer.{Answer}
 use Rattle.tydi_tool.specs.declared.answer.Answer.TheVariants as answers
 use Rattle.tydi_tool.specs.Arrivals.{ReadsCycles, TellsArrived}
-use Rattle.tydi_tool.specs.Ask.{Ask, Ends, SaysBy}
+use Rattle.tydi_tool.specs.Ask.{Ends, SaysBy}
 use Rattle.tydi_tool.specs.Causes as rows
 use Rattle.tydi_tool.specs.Causes.{CarryWords, HasBytes, HasCarriedFault, HasDesign, HasRead, HasTrace, IsCarriedText, IsPastClash, NoPathCause}
 use Rattle.tydi_tool.specs.Causes.{NoStreamletCause, CarriedOtherHeader, SourceClashes, carried_words, link_line}
 use Rattle.tydi_tool.specs.Commands.{arrival_ask, ask_of, carry_ask, of_design}
-use Rattle.tydi_tool.specs.Designs.{DesignWords, FindsHeads, HeadsByNets, HeadsByTop, HeadsUnder, ReadsDesign, leaf_at, no_streamlet, top_at}
+use Rattle.tydi_tool.specs.Designs.{DesignWords, FindsHeads, HeadsByNets, HeadsByTop, HeadsUnder, ReadsDesign, no_streamlet, top_at}
 use Rattle.tydi_tool.specs.Links.{refusal_of_linking}
 use Rattle.tydi_tool.specs.Outcome.{output_answer}
 use Rattle.tydi_tool.specs.Projects.{ReadsProject}
-use Rattle.tydi_tool.specs.Reading.{ReadsResult, RefusesBy}
+use Rattle.tydi_tool.specs.Reading.{ReadsResult}
 use Rattle.tydi_tool.specs.Refusals.{refusal_line, refusal_of_trace}
-use Rattle.tydi_tool.specs.Words.{Request, Carry, Check, Decode, Drive, Link, Read, Sim, Split, Vhdl, Bench, Testbench, project_file, trace_file, Vcd, Gen}
+use Rattle.tydi_tool.specs.Words.{Request, Carry, Check, Decode, Drive, Link, Read, Sim, Split, Design, Bench, Testbench, project_file, trace_file, Vcd, Gen, Compare}
 use Rattle.tydi_tool.proofs.ArrivalLemmas.{cycles-read, read-cycles}
 use Rattle.tydi_tool.proofs.CauseLines.{by_line, line_of, link_text, one_word, trace_text, two_words}
 use Rattle.tydi_tool.proofs.CauseSteps.{Told, gives_text, reaches-read, refuses_project, says-read, says-refused, told-file}
@@ -147,7 +147,7 @@ module _ (known : Files) (project top from to trace : List ℕ) (a : Answer) whe
         { heads = heads; design = design; t = t; trace = has; same = same.0; is = refl }) same.1
     tells-arrived t has (inr other) = (
       rows.OtherHeader,
-      inr (record {
+      inr (inl (record {
         words = of_carry words trace;
         named = refl;
         heads = heads;
@@ -157,7 +157,7 @@ module _ (known : Files) (project top from to trace : List ℕ) (a : Answer) whe
         stream = other.stream;
         first = other.first;
         said = other.is ∙ ap answers.Refused (two_words (codes "tydi: ") (codes "OtherHeader") (codes " ") trace (decimal other.stream) (codes "\n"));
-      }),
+      })),
     )
 
   pub told_carry : SaysBy (Some known) (carry_ask words trace) a → Told known command a
@@ -183,7 +183,7 @@ from_carried_words known (Check trace) words a named said = absurd cc
 from_carried_words known (Read project) words a named said = absurd cc
 from_carried_words known (Sim bench run) words a named said = absurd cc
 from_carried_words known (Link project) words a named said = absurd cc
-from_carried_words known (Vhdl project) words a named said = absurd cc
+from_carried_words known (Design language project) words a named said = absurd cc
 from_carried_words known (Split project port) words a named said = absurd cc
 from_carried_words known (Drive project port value plan) words a named said = absurd cc
 from_carried_words known (Decode project port trace) words a named said = absurd cc
@@ -191,6 +191,7 @@ from_carried_words known (Bench project port value plan) words a named said = ab
 from_carried_words known (Testbench project test) words a named said = absurd cc
 from_carried_words known (Vcd project port scope file) words a named said = absurd cc
 from_carried_words known (Gen project port seed count) words a named said = absurd cc
+from_carried_words known (Compare project port value trace) words a named said = absurd cc
 from_carried_words known (Carry project top from to trace) words a named said =
     subst (λ (w : CarryWords). SaysBy (Some known) (carry_ask w.design w.trace) a) (sym
     (same_carry (of_carry (of_design project top from to) trace) words named)) said

@@ -1,34 +1,27 @@
 -- The trace that `carry` writes.
-use Rattle.std.proofs.Common.{◌≡◌, ◌∙◌, ℕ, ◌≤◌, Bool, true, false, List, [], ◌∷◌, length, Option, Some, None, Result, Ok, All, Contains, refl, sym, ap, subst}
+use Rattle.std.proofs.Common.{◌≡◌, ◌∙◌, ℕ, ◌≤◌, Bool, true, false, List, [], ◌∷◌, length, Some, Ok, All, refl, sym, ap, subst}
 use Rattle.std.proofs.Common.{if◌then◌else◌}
-use Rattle.std.specs.List.{slice_get}
 use Rattle.std.proofs.lemmas.List.Elements.{All-nil, All-cons, All-head, All-tail}
 use Rattle.tydi_io.specs.Store.{Files}
 use Rattle.physical_stream.specs.StreamLine.{IsHead}
 use Rattle.physical_stream.specs.declared.head.Head.{Head}
 use Rattle.cycle_trace.specs.Spelling.{TracesAreReadAsSpelled, TracesAreSpelledAsRead}
-use Rattle.cycle_trace.specs.Trace.{IsTrace, TraceText}
 use Rattle.cycle_trace.specs.TraceText.{trace_of}
 use Rattle.cycle_trace.specs.Version.{version_of}
-use Rattle.logical_types.specs.Tree.{Ltype}
-use Rattle.til_resolve.specs.PlainProject.{PlainPort, PlainProject, PlainStreamlet}
-use Rattle.link_check.specs.Carry.{carried, head_to, heads_from, heads_of_port, heads_to}
+use Rattle.til_resolve.specs.PlainProject.{PlainPort, PlainProject}
+use Rattle.link_check.specs.Carry.{carried, head_to, heads_of_port, heads_to}
 use Rattle.link_check.specs.CarryLaws.{CompatiblePortsRise, port_at}
-use Rattle.link_check.specs.Chains.{streamlet_under}
-use Rattle.link_check.specs.Ends.{port_named, ports_at, ports_found}
 use Rattle.link_check.specs.Checked.{linked}
-use Rattle.link_check.specs.declared.end_heads.EndHeads.{EndHeads}
 use Rattle.link_check.specs.declared.leaf.LeafPort.{LeafPort}
 use Rattle.link_check.specs.declared.nets.Nets.{Nets}
 use Rattle.port_drive.specs.Forms.{TypesInFormHaveHeads}
-use Rattle.port_drive.specs.Text.{written_text}
 use Rattle.port_drive.proofs.TextLemmas.{version-fits}
-use Rattle.carried_values.specs.Laws.{Arrives, ArrivesWhole, TracesArriveWhole}
+use Rattle.carried_values.specs.Laws.{ArrivesWhole, TracesArriveWhole}
 use Rattle.tydi_tool.specs.declared.answer.Answer.TheVariants as answers
 use Rattle.tydi_tool.specs.Causes as rows
 use Rattle.tydi_tool.specs.Causes.{CarryWords, HasDesign, HasRead, HasTrace, IsCarriedText}
 use Rattle.tydi_tool.specs.CarryLaw.{LevelsRiseOnTheWay, WritesArrived, WrittenTracesArrive, carry_words}
-use Rattle.tydi_tool.specs.Designs.{DesignWords, HasHeads, ReadsDesign, leaf_at, top_at}
+use Rattle.tydi_tool.specs.Designs.{HasHeads, leaf_at, top_at}
 use Rattle.tydi_tool.specs.Words.{Carry}
 use Rattle.tydi_tool.proofs.CauseLemmas.{exactly}
 use Rattle.tydi_tool.proofs.DesignLemmas.{design-rises, found-heads, leaf-formed}

@@ -1,5 +1,5 @@
 -- The steps of a command that decodes a port, in both directions: from an answer to its cause, and from a cause to its answer.
-use Rattle.std.proofs.Common.{◌≡◌, ℕ, inl, inr, List, Option, Some, None, Result, Ok, Err, codes, decimal, refl, sym, ap, ◌∙◌, subst}
+use Rattle.std.proofs.Common.{◌≡◌, ℕ, inl, inr, List, Some, Result, Ok, Err, codes, decimal, refl, sym, ap, ◌∙◌, subst}
 use Rattle.tydi_io.specs.Store.{Files}
 use Rattle.cycle_trace.specs.Trace.{TraceText, streams_of}
 use Rattle.cycle_trace.specs.TraceText.{trace_of}

@@ -1,5 +1,5 @@
 -- Each answer comes exactly where its cause stands.
-use Rattle.std.proofs.Common.{◌≡◌, ℕ, ◌<◌, ◌≤◌, ◌⊎◌, ◌++◌, inl, inr, Bool, true, false, cond, nat_lt, List, length, Option, Some, None, option_map, Result}
+use Rattle.std.proofs.Common.{◌≡◌, ℕ, ◌<◌, ◌≤◌, ◌⊎◌, ◌++◌, inl, inr, Bool, cond, List, length, Option, Some, None, option_map, Result}
 use Rattle.std.proofs.Common.{Ok, Err, codes, decimal, refl, sym, ap, ◌∙◌, subst}
 use Rattle.std.specs.Str.Lossy.{utf8_valid_len}
 use Rattle.tydi_base.specs.Path.{path_text}
@@ -20,7 +20,6 @@ use Rattle.til_resolve.specs.PlainProject.{PlainProject}
 use Rattle.type_split.specs.Streams.{PlainSplit, clash_of}
 use Rattle.logical_value.specs.Tree.{plain_port}
 use Rattle.logical_value.specs.declared.value.PortValue.{PortValue}
-use Rattle.plan_text.specs.declared.fault.PlanFault.{PlanFault}
 use Rattle.plan_text.specs.declared.plan.Plan.{Plan}
 use Rattle.handshake.specs.Rows.{StreamRun}
 use Rattle.port_bench.specs.Benches.{bench_text_of}
@@ -32,7 +31,7 @@ use Rattle.split_text.specs.Text.{split_text}
 use Rattle.tydi_tool.specs.declared.answer.Answer.{Answer}
 use Rattle.tydi_tool.specs.declared.answer.Answer.TheVariants as answers
 use Rattle.tydi_tool.specs.declared.traces.Survey.{Survey}
-use Rattle.tydi_tool.specs.Ask.{Ask, Ends, SaysBy, TellsOf, goes_on}
+use Rattle.tydi_tool.specs.Ask.{Ask, Ends, SaysBy, goes_on}
 use Rattle.tydi_tool.specs.Causes as rows
 use Rattle.tydi_tool.specs.Causes.{Row, row_of, HasBytes, HasText, HasTraceText, HasSplit, HasDrive, HasReason, HasTraceFault, HasValueFault, HasPlanFault}
 use Rattle.tydi_tool.specs.Causes.{HasBench, HasRun, HasBenchFault, HasRunFault, HasTextFault, PortWords, DriveWords, SimWords, simulated_in, carried_in}
@@ -40,9 +39,9 @@ use Rattle.tydi_tool.specs.Causes.{driven_in, port_in, project_of, resolved_of, 
 use Rattle.tydi_tool.specs.Causes.{TooLongCause, NotUtf8Cause, LexerCause, ParserCause, ResolverCause, NoPortCause, NameClashCause, NoCarrierCause}
 use Rattle.tydi_tool.specs.Causes.{TextFaultCause, CountNotMultipleCause, NotFinishedCause, LinkFaultCause, CheckedOffence, CheckedUnfinished, OffenceCause}
 use Rattle.tydi_tool.specs.Causes.{UnfinishedCause, DecodeWords, decoded_in, link_line, ChecksLinks, PortClashes, SourceClashes, DesignClashCause}
-use Rattle.tydi_tool.specs.Causes.{at_port, IsUndriven, PortUncarried, TestClashes, TestUncarried}
+use Rattle.tydi_tool.specs.Causes.{CompareWords, ValueWords, at_port, compared_in, valued_in, IsUndriven, PortUncarried, TestClashes, TestUncarried}
 use Rattle.tydi_tool.specs.Commands.{ask_of, Says, check_ask, dump_ask, outcome_ask, carried_ask, link_ask, planned_ask, port_ask, run_ask, sim_ask, of_design}
-use Rattle.tydi_tool.specs.Commands.{vhdl_ask}
+use Rattle.tydi_tool.specs.Commands.{compared_ask, design_ask, plan_ask, valued_ask}
 use Rattle.tydi_tool.specs.Drives.{TellsBench, TellsDriven, TellsMade, carried, path_of, refusal_of_driving}
 use Rattle.tydi_tool.specs.Files.{NoFile, TooLong}
 use Rattle.tydi_tool.specs.Jobs.{TellsJob}
@@ -50,14 +49,13 @@ use Rattle.tydi_tool.specs.Lines.{legal_text}
 use Rattle.tydi_tool.specs.Outcome.{output_answer, output_limit, output_too_long_line}
 use Rattle.tydi_tool.specs.Ports.{split_at, split_unless}
 use Rattle.tydi_tool.specs.Projects.{ReadsProject}
-use Rattle.tydi_tool.specs.Refusals.{not_utf8, refusal_line, refusal_of_lexing, refusal_of_plan, refusal_of_resolving, refusal_of_trace, refusal_of_value, refusal_of_bench, refusal_of_run}
+use Rattle.tydi_tool.specs.Refusals.{not_utf8, refusal_line, refusal_of_lexing, refusal_of_resolving, refusal_of_trace, refusal_of_value, refusal_of_bench, refusal_of_run}
 use Rattle.tydi_tool.specs.Reports.{Reports, path_of_stream}
-use Rattle.tydi_tool.specs.Texts.{ReadsPlan, ReadsPlanned}
 use Rattle.tydi_tool.specs.Traces.{ReadsReading, ReadsTrace}
 use Rattle.tydi_tool.specs.Trees.{ReadsCoded, ReadsTokens, ReadsTree, refusal_of_parsing}
 use Rattle.tydi_tool.specs.Tests.{TellsTest}
 use Rattle.tydi_tool.specs.Words as requests
-use Rattle.tydi_tool.specs.Words.{Request, Check, Decode, Drive, Link, Read, Sim, Split, bench_file, project_file, text_file, trace_file, Carry, Vhdl}
+use Rattle.tydi_tool.specs.Words.{Request, Check, Decode, Drive, Link, Read, Sim, Split, bench_file, project_file, text_file, trace_file, Carry, Design}
 use Rattle.tydi_tool.proofs.AnswerLemmas.{not_read}
 use Rattle.link_check.specs.Checked.{linked}
 use Rattle.link_check.specs.Text.{nets_text}
@@ -65,11 +63,12 @@ use Rattle.link_check.specs.declared.fault.LinkFault.{LinkFault}
 use Rattle.link_check.specs.declared.nets.Nets.{Nets}
 use Rattle.vhdl_writer.specs.PortClashes.{first_clash}
 use Rattle.vhdl_writer.specs.declared.clash.Clash.{Clash}
-use Rattle.tydi_tool.specs.Entities.{TellsApart, TellsDesign, refusal_of_clash, text_of_nets}
+use Rattle.tydi_tool.specs.Entities.{TellsApart, TellsDesign, text_of_nets}
 use Rattle.tydi_tool.specs.Links.{TellsChecked, TellsLinked, TellsRefusal, refusal_of_linking}
 use Rattle.tydi_tool.specs.Refusals.{Refusal}
 use Rattle.vhdl_text.specs.Reading.{bench_of}
 use Rattle.vhdl_text.specs.declared.bench.Bench.{Bench}
+use Rattle.vhdl_text.specs.declared.language.Language.{Language}
 use Rattle.vhdl_text.specs.declared.fault.VhdlFault.{VhdlFault}
 use Rattle.vhdl_meaning.specs.RunText.{run_of}
 use Rattle.vhdl_meaning.specs.declared.run.RunFault.{RunFault}
@@ -78,12 +77,13 @@ use Rattle.bench_run.specs.Traces.{trace_text_of}
 use Rattle.tydi_tool.specs.Reading.{ReadsResult}
 use Rattle.tydi_tool.specs.Benches.{ReadsBench, ReadsRun}
 use Rattle.tydi_tool.proofs.BenchLemmas.{ReadsBench-read, ReadsRun-read, bench-read, run-read}
-use Rattle.tydi_tool.proofs.CauseLines.{bench_text, by_line, caused_row, lexer_text, line_of, link_text, one_word, parser_text, plan_text, resolver_text, run_text, same_some, three_words, trace_text, two_words, value_text}
+use Rattle.tydi_tool.proofs.CauseLines.{bench_text, by_line, caused_row, lexer_text, line_of, link_text, one_word, parser_text, resolver_text, run_text, same_some, three_words, trace_text, two_words, value_text}
+use Rattle.tydi_tool.proofs.CompareCauses.{compares, of_compare, says-compared_fault, says-compared_header, says-difference, says-same_text, told-compared}
 use Rattle.tydi_tool.proofs.CauseDecodes.{decodes, says-decoded_offence, says-decoded_unfinished, says-disagreement, says-other_header}
 use Rattle.tydi_tool.proofs.CauseDecodes.{says-port_trace_fault, says-value_text, told-decoded}
 use Rattle.tydi_tool.proofs.CauseSteps.{Told, ends_line, plan-refused, over_test, reaches-read, refuses_project, reports_end, refuses_tree, says-found, says-plan}
-use Rattle.tydi_tool.proofs.CauseSteps.{says-planned, says-port, says-read, says-refused, says-uncarried, says-value, says_lack, test_over, test_within}
-use Rattle.tydi_tool.proofs.CauseSteps.{told-carried, told-file, told-planned, told-port, within_test, gives_text}
+use Rattle.tydi_tool.proofs.CauseSteps.{says-planned, says-port, says-read, says-refused, says-uncarried, says-value, says_lack}
+use Rattle.tydi_tool.proofs.CauseSteps.{told-carried, told-file, told-planned, told-port, values, within_test, gives_text}
 use Rattle.tydi_tool.proofs.CarryCauses.{of_carry, says-unread, says_carried_fault, says_carried_text, says_no_path, says_no_streamlet, says_other_header}
 use Rattle.tydi_tool.proofs.CarryCauses.{says_source_clash, says_unlinked, told_carry}
 use Rattle.tydi_tool.proofs.DriveLemmas.{Made}
@@ -259,6 +259,9 @@ benched_next value plan split = planned_ask value plan split (TellsBench split)
 abbrev job_next : (seed count : ℕ) → PlainSplit → Ask
 job_next seed count split = Ends (TellsJob split seed count)
 
+abbrev compare_next : (value trace : List ℕ) → PlainSplit → Ask
+compare_next value trace split = valued_ask value split (compared_ask trace split)
+
 abbrev port_next : Request → PlainSplit → Ask
 port_next (Split project port) split = split_end split
 port_next (Drive project port value plan) split = goes_on (carried split) (λ done. driven_next value plan split)
@@ -266,6 +269,7 @@ port_next (Decode project port trace) split = goes_on (carried split) (λ done. 
 port_next (requests.Bench project port value plan) split = goes_on (carried split) (λ done. benched_next value plan split)
 port_next (requests.Vcd project port scope file) split = dump_ask scope file split
 port_next (requests.Gen project port seed count) split = goes_on (carried split) (λ done. job_next seed count split)
+port_next (requests.Compare project port value trace) split = goes_on (carried split) (λ done. compare_next value trace split)
 port_next request split = Ends (λ a. ⊥)
 
 -- with the split of a port that is carried
@@ -274,6 +278,7 @@ carried_next (Drive project port value plan) split = driven_next value plan spli
 carried_next (Decode project port trace) split = outcome_ask trace split
 carried_next (requests.Bench project port value plan) split = benched_next value plan split
 carried_next (requests.Gen project port seed count) split = job_next seed count split
+carried_next (requests.Compare project port value trace) split = compare_next value trace split
 carried_next request split = Ends (λ a. ⊥)
 
 -- with a value and a plan of its port
@@ -341,13 +346,13 @@ told_link known project a says =
     (λ nets is. record { bytes = bytes; file = file; read = read; reads = reads; nets = nets; nets_are = is; is = refl }) said) says
 
 -- the entities and architectures of a project
-writes_design : (known : Files) (project bytes : List ℕ) (a : Answer) (read : PlainProject) → HasBytes known project 4194304 bytes → ReadsProject project bytes (Ok read)
-    → TellsDesign project read a → Told known (Vhdl project) a
-writes_design known project bytes a read file reads says = by (first_clash read.streamlets) refl says
+writes_design : (known : Files) (language : Language) (project bytes : List ℕ) (a : Answer) (read : PlainProject) → HasBytes known project 4194304 bytes → ReadsProject project bytes (Ok read)
+    → TellsDesign language project read a → Told known (Design language project) a
+writes_design known language project bytes a read file reads says = by (first_clash read.streamlets) refl says
   where
-    by : (found : Option Clash) → first_clash read.streamlets ≡ found → TellsApart project read.streamlets found a → Told known (Vhdl project) a
+    by : (found : Option Clash) → first_clash read.streamlets ≡ found → TellsApart language project read.streamlets found a → Told known (Design language project) a
     by None apart says =
-        checks_links known (Vhdl project) project bytes a read (text_of_nets read.streamlets) (refl, apart) file reads
+        checks_links known (Design language project) project bytes a read (text_of_nets language read.streamlets) (refl, apart) file reads
         (λ nets is. record { bytes = bytes; file = file; read = read; reads = reads; apart = apart; nets = nets; nets_are = is; is = refl }) says
     by (Some clash) is says = (
       rows.NameClash,
@@ -364,11 +369,11 @@ writes_design known project bytes a read file reads says = by (first_clash read.
       }),
     )
 
-told_vhdl : (known : Files) (project : List ℕ) (a : Answer) → SaysBy (Some known) (vhdl_ask project) a → Told known (Vhdl project) a
-told_vhdl known project a says =
-    told-file known (project_file project) (ReadsProject project) (λ read. Ends (TellsDesign project read)) a (Vhdl project) (inl refl)
-    (λ bytes line file refused said. refuses_project known (Vhdl project) project bytes line a refl refl file refused said)
-    (λ bytes read file reads said. writes_design known project bytes a read file reads said) says
+told_design : (known : Files) (language : Language) (project : List ℕ) (a : Answer) → SaysBy (Some known) (design_ask language project) a → Told known (Design language project) a
+told_design known language project a says =
+    told-file known (project_file project) (ReadsProject project) (λ read. Ends (TellsDesign language project read)) a (Design language project) (inl refl)
+    (λ bytes line file refused said. refuses_project known (Design language project) project bytes line a refl refl file refused said)
+    (λ bytes read file reads said. writes_design known language project bytes a read file reads said) says
 
 pub told : (known : Files) (request : Request) (a : Answer) → SaysBy (Some known) (ask_of request) a → Told known request a
 told known (Check trace) a says =
@@ -384,7 +389,7 @@ told known (Split project port) a says =
     (λ split has said. gives_text known (Split project port) (split_text split) a (record { split = split; split_is = has; is = refl }) said) says
 told known (Drive project port value plan) a says =
     told-carried known (of_project project port) (driven_next value plan) (Drive project port value plan) a refl refl refl refl (inl refl)
-    (λ split at said. told-planned known (of_drive project port value plan) TellsDriven (Drive project port value plan) a refl split at (λ other reached. reached)
+    (λ split at said. told-planned known (of_drive project port value plan) TellsDriven (Drive project port value plan) a refl refl split at (λ other reached. reached)
     (λ read planned all tells. drives_port known (Drive project port value plan) (of_drive project port value plan) split read planned (trace_by split planned) a refl all
     (λ text is. record { split = split; value = read; plan = planned; all = all; is = is }) tells) said) says
 told known (Decode project port trace) a says =
@@ -394,12 +399,16 @@ told known (Decode project port trace) a says =
 told known (Sim bench run) a says = told_sim known bench run a says
 told known (Link project) a says = told_link known project a says
 told known (Carry project top from to trace) a says = told_carry known project top from to trace a says
-told known (Vhdl project) a says = told_vhdl known project a says
+told known (Design language project) a says = told_design known language project a says
 told known (requests.Bench project port value plan) a says =
     told-carried known (of_project project port) (benched_next value plan) (requests.Bench project port value plan) a refl refl refl refl (inl refl)
-    (λ split at said. told-planned known (of_drive project port value plan) TellsBench (requests.Bench project port value plan) a refl split at (λ other reached. reached)
+    (λ split at said. told-planned known (of_drive project port value plan) TellsBench (requests.Bench project port value plan) a refl refl split at (λ other reached. reached)
     (λ read planned all tells. drives_port known (requests.Bench project port value plan) (of_drive project port value plan) split read planned (bench_by split) a refl all
     (λ text is. record { split = split; value = read; plan = planned; all = all; is = is }) tells) said) says
+told known (requests.Compare project port value trace) a says =
+    told-carried known (of_project project port) (compare_next value trace) (requests.Compare project port value trace) a refl refl refl refl (inl refl)
+    (λ split at said. told-compared known (of_compare project port value trace) (requests.Compare project port value trace) a refl refl split at refl
+    (λ text is tells. gives_text known (requests.Compare project port value trace) text a is tells) said) says
 told known (requests.Testbench project test) a says = told_testbench known project test a says
 told known (requests.Vcd project port scope file) a says =
     told-port known (of_project project port) (dump_ask scope file) (requests.Vcd project port scope file) a refl refl refl (inl refl)
@@ -434,7 +443,7 @@ from_port known (Read project) words a named said = absurd cc
 from_port known (Sim bench run) words a named said = absurd cc
 from_port known (Link project) words a named said = absurd cc
 from_port known (Carry project top from to trace) words a named said = absurd cc
-from_port known (Vhdl project) words a named said = absurd cc
+from_port known (Design language project) words a named said = absurd cc
 from_port known (requests.Testbench project test) words a named said = absurd cc
 from_port known (Split project port) words a named said =
     subst (λ (w : PortWords). SaysBy (Some known) (port_ask w.project w.port split_end) a) (sym (same_words (of_project project port) words named)) said
@@ -448,6 +457,8 @@ from_port known (requests.Bench project port value plan) words a named said =
     subst (λ (w : PortWords). SaysBy (Some known) (carried_ask w.project w.port (benched_next value plan)) a) (sym (same_words (of_project project port) words named)) said
 from_port known (requests.Gen project port seed count) words a named said =
     subst (λ (w : PortWords). SaysBy (Some known) (carried_ask w.project w.port (job_next seed count)) a) (sym (same_words (of_project project port) words named)) said
+from_port known (requests.Compare project port value trace) words a named said =
+    subst (λ (w : PortWords). SaysBy (Some known) (carried_ask w.project w.port (compare_next value trace)) a) (sym (same_words (of_project project port) words named)) said
 
 -- the same of a port that has to be carried
 from_carried : (known : Files) (request : Request) (words : PortWords) (a : Answer) → carried_in request ≡ Some words → SaysBy (Some known) (carried_ask words.project words.port (carried_next request)) a
@@ -457,7 +468,7 @@ from_carried known (Read project) words a named said = absurd cc
 from_carried known (Sim bench run) words a named said = absurd cc
 from_carried known (Link project) words a named said = absurd cc
 from_carried known (Carry project top from to trace) words a named said = absurd cc
-from_carried known (Vhdl project) words a named said = absurd cc
+from_carried known (Design language project) words a named said = absurd cc
 from_carried known (requests.Testbench project test) words a named said = absurd cc
 from_carried known (requests.Vcd project port scope file) words a named said = absurd cc
 from_carried known (Split project port) words a named said = absurd cc
@@ -469,6 +480,8 @@ from_carried known (requests.Bench project port value plan) words a named said =
     subst (λ (w : PortWords). SaysBy (Some known) (carried_ask w.project w.port (benched_next value plan)) a) (sym (same_words (of_project project port) words named)) said
 from_carried known (requests.Gen project port seed count) words a named said =
     subst (λ (w : PortWords). SaysBy (Some known) (carried_ask w.project w.port (job_next seed count)) a) (sym (same_words (of_project project port) words named)) said
+from_carried known (requests.Compare project port value trace) words a named said =
+    subst (λ (w : PortWords). SaysBy (Some known) (carried_ask w.project w.port (compare_next value trace)) a) (sym (same_words (of_project project port) words named)) said
 
 -- the same of a port that is driven
 abbrev drives_by : Request → DriveWords → Ask
@@ -480,10 +493,11 @@ from_driven known (Read project) words a named said = absurd cc
 from_driven known (Sim bench run) words a named said = absurd cc
 from_driven known (Link project) words a named said = absurd cc
 from_driven known (Carry project top from to trace) words a named said = absurd cc
-from_driven known (Vhdl project) words a named said = absurd cc
+from_driven known (Design language project) words a named said = absurd cc
 from_driven known (requests.Testbench project test) words a named said = absurd cc
 from_driven known (requests.Vcd project port scope file) words a named said = absurd cc
 from_driven known (requests.Gen project port seed count) words a named said = absurd cc
+from_driven known (requests.Compare project port value trace) words a named said = absurd cc
 from_driven known (Split project port) words a named said = absurd cc
 from_driven known (Decode project port trace) words a named said = absurd cc
 from_driven known (Drive project port value plan) words a named said =
@@ -497,11 +511,12 @@ from_decoded known (Check trace) words a named said = absurd cc
 from_decoded known (Read project) words a named said = absurd cc
 from_decoded known (Sim bench run) words a named said = absurd cc
 from_decoded known (Link project) words a named said = absurd cc
-from_decoded known (Vhdl project) words a named said = absurd cc
+from_decoded known (Design language project) words a named said = absurd cc
 from_decoded known (requests.Bench project port value plan) words a named said = absurd cc
 from_decoded known (requests.Testbench project test) words a named said = absurd cc
 from_decoded known (requests.Vcd project port scope file) words a named said = absurd cc
 from_decoded known (requests.Gen project port seed count) words a named said = absurd cc
+from_decoded known (requests.Compare project port value trace) words a named said = absurd cc
 from_decoded known (Split project port) words a named said = absurd cc
 from_decoded known (Drive project port value plan) words a named said = absurd cc
 from_decoded known (Carry project top from to trace) words a named said = absurd cc
@@ -553,9 +568,9 @@ says_project known (Carry name top from to trace) word bytes line a project refu
     let same = same_name name word project.word_is in
     says-unread known (of_carry (of_design name top from to) trace) bytes line a
     (subst (λ (w : List ℕ). HasBytes known w 4194304 bytes) (sym same) project.file) (subst (λ (w : List ℕ). ReadsProject w bytes (Err line)) (sym same) refused) said
-says_project known (Vhdl name) word bytes line a project refused said =
+says_project known (Design language name) word bytes line a project refused said =
     let same = same_name name word project.word_is in
-    says-refused known (project_file name) (ReadsProject name) (λ read. Ends (TellsDesign name read)) a bytes line
+    says-refused known (project_file name) (ReadsProject name) (λ read. Ends (TellsDesign language name read)) a bytes line
     (subst (λ (w : List ℕ). HasBytes known w 4194304 bytes) (sym same) project.file) (subst (λ (w : List ℕ). ReadsProject w bytes (Err line)) (sym same) refused) said
 says_project known (requests.Bench name port value plan) word bytes line a project refused said =
     let same = same_name name word project.word_is in
@@ -571,6 +586,11 @@ says_project known (requests.Gen name port seed count) word bytes line a project
     let same = same_name name word project.word_is in
     from_port known (requests.Gen name port seed count) (of_project name port) a refl
     (refused_in_port known (of_project name port) (port_next (requests.Gen name port seed count)) bytes line a
+    (subst (λ (w : List ℕ). HasBytes known w 4194304 bytes) (sym same) project.file) (subst (λ (w : List ℕ). ReadsProject w bytes (Err line)) (sym same) refused) said)
+says_project known (requests.Compare name port value trace) word bytes line a project refused said =
+    let same = same_name name word project.word_is in
+    from_port known (requests.Compare name port value trace) (of_project name port) a refl
+    (refused_in_port known (of_project name port) (port_next (requests.Compare name port value trace)) bytes line a
     (subst (λ (w : List ℕ). HasBytes known w 4194304 bytes) (sym same) project.file) (subst (λ (w : List ℕ). ReadsProject w bytes (Err line)) (sym same) refused) said)
 says_project known (requests.Testbench name test) word bytes line a project refused said =
     let same = same_name name word project.word_is in
@@ -596,8 +616,8 @@ says_tree known (Link name) word bytes line a project refused said =
     says_project known (Link name) word bytes line a (record { word_is = project.word_is; file = project.file }) (inl refused) said
 says_tree known (Carry name top from to trace) word bytes line a project refused said =
     says_project known (Carry name top from to trace) word bytes line a (record { word_is = project.word_is; file = project.file }) (inl refused) said
-says_tree known (Vhdl name) word bytes line a project refused said =
-    says_project known (Vhdl name) word bytes line a (record { word_is = project.word_is; file = project.file }) (inl refused) said
+says_tree known (Design language name) word bytes line a project refused said =
+    says_project known (Design language name) word bytes line a (record { word_is = project.word_is; file = project.file }) (inl refused) said
 says_tree known (requests.Bench name port value plan) word bytes line a project refused said =
     says_project known (requests.Bench name port value plan) word bytes line a (record { word_is = project.word_is; file = project.file }) (inl refused) said
 says_tree known (requests.Vcd name port scope file) word bytes line a project refused said =
@@ -606,6 +626,8 @@ says_tree known (requests.Testbench name test) word bytes line a project refused
     says_project known (requests.Testbench name test) word bytes line a (record { word_is = project.word_is; file = project.file }) (inl refused) said
 says_tree known (requests.Gen name port seed count) word bytes line a project refused said =
     says_project known (requests.Gen name port seed count) word bytes line a (record { word_is = project.word_is; file = project.file }) (inl refused) said
+says_tree known (requests.Compare name port value trace) word bytes line a project refused said =
+    says_project known (requests.Compare name port value trace) word bytes line a (record { word_is = project.word_is; file = project.file }) (inl refused) said
 
 says_not_utf8 : (known : Files) (request : Request) (a : Answer) → NotUtf8Cause known request a → SaysBy (Some known) (ask_of request) a
 says_not_utf8 known request a cause =
@@ -683,11 +705,12 @@ says_trace_fault known (Read name) line a has said = absurd (no_word has.word ha
 says_trace_fault known (Sim bench run) line a has said = absurd (no_word has.word has.trace.word_is)
 says_trace_fault known (Link name) line a has said = absurd (no_word has.word has.trace.word_is)
 says_trace_fault known (Carry name top from to trace) line a has said = absurd (no_word has.word has.trace.word_is)
-says_trace_fault known (Vhdl name) line a has said = absurd (no_word has.word has.trace.word_is)
+says_trace_fault known (Design language name) line a has said = absurd (no_word has.word has.trace.word_is)
 says_trace_fault known (requests.Bench name port value plan) line a has said = absurd (no_word has.word has.trace.word_is)
 says_trace_fault known (requests.Testbench name test) line a has said = absurd (no_word has.word has.trace.word_is)
 says_trace_fault known (requests.Vcd name port scope file) line a has said = absurd (no_word has.word has.trace.word_is)
 says_trace_fault known (requests.Gen name port seed count) line a has said = absurd (no_word has.word has.trace.word_is)
+says_trace_fault known (requests.Compare name port value trace) line a has said = absurd (no_word has.word has.trace.word_is)
 says_trace_fault known (Split name port) line a has said = absurd (no_word has.word has.trace.word_is)
 says_trace_fault known (Drive name port value plan) line a has said = absurd (no_word has.word has.trace.word_is)
 says_trace_fault known (Decode name port trace) line a has said = absurd (no_word has.word has.trace.word_is)
@@ -700,11 +723,64 @@ says_trace_fault known (Check trace) line a has said =
     refused = subst (λ (read : Result TraceText TraceFault). ReadsReading has.word read (Err line)) (sym has.reads)
         (by_line Survey (refusal_of_trace has.word has.fault) line (trace_text has.word has.fault ∙ has.told))
 
+-- a command that reads a value of a port says the same as the rest of it after the value
+abbrev valued_next : Request → PlainSplit → PortValue → Ask
+valued_next (Drive project port value plan) split read = plan_ask plan split (TellsDriven split read)
+valued_next (requests.Bench project port value plan) split read = plan_ask plan split (TellsBench split read)
+valued_next (requests.Compare project port value trace) split read = compared_ask trace split read
+valued_next request split read = Ends (λ a. ⊥)
+
+abbrev of_value : (project port value : List ℕ) → ValueWords
+of_value project port value = record { at = of_project project port; value = value }
+
+same_valued : (one other : ValueWords) → ◌≡◌ {A = Option ValueWords} (Some one) (Some other) → one ≡ other
+same_valued one other e = cc
+
+from_valued : (known : Files) (request : Request) (words : ValueWords) (a : Answer) → valued_in request ≡ Some words → SaysBy (Some known) (values known words (valued_next request)) a → SaysBy (Some known) (ask_of request) a
+from_valued known (Check trace) words a named said = absurd cc
+from_valued known (Read project) words a named said = absurd cc
+from_valued known (Sim bench run) words a named said = absurd cc
+from_valued known (Link project) words a named said = absurd cc
+from_valued known (Carry project top from to trace) words a named said = absurd cc
+from_valued known (Design language project) words a named said = absurd cc
+from_valued known (requests.Testbench project test) words a named said = absurd cc
+from_valued known (requests.Vcd project port scope file) words a named said = absurd cc
+from_valued known (requests.Gen project port seed count) words a named said = absurd cc
+from_valued known (Split project port) words a named said = absurd cc
+from_valued known (Decode project port trace) words a named said = absurd cc
+from_valued known (Drive project port value plan) words a named said =
+    subst (λ (w : ValueWords). SaysBy (Some known) (values known w (valued_next (Drive project port value plan))) a) (sym (same_valued (of_value project port value) words named)) said
+from_valued known (requests.Bench project port value plan) words a named said =
+    subst (λ (w : ValueWords). SaysBy (Some known) (values known w (valued_next (requests.Bench project port value plan))) a) (sym (same_valued (of_value project port value) words named)) said
+from_valued known (requests.Compare project port value trace) words a named said =
+    subst (λ (w : ValueWords). SaysBy (Some known) (values known w (valued_next (requests.Compare project port value trace))) a) (sym (same_valued (of_value project port value) words named)) said
+
 says_value_fault : (known : Files) (request : Request) (line : List ℕ) (a : Answer) → HasValueFault known request line → a ≡ answers.Refused line → SaysBy (Some known) (ask_of request) a
 says_value_fault known request line a has said =
-    from_driven known request has.words a has.named
-    (says-value known has.words (driven_end request) a has.split has.at has.bytes line has.file
+    from_valued known request has.words a has.named
+    (says-value known has.words (valued_next request) a has.split has.at has.bytes line has.file
     (has.fault, (has.reads, by_line PortValue (refusal_of_value has.words.value has.fault) line (value_text has.words.value has.fault ∙ has.told))) said)
+
+-- a command that compares a trace with a value
+same_compared : (one other : CompareWords) → ◌≡◌ {A = Option CompareWords} (Some one) (Some other) → one ≡ other
+same_compared one other e = cc
+
+from_compared : (known : Files) (request : Request) (words : CompareWords) (a : Answer) → compared_in request ≡ Some words → SaysBy (Some known) (compares known words) a → SaysBy (Some known) (ask_of request) a
+from_compared known (Check trace) words a named said = absurd cc
+from_compared known (Read project) words a named said = absurd cc
+from_compared known (Sim bench run) words a named said = absurd cc
+from_compared known (Link project) words a named said = absurd cc
+from_compared known (Carry project top from to trace) words a named said = absurd cc
+from_compared known (Design language project) words a named said = absurd cc
+from_compared known (requests.Bench project port value plan) words a named said = absurd cc
+from_compared known (requests.Testbench project test) words a named said = absurd cc
+from_compared known (requests.Vcd project port scope file) words a named said = absurd cc
+from_compared known (requests.Gen project port seed count) words a named said = absurd cc
+from_compared known (Split project port) words a named said = absurd cc
+from_compared known (Drive project port value plan) words a named said = absurd cc
+from_compared known (Decode project port trace) words a named said = absurd cc
+from_compared known (requests.Compare project port value trace) words a named said =
+    subst (λ (w : CompareWords). SaysBy (Some known) (compares known w) a) (sym (same_compared (of_compare project port value trace) words named)) said
 
 says_plan_fault : (known : Files) (request : Request) (line : List ℕ) (a : Answer) → HasPlanFault known request line → a ≡ answers.Refused line → SaysBy (Some known) (ask_of request) a
 says_plan_fault known request line a has said =
@@ -724,11 +800,12 @@ from_simulated known (Drive project port value plan) words a named said = absurd
 from_simulated known (Link project) words a named said = absurd cc
 from_simulated known (Decode project port trace) words a named said = absurd cc
 from_simulated known (Carry project top from to trace) words a named said = absurd cc
-from_simulated known (Vhdl project) words a named said = absurd cc
+from_simulated known (Design language project) words a named said = absurd cc
 from_simulated known (requests.Bench project port value plan) words a named said = absurd cc
 from_simulated known (requests.Testbench project test) words a named said = absurd cc
 from_simulated known (requests.Vcd project port scope file) words a named said = absurd cc
 from_simulated known (requests.Gen project port seed count) words a named said = absurd cc
+from_simulated known (requests.Compare project port value trace) words a named said = absurd cc
 from_simulated known (Sim bench run) words a named said =
     subst (λ (w : SimWords). SaysBy (Some known) (sim_ask w.bench w.run) a) (sym (same_simulated (record { bench = bench; run = run }) words named)) said
 
@@ -773,7 +850,9 @@ says_text_fault known request line a (inr (inr (inr (inr (inr (inl has)))))) sai
 says_text_fault known request line a (inr (inr (inr (inr (inr (inr (inl has))))))) said = says_carried_fault known request line a has said
 says_text_fault known request line a (inr (inr (inr (inr (inr (inr (inr (inl has)))))))) said = says_test_value known request a line has said
 says_text_fault known request line a (inr (inr (inr (inr (inr (inr (inr (inr (inl has))))))))) said = says_test_plan known request a line has said
-says_text_fault known request line a (inr (inr (inr (inr (inr (inr (inr (inr (inr has))))))))) said = says_dump_fault known request line a has said
+says_text_fault known request line a (inr (inr (inr (inr (inr (inr (inr (inr (inr (inl has)))))))))) said = says_dump_fault known request line a has said
+says_text_fault known request line a (inr (inr (inr (inr (inr (inr (inr (inr (inr (inr has)))))))))) said =
+    from_compared known request has.words a has.named (says-compared_fault known request line a has said)
 
 -- a port that is not driven
 says_file_reason : (known : Files) (request : Request) (split : PlainSplit) (reason : Undriven) (a : Answer) → HasReason known request split reason
@@ -787,12 +866,13 @@ says_file_reason known request split reason a has said =
     ends (Sim bench run) named = absurd cc
     ends (Link project) named = absurd cc
     ends (Carry project top from to trace) named = absurd cc
-    ends (Vhdl project) named = absurd cc
+    ends (Design language project) named = absurd cc
     ends (Split project port) named = absurd cc
     ends (Decode project port trace) named = absurd cc
     ends (requests.Testbench project test) named = absurd cc
     ends (requests.Vcd project port scope file) named = absurd cc
     ends (requests.Gen project port seed count) named = absurd cc
+    ends (requests.Compare project port value trace) named = absurd cc
     ends (Drive project port value plan) named = tells-unmade split has.value has.plan (trace_by split has.plan) a reason has.is said
     ends (requests.Bench project port value plan) named = tells-unmade split has.value has.plan (bench_by split) a reason has.is said
 
@@ -819,17 +899,17 @@ says_linked known project bytes a read found file reads is tells =
     (subst (λ (r : Result Nets LinkFault). TellsChecked project (nets_text read.streamlets) r a) (sym is) tells)
 
 -- the first clash of a project that is read
-says_apart : (known : Files) (project bytes : List ℕ) (a : Answer) (read : PlainProject) (found : Option Clash) → HasBytes known project 4194304 bytes → ReadsProject project bytes (Ok read)
-    → first_clash read.streamlets ≡ found → TellsApart project read.streamlets found a → SaysBy (Some known) (vhdl_ask project) a
-says_apart known project bytes a read found file reads is tells =
-    says-read known (project_file project) (ReadsProject project) (λ one. Ends (TellsDesign project one)) a bytes read file reads
-    (subst (λ (o : Option Clash). TellsApart project read.streamlets o a) (sym is) tells)
+says_apart : (known : Files) (language : Language) (project bytes : List ℕ) (a : Answer) (read : PlainProject) (found : Option Clash) → HasBytes known project 4194304 bytes → ReadsProject project bytes (Ok read)
+    → first_clash read.streamlets ≡ found → TellsApart language project read.streamlets found a → SaysBy (Some known) (design_ask language project) a
+says_apart known language project bytes a read found file reads is tells =
+    says-read known (project_file project) (ReadsProject project) (λ one. Ends (TellsDesign language project one)) a bytes read file reads
+    (subst (λ (o : Option Clash). TellsApart language project read.streamlets o a) (sym is) tells)
 
 -- the links of a project without a clash
-says_wired : (known : Files) (project bytes : List ℕ) (a : Answer) (read : PlainProject) (found : Result Nets LinkFault) → HasBytes known project 4194304 bytes → ReadsProject project bytes (Ok read)
-    → first_clash read.streamlets ≡ None → linked read.streamlets ≡ found → TellsChecked project (text_of_nets read.streamlets) found a → SaysBy (Some known) (vhdl_ask project) a
-says_wired known project bytes a read found file reads apart is tells =
-    says_apart known project bytes a read None file reads apart (subst (λ (r : Result Nets LinkFault). TellsChecked project (text_of_nets read.streamlets) r a) (sym is) tells)
+says_wired : (known : Files) (language : Language) (project bytes : List ℕ) (a : Answer) (read : PlainProject) (found : Result Nets LinkFault) → HasBytes known project 4194304 bytes → ReadsProject project bytes (Ok read)
+    → first_clash read.streamlets ≡ None → linked read.streamlets ≡ found → TellsChecked project (text_of_nets language read.streamlets) found a → SaysBy (Some known) (design_ask language project) a
+says_wired known language project bytes a read found file reads apart is tells =
+    says_apart known language project bytes a read None file reads apart (subst (λ (r : Result Nets LinkFault). TellsChecked project (text_of_nets language read.streamlets) r a) (sym is) tells)
 
 says_design_clash : (known : Files) (request : Request) (a : Answer) → DesignClashCause known request a → SaysBy (Some known) (ask_of request) a
 says_design_clash known (Check trace) a cause = absurd (no_word cause.word cause.named)
@@ -841,12 +921,13 @@ says_design_clash known (requests.Bench name port value plan) a cause = absurd (
 says_design_clash known (requests.Testbench name test) a cause = absurd (no_word cause.word cause.named)
 says_design_clash known (requests.Vcd name port scope file) a cause = absurd (no_word cause.word cause.named)
 says_design_clash known (requests.Gen name port seed count) a cause = absurd (no_word cause.word cause.named)
+says_design_clash known (requests.Compare name port value trace) a cause = absurd (no_word cause.word cause.named)
 says_design_clash known (Link name) a cause = absurd (no_word cause.word cause.named)
 says_design_clash known (Decode name port trace) a cause = absurd (no_word cause.word cause.named)
 says_design_clash known (Carry name top from to trace) a cause = absurd (no_word cause.word cause.named)
-says_design_clash known (Vhdl name) a cause =
+says_design_clash known (Design language name) a cause =
     let same = sym (same_name name cause.word cause.named) in
-    says_apart known name cause.bytes a cause.read (Some cause.clash)
+    says_apart known language name cause.bytes a cause.read (Some cause.clash)
     (subst (λ (w : List ℕ). HasBytes known w 4194304 cause.bytes) same cause.file) (subst (λ (w : List ℕ). ReadsProject w cause.bytes (Ok cause.read)) same cause.reads) cause.is
     (cause.said ∙ ap answers.Refused (sym (two_words (codes "tydi: ") (codes "NameClash") (codes " ") (at_port cause.clash.streamlet cause.clash.port) (path_text cause.clash.path) (codes "\n"))))
 
@@ -864,6 +945,7 @@ says_link_fault known (requests.Bench name port value plan) a cause = absurd cau
 says_link_fault known (requests.Testbench name test) a cause = absurd cause.checks
 says_link_fault known (requests.Vcd name port scope file) a cause = absurd cause.checks
 says_link_fault known (requests.Gen name port seed count) a cause = absurd cause.checks
+says_link_fault known (requests.Compare name port value trace) a cause = absurd cause.checks
 says_link_fault known (Decode name port trace) a cause = absurd cause.checks
 says_link_fault known (Carry name top from to trace) a cause =
     let same = cause.checks.0 in
@@ -879,9 +961,9 @@ says_link_fault known (Link name) a cause =
     (subst (λ (w : List ℕ). HasBytes known w 4194304 cause.bytes) same cause.file) (subst (λ (w : List ℕ). ReadsProject w cause.bytes (Ok cause.read)) same cause.reads) cause.is
     (tells_by (refusal_of_linking name cause.fault) cause.line a
     (link_text name cause.fault ∙ subst (λ (w : List ℕ). link_line w cause.fault ≡ Some cause.line) same cause.told) cause.said)
-says_link_fault known (Vhdl name) a cause =
+says_link_fault known (Design language name) a cause =
     let same = cause.checks.0 in
-    says_wired known name cause.bytes a cause.read (Err cause.fault)
+    says_wired known language name cause.bytes a cause.read (Err cause.fault)
     (subst (λ (w : List ℕ). HasBytes known w 4194304 cause.bytes) same cause.file) (subst (λ (w : List ℕ). ReadsProject w cause.bytes (Ok cause.read)) same cause.reads) cause.checks.1 cause.is
     (tells_by (refusal_of_linking name cause.fault) cause.line a
     (link_text name cause.fault ∙ subst (λ (w : List ℕ). link_line w cause.fault ≡ Some cause.line) same cause.told) cause.said)
@@ -904,11 +986,12 @@ checked_offence known (Split name port) a cause = absurd (no_word cause.word cau
 checked_offence known (Drive name port value plan) a cause = absurd (no_word cause.word cause.trace.word_is)
 checked_offence known (Decode name port trace) a cause = absurd (no_word cause.word cause.trace.word_is)
 checked_offence known (Carry name top from to trace) a cause = absurd (no_word cause.word cause.trace.word_is)
-checked_offence known (Vhdl name) a cause = absurd (no_word cause.word cause.trace.word_is)
+checked_offence known (Design language name) a cause = absurd (no_word cause.word cause.trace.word_is)
 checked_offence known (requests.Bench name port value plan) a cause = absurd (no_word cause.word cause.trace.word_is)
 checked_offence known (requests.Vcd name port scope file) a cause = absurd (no_word cause.word cause.trace.word_is)
 checked_offence known (requests.Testbench name test) a cause = absurd (no_word cause.word cause.trace.word_is)
 checked_offence known (requests.Gen name port seed count) a cause = absurd (no_word cause.word cause.trace.word_is)
+checked_offence known (requests.Compare name port value trace) a cause = absurd (no_word cause.word cause.trace.word_is)
 checked_offence known (Check trace) a cause =
     let t = cause.read in
     says_surveyed known trace cause.bytes t (survey_of (Some cause.first) (first_unfinished 0 (streams_of t)) (counts_of (streams_of t))) a
@@ -923,11 +1006,12 @@ checked_unfinished known (Split name port) a cause = absurd (no_word cause.word 
 checked_unfinished known (Drive name port value plan) a cause = absurd (no_word cause.word cause.trace.word_is)
 checked_unfinished known (Decode name port trace) a cause = absurd (no_word cause.word cause.trace.word_is)
 checked_unfinished known (Carry name top from to trace) a cause = absurd (no_word cause.word cause.trace.word_is)
-checked_unfinished known (Vhdl name) a cause = absurd (no_word cause.word cause.trace.word_is)
+checked_unfinished known (Design language name) a cause = absurd (no_word cause.word cause.trace.word_is)
 checked_unfinished known (requests.Bench name port value plan) a cause = absurd (no_word cause.word cause.trace.word_is)
 checked_unfinished known (requests.Vcd name port scope file) a cause = absurd (no_word cause.word cause.trace.word_is)
 checked_unfinished known (requests.Testbench name test) a cause = absurd (no_word cause.word cause.trace.word_is)
 checked_unfinished known (requests.Gen name port seed count) a cause = absurd (no_word cause.word cause.trace.word_is)
+checked_unfinished known (requests.Compare name port value trace) a cause = absurd (no_word cause.word cause.trace.word_is)
 checked_unfinished known (Check trace) a cause =
     let t = cause.read in
     says_surveyed known trace cause.bytes t (survey_of None (Some cause.left) (counts_of (streams_of t))) a
@@ -962,13 +1046,14 @@ says_text known (Sim bench run) text a is said =
     says-simulated known bench run a is.bench is.run is.bench_is is.run_is (said ∙ ap output_answer is.is)
 says_text known (Link name) text a is said = says_linked known name is.bytes a is.read (Ok is.nets) is.file is.reads is.nets_are (said ∙ ap output_answer is.is)
 says_text known (Carry name top from to trace) text a is said = says_carried_text known (of_carry (of_design name top from to) trace) text a is said
-says_text known (Vhdl name) text a is said = says_wired known name is.bytes a is.read (Ok is.nets) is.file is.reads is.apart is.nets_are (said ∙ ap output_answer is.is)
+says_text known (Design language name) text a is said = says_wired known language name is.bytes a is.read (Ok is.nets) is.file is.reads is.apart is.nets_are (said ∙ ap output_answer is.is)
 says_text known (requests.Bench name port value plan) text a is said =
     says-planned known (of_drive name port value plan) TellsBench a is.split is.value is.plan is.all
     (tells-made is.split (bench_text_of is.split (plain_port is.value) is.plan) text a is.is said)
 says_text known (requests.Testbench name test) text a is said = says_testbench_text known (of_test name test) text a is said
 says_text known (requests.Vcd name port scope file) text a is said = says-dump_text known (of_dump name port scope file) text a is said
 says_text known (requests.Gen name port seed count) text a is said = says-summary known (of_job name port seed count) text a is said
+says_text known (requests.Compare name port value trace) text a is said = says-same_text known (of_compare name port value trace) text a is said
 
 answer_over : (text : List ℕ) → 67108864 < length text → output_answer text ≡ answers.Refused (codes "tydi: OutputTooLong\n")
 answer_over text long = ap (λ (b : Bool). cond b (answers.Refused output_too_long_line) (answers.Done text)) (over_test output_limit (length text) long)
@@ -996,11 +1081,13 @@ comes rows.CountNotMultiple known request a (inr cause) = says-job_count known r
 comes rows.NotFinished known request a cause = says_not_finished known request a cause
 comes rows.NotLinked known request a cause = says_link_fault known request a cause
 comes rows.NoPath known request a cause = says_no_path known request a cause
-comes rows.OtherHeader known request a (inr cause) = says_other_header known request a cause
+comes rows.OtherHeader known request a (inr (inl cause)) = says_other_header known request a cause
+comes rows.OtherHeader known request a (inr (inr cause)) = from_compared known request cause.words a cause.named (says-compared_header known request a cause)
 comes rows.OutputTooLong known request a cause = says_text known request cause.text a cause.is (cause.said ∙ sym (answer_over cause.text cause.long))
 comes rows.AnOffence known request a cause = says_offence known request a cause
 comes rows.AnUnfinished known request a cause = says_unfinished known request a cause
 comes rows.ADisagreement known request a cause = from_decoded known request cause.words a cause.named (says-disagreement known request a cause)
+comes rows.ADifference known request a cause = from_compared known request cause.words a cause.named (says-difference known request a cause)
 comes rows.AText known request a cause = says_text known request cause.text a cause.is (cause.said ∙ sym (answer_within cause.text cause.within))
 comes rows.NoTest known request a cause = says_no_test known request a cause
 

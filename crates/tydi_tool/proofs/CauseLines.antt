@@ -320,7 +320,8 @@ text_row known request line (inr (inr (inr (inr (inr (inl trace)))))) = trace_ro
 text_row known request line (inr (inr (inr (inr (inr (inr (inl trace))))))) = trace_row trace.words.trace line trace.fault trace.told
 text_row known request line (inr (inr (inr (inr (inr (inr (inr (inl value)))))))) = value_row (value.words.test ++ codes " value") line value.fault value.told
 text_row known request line (inr (inr (inr (inr (inr (inr (inr (inr (inl plan))))))))) = plan_row (plan.words.test ++ codes " plan") line plan.fault plan.told
-text_row known request line (inr (inr (inr (inr (inr (inr (inr (inr (inr dump))))))))) = dump_row dump.split dump.words.file line dump.fault dump.told
+text_row known request line (inr (inr (inr (inr (inr (inr (inr (inr (inr (inl dump)))))))))) = dump_row dump.split dump.words.file line dump.fault dump.told
+text_row known request line (inr (inr (inr (inr (inr (inr (inr (inr (inr (inr trace)))))))))) = trace_row trace.words.trace line trace.fault trace.told
 
 job_row : (line : List ℕ) (reason : NoJob) → job_line reason ≡ Some line → row_of (answers.Refused line) ≡ Some rows.TextFault
 job_row line TooManyLeaves told = row_by rows.TextFault _ line told refl
@@ -356,7 +357,8 @@ caused_row rows.NoCarrier known request a cause = row_as a _ rows.NoCarrier caus
 caused_row rows.TextFault known request a (inl cause) = row_as a _ rows.TextFault cause.said (text_row known request cause.line cause.faulty)
 caused_row rows.TextFault known request a (inr cause) = row_as a _ rows.TextFault cause.said (job_row cause.line cause.reason cause.told)
 caused_row rows.OtherHeader known request a (inl cause) = row_as a _ rows.OtherHeader cause.said refl
-caused_row rows.OtherHeader known request a (inr cause) = row_as a _ rows.OtherHeader cause.said refl
+caused_row rows.OtherHeader known request a (inr (inl cause)) = row_as a _ rows.OtherHeader cause.said refl
+caused_row rows.OtherHeader known request a (inr (inr cause)) = row_as a _ rows.OtherHeader cause.said refl
 caused_row rows.CountNotMultiple known request a (inl cause) = row_as a _ rows.CountNotMultiple cause.said refl
 caused_row rows.CountNotMultiple known request a (inr cause) = row_as a _ rows.CountNotMultiple cause.said refl
 caused_row rows.NotFinished known request a cause = row_as a _ rows.NotFinished cause.said refl
@@ -368,5 +370,6 @@ caused_row rows.AnOffence known request a (inr cause) = row_as a _ rows.AnOffenc
 caused_row rows.AnUnfinished known request a (inl cause) = row_as a _ rows.AnUnfinished cause.said (unfinished_row (path_of_stream cause.read.heads cause.left.stream) cause.left.end cause.line cause.told)
 caused_row rows.AnUnfinished known request a (inr cause) = row_as a _ rows.AnUnfinished cause.said (unfinished_row (path_of cause.split cause.left.stream) cause.left.end cause.line cause.told)
 caused_row rows.ADisagreement known request a cause = row_as a _ rows.ADisagreement cause.said refl
+caused_row rows.ADifference known request a cause = row_as a _ rows.ADifference cause.said refl
 caused_row rows.AText known request a cause = row_as a _ rows.AText cause.said refl
 caused_row rows.NoTest known request a cause = row_as a _ rows.NoTest cause.said refl

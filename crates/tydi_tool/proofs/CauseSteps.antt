@@ -24,8 +24,8 @@ use Rattle.physical_stream.specs.declared.end.End.{End}
 use Rattle.physical_stream.specs.declared.end.End.TheVariants as ends
 use Rattle.tydi_tool.specs.Ask.{Ask, Ends, Asks, SaysBy, SaysOfFile, goes_on}
 use Rattle.tydi_tool.specs.Causes as rows
-use Rattle.tydi_tool.specs.Causes.{Row, Reaches, HasBytes, PortWords, DriveWords, HasText, HasPort, HasSplit, HasCarried, HasValue, HasPlan, HasDrive}
-use Rattle.tydi_tool.specs.Causes.{CausedBy, carried_in, driven_in, plan_line, port_in, project_of, resolved_of, unfinished_line, IsTextOf}
+use Rattle.tydi_tool.specs.Causes.{Row, Reaches, HasBytes, PortWords, DriveWords, ValueWords, HasText, HasPort, HasSplit, HasCarried, HasValue, HasPlan, HasDrive}
+use Rattle.tydi_tool.specs.Causes.{CausedBy, carried_in, driven_in, plan_line, port_in, project_of, resolved_of, unfinished_line, valued_in, IsTextOf}
 use Rattle.tydi_tool.specs.Commands.{ask_of, carried_ask, plan_ask, planned_ask, port_ask}
 use Rattle.tydi_tool.specs.Drives.{carried, carried_unless}
 use Rattle.tydi_tool.specs.Files.{Lack, NoFile, TooLong, bytes_within, file_of, lack_line}
@@ -376,16 +376,20 @@ pub plan-refused : (word : List ℕ) (split : PlainSplit) (bytes line : List ℕ
 plan-refused word split bytes line fault is told =
     subst (λ (read : Result Plan PlanFault). ReadsPlanned word read (Err line)) (sym is) (by_line Plan (refusal_of_plan word fault) line (plan_text word fault ∙ told))
 
-module _ (known : Files) (words : DriveWords) (Tells : PlainSplit → PortValue → Plan → Answer → Type 0) where
-  -- how a command goes on with the split of a port that it drives
-  abbrev pub if_planned : PlainSplit → Ask
-  if_planned split = planned_ask words.value words.plan split (Tells split)
+-- the words of a port and a value, of those of a port that is driven
+abbrev pub value_words : DriveWords → ValueWords
+value_words words = record { at = words.at; value = words.value }
 
-  -- a command that drives a port
-  abbrev pub drives : Ask
-  drives = carried_ask words.at.project words.at.port if_planned
+module _ (known : Files) (words : ValueWords) (next : PlainSplit → PortValue → Ask) where
+  -- how a command goes on with the split of a port of which it reads a value
+  abbrev pub if_valued : PlainSplit → Ask
+  if_valued split = Asks (text_file words.value) PortValue (ReadsValue words.value split) (next split)
 
-  module _ (request : Request) (a : Answer) (named : driven_in request ≡ Some words) where
+  -- a command that reads a value of a port
+  abbrev pub values : Ask
+  values = carried_ask words.at.project words.at.port if_valued
+
+  module _ (request : Request) (a : Answer) (named : valued_in request ≡ Some words) where
     -- the text of the value is refused
     refuses_value : (split : PlainSplit) → HasCarried known words.at split → (bytes line : List ℕ) → HasBytes known words.value 16777216 bytes → ReadsValue words.value split bytes (Err line)
         → a ≡ answers.Refused line → Told known request a
@@ -408,6 +412,45 @@ module _ (known : Files) (words : DriveWords) (Tells : PlainSplit → PortValue 
       }),
     )
 
+    -- a value that is read, and what the rest says of it
+    pub told-valued : (split : PlainSplit) → HasCarried known words.at split → ((other : FileWord) → Reaches known other values → Reaches known other (ask_of request))
+        → ((value : PortValue) → HasValue known split words.value value → SaysBy (Some known) (next split value) a → Told known request a)
+        → SaysBy (Some known) (if_valued split) a → Told known request a
+    told-valued split at reached rest says =
+        told-file known (text_file words.value) (ReadsValue words.value split) (next split) a request
+        (reached (text_file words.value) (reaches-carried known words.at if_valued (text_file words.value) split at (inl refl)))
+        (refuses_value split at)
+        (λ bytes value file read said. rest value (record { bytes = bytes; file = file; reads = read }) said) says
+
+  -- the value is refused
+  pub says-value : (a : Answer) (split : PlainSplit) → HasCarried known words.at split → (bytes line : List ℕ) → HasBytes known words.value 16777216 bytes → ReadsValue words.value split bytes (Err line)
+      → a ≡ answers.Refused line → SaysBy (Some known) values a
+  says-value a split at bytes line file refused said =
+      says-carried known words.at if_valued a split at (says-refused known (text_file words.value) (ReadsValue words.value split) (next split) a bytes line file refused said)
+
+  -- the value is read, and the rest says the answer
+  pub says-valued : (a : Answer) (split : PlainSplit) → HasCarried known words.at split → (value : PortValue) → HasValue known split words.value value
+      → SaysBy (Some known) (next split value) a → SaysBy (Some known) values a
+  says-valued a split at value has said =
+      says-carried known words.at if_valued a split at (says-read known (text_file words.value) (ReadsValue words.value split) (next split) a has.bytes value has.file has.reads said)
+
+  -- the value is read, and the rest comes to a file
+  pub reaches-valued : (other : FileWord) (split : PlainSplit) → HasCarried known words.at split → (value : PortValue) → HasValue known split words.value value → Reaches known other (next split value)
+      → Reaches known other values
+  reaches-valued other split at value has reached =
+      reaches-carried known words.at if_valued other split at
+      (reaches-read known (text_file words.value) (ReadsValue words.value split) (next split) (answers.Refused []) other has.bytes value has.file has.reads reached)
+
+module _ (known : Files) (words : DriveWords) (Tells : PlainSplit → PortValue → Plan → Answer → Type 0) where
+  -- how a command goes on with a value of a port that it drives
+  abbrev pub if_planned : PlainSplit → PortValue → Ask
+  if_planned split value = plan_ask words.plan split (Tells split value)
+
+  -- a command that drives a port
+  abbrev pub drives : Ask
+  drives = carried_ask words.at.project words.at.port (λ split. planned_ask words.value words.plan split (Tells split))
+
+  module _ (request : Request) (a : Answer) (named : driven_in request ≡ Some words) (valued : valued_in request ≡ Some (value_words words)) where
     -- the text of the plan is refused
     refuses_plan : (split : PlainSplit) → HasCarried known words.at split → (value : PortValue) → HasValue known split words.value value → (bytes line : List ℕ) → HasBytes known words.plan 16777216 bytes
         → ReadsPlan words.plan split bytes (Err line) → a ≡ answers.Refused line → Told known request a
@@ -436,51 +479,28 @@ module _ (known : Files) (words : DriveWords) (Tells : PlainSplit → PortValue 
     -- a value and a plan that are read, and what the end says of them
     pub told-planned : (split : PlainSplit) → HasCarried known words.at split → ((other : FileWord) → Reaches known other drives → Reaches known other (ask_of request))
         → ((value : PortValue) (plan : Plan) → HasDrive known words split value plan → Tells split value plan a → Told known request a)
-        → SaysBy (Some known) (if_planned split) a → Told known request a
-    told-planned split at reached rest says =
-        told-file known (text_file words.value) (ReadsValue words.value split) after_value a request
-        (reached (text_file words.value) (reaches-carried known words.at if_planned (text_file words.value) split at (inl refl)))
-        (refuses_value split at)
-        (λ bytes value file read said. by_value bytes value file read said) says
+        → SaysBy (Some known) (planned_ask words.value words.plan split (Tells split)) a → Told known request a
+    told-planned split at reached rest says = told-valued known (value_words words) if_planned request a valued split at reached by_value says
       where
-        after_value : PortValue → Ask
-        after_value value = plan_ask words.plan split (Tells split value)
-
-        by_value : (bytes : List ℕ) (value : PortValue) → HasBytes known words.value 16777216 bytes → ReadsValue words.value split bytes (Ok value) → SaysBy (Some known) (after_value value) a → Told known request a
-        by_value bytes value file read said =
-            let has : HasValue known split words.value value = record { bytes = bytes; file = file; reads = read } in
+        by_value : (value : PortValue) → HasValue known split words.value value → SaysBy (Some known) (if_planned split value) a → Told known request a
+        by_value value has said =
             told-file known (text_file words.plan) (ReadsPlan words.plan split) (λ plan. Ends (Tells split value plan)) a request
-            (reached (text_file words.plan) (reaches-carried known words.at if_planned (text_file words.plan) split at
-            (reaches-read known (text_file words.value) (ReadsValue words.value split) after_value a (text_file words.plan) bytes value file read (inl refl))))
+            (reached (text_file words.plan) (reaches-valued known (value_words words) if_planned (text_file words.plan) split at value has (inl refl)))
             (refuses_plan split at value has)
             (λ plan_bytes plan plan_file plan_is tells. rest value plan
             (record { at = at; value_is = has; plan_is = record { bytes = plan_bytes; file = plan_file; reads = plan-read words.plan split plan_bytes plan plan_is } }) tells) said
-
-  -- the value is refused
-  pub says-value : (a : Answer) (split : PlainSplit) → HasCarried known words.at split → (bytes line : List ℕ) → HasBytes known words.value 16777216 bytes → ReadsValue words.value split bytes (Err line)
-      → a ≡ answers.Refused line → SaysBy (Some known) drives a
-  says-value a split at bytes line file refused said =
-      says-carried known words.at if_planned a split at
-      (says-refused known (text_file words.value) (ReadsValue words.value split) (λ value. plan_ask words.plan split (Tells split value)) a bytes line file refused said)
-
-  -- the value is read, and the rest says the answer
-  says-valued : (a : Answer) (split : PlainSplit) → HasCarried known words.at split → (value : PortValue) → HasValue known split words.value value
-      → SaysBy (Some known) (plan_ask words.plan split (Tells split value)) a → SaysBy (Some known) drives a
-  says-valued a split at value has said =
-      says-carried known words.at if_planned a split at
-      (says-read known (text_file words.value) (ReadsValue words.value split) (λ one. plan_ask words.plan split (Tells split one)) a has.bytes value has.file has.reads said)
 
   -- the plan is refused
   pub says-plan : (a : Answer) (split : PlainSplit) → HasCarried known words.at split → (value : PortValue) → HasValue known split words.value value → (bytes line : List ℕ) → HasBytes known words.plan 16777216 bytes
       → ReadsPlan words.plan split bytes (Err line) → a ≡ answers.Refused line → SaysBy (Some known) drives a
   says-plan a split at value has bytes line file refused said =
-      says-valued a split at value has
+      says-valued known (value_words words) if_planned a split at value has
       (says-refused known (text_file words.plan) (ReadsPlan words.plan split) (λ plan. Ends (Tells split value plan)) a bytes line file refused said)
 
   -- the end says the answer
   pub says-planned : (a : Answer) (split : PlainSplit) (value : PortValue) (plan : Plan) → HasDrive known words split value plan → Tells split value plan a → SaysBy (Some known) drives a
   says-planned a split value plan has tells =
-      says-valued a split has.at value has.value_is
+      says-valued known (value_words words) if_planned a split has.at value has.value_is
       (says-read known (text_file words.plan) (ReadsPlan words.plan split) (λ one. Ends (Tells split value one)) a has.plan_is.bytes plan has.plan_is.file read tells)
     where
       read : ReadsPlan words.plan split has.plan_is.bytes (Ok plan)

@@ -12,7 +12,6 @@ use Rattle.cycle_trace.specs.Survey.{first_unfinished, or_unfinished}
 use Rattle.cycle_trace.specs.Trace.{TraceText, streams_of}
 use Rattle.logical_value.specs.Fits.{fits_split}
 use Rattle.logical_value.specs.Tree.{Tree, plain_port}
-use Rattle.logical_value.specs.declared.value.PortValue.{PortValue}
 use Rattle.plan_text.specs.declared.plan.Plan.{Plan}
 use Rattle.port_drive.specs.Laws.{done_on, trace_of}
 use Rattle.port_drive.specs.Text.{IsDrivenText}
@@ -131,11 +130,11 @@ driven-alone split can value plan text driven =
     }
 
 -- a file has the same bytes in another store that has the same by this word
-same-bytes : (known after : Files) (word : List ℕ) (limit : ℕ) (bytes : List ℕ) → after word ≡ known word → HasBytes known word limit bytes → HasBytes after word limit bytes
+pub same-bytes : (known after : Files) (word : List ℕ) (limit : ℕ) (bytes : List ℕ) → after word ≡ known word → HasBytes known word limit bytes → HasBytes after word limit bytes
 same-bytes known after word limit bytes same has = record { there = same ∙ has.there; within = has.within }
 
 -- so a port is there in another store that has the same project
-same-carried : (known after : Files) (words : PortWords) (split : PlainSplit) → after words.project ≡ known words.project → HasCarried known words split → HasCarried after words split
+pub same-carried : (known after : Files) (words : PortWords) (split : PlainSplit) → after words.project ≡ known words.project → HasCarried known words split → HasCarried after words split
 same-carried known after words split same has = record {
   split_is = record {
     ltype = has.split_is.ltype;

@@ -1,9 +1,7 @@
 -- The text of a trace is read as its outcome against a port in one way, and each outcome is one answer.
-use Rattle.std.proofs.Common.{◌≡◌, ◌∙◌, ℕ, ◌<◌, inl, inr, List, [], ◌∷◌, length, Option, Some, None, Result, Ok, Err, refl, sym, ap, subst, arith}
+use Rattle.std.proofs.Common.{◌≡◌, ◌∙◌, ℕ, ◌<◌, inl, inr, List, [], ◌∷◌, length, Option, Some, Result, Ok, Err, refl, sym, ap, subst, arith}
 use Rattle.std.proofs.lemmas.List.{append-nil, length-map}
 use Rattle.std.proofs.lemmas.Option.{slice_get_within}
-use Rattle.physical_stream.specs.Cycles.{StreamTrace}
-use Rattle.physical_stream.specs.declared.head.Head.{Head}
 use Rattle.cycle_trace.specs.Survey.{UnfinishedStream, first_unfinished}
 use Rattle.cycle_trace.specs.Trace.{TraceText, streams_of}
 use Rattle.cycle_trace.specs.TraceText.{trace_of}
@@ -81,7 +79,7 @@ outcome-for trace split = (refl, λ outcome. tt)
 
 -- ---- the stream that is named
 
-many-heads : (split : PlainSplit) (t : TraceText) → t.heads ≡ heads_of split → length (streams_of t) ≡ length split.streams
+pub many-heads : (split : PlainSplit) (t : TraceText) → t.heads ≡ heads_of split → length (streams_of t) ≡ length split.streams
 many-heads split t same = length-streams t 0 t.heads ∙ ap length same ∙ length-map split.streams head_of_stream
 
 left-among : (n : ℕ) (left : Option UnfinishedStream) (u : UnfinishedStream) → IsAmong n left → left ≡ Some u → IsAmong n (Some u)

@@ -1,29 +1,28 @@
 -- The heads of a trace between two leaf ports that words name: there are some, or a line that refuses the words, and only one of these.
-use Rattle.std.proofs.Common.{◌≡◌, ◌≢◌, ◌∙◌, ℕ, zero, suc, inl, inr, Bool, true, false, cond, List, [], ◌∷◌, ◌++◌, map, Option, Some, None, option_and_then}
+use Rattle.std.proofs.Common.{◌≡◌, ◌≢◌, ◌∙◌, ℕ, zero, suc, inl, inr, List, [], ◌∷◌, ◌++◌, Option, Some, None, option_and_then}
 use Rattle.std.proofs.Common.{option_map, Result, Ok, Err, Contains, refl, sym, ap, subst, arith}
-use Rattle.std.specs.List.{find, slice_get}
+use Rattle.std.specs.List.{slice_get}
 use Rattle.physical_stream.specs.declared.head.Head.{Head}
-use Rattle.logical_types.specs.Tree.{Ltype}
 use Rattle.std.specs.Str.{bytes_eq}
 use Rattle.til_resolve.specs.PlainProject.{PlainPort, PlainProject, PlainStreamlet}
 use Rattle.til_resolve.specs.PortTypes.{IsPortType}
 use Rattle.til_resolve.proofs.PortTypeLemmas.{Contains-found}
 use Rattle.til_resolve.specs.SoundProject.{IsSoundProject}
 use Rattle.type_split.specs.Streams.{clash_of}
-use Rattle.link_check.specs.Carriers.{AreBetween, CanRise}
-use Rattle.link_check.specs.Carry.{AreAlike, LevelsRise, heads_from, heads_of_port, heads_to}
+use Rattle.link_check.specs.Carriers.{CanRise}
+use Rattle.link_check.specs.Carry.{heads_from, heads_of_port, heads_to}
 use Rattle.link_check.specs.CarryLaws.{ChainsKeepTypes, CompatiblePortsRise, HaveTypes, port_at}
-use Rattle.link_check.specs.Chains.{LeadsToSink, streamlet_under}
+use Rattle.link_check.specs.Chains.{streamlet_under}
 use Rattle.link_check.specs.Ends.{port_named, ports_at, ports_found}
 use Rattle.link_check.specs.Checked.{linked}
-use Rattle.link_check.specs.Laws.{AnswersAreOfTheProject, ChainsEndInOneSink}
+use Rattle.link_check.specs.Laws.{AnswersAreOfTheProject}
 use Rattle.link_check.specs.declared.end_heads.EndHeads.{EndHeads}
 use Rattle.link_check.specs.declared.fault.LinkFault.{LinkFault}
 use Rattle.link_check.specs.declared.fault.LinkFault.TheVariants as linking
 use Rattle.link_check.specs.declared.leaf.LeafPort.{LeafPort}
 use Rattle.link_check.specs.declared.nets.Nets.{Nets}
 use Rattle.tydi_tool.specs.Designs.{AreJoined, DesignWords, FindsHeads, HasClash, HasHeads, HasNoClash, HeadsByNets, HeadsByTop, HeadsUnder, ReadsDesign}
-use Rattle.tydi_tool.specs.Designs.{TellsClash, further_down, leaf_at, leaf_by, no_path, no_streamlet, top_at}
+use Rattle.tydi_tool.specs.Designs.{further_down, leaf_at, leaf_by, no_path, no_streamlet, top_at}
 use Rattle.tydi_tool.specs.Laws.{HasSome, ReadsOnce}
 use Rattle.tydi_tool.specs.Links.{refusal_of_linking}
 use Rattle.tydi_tool.specs.Projects.{ReadsProject}

@@ -1,5 +1,5 @@
 -- The steps that lead to the heads between two leaf ports, as the code takes them.
-use Rattle.std.proofs.Common.{◌≡◌, ◌≢◌, ◌∙◌, ℕ, suc, ◌+◌, ◌++◌, ◌⊎◌, inl, inr, Bool, true, false, cond, not, ◌&&◌, nat_eq, nat_lt, Decides, List, [], ◌∷◌, length, map, Option, Some, None, Result, Ok, Err, IfOk, refl, sym, ap, subst}
+use Rattle.std.proofs.Common.{◌≡◌, ◌≢◌, ◌∙◌, ℕ, suc, ◌+◌, ◌++◌, inl, inr, Bool, true, false, cond, not, ◌&&◌, nat_eq, nat_lt, Decides, List, [], ◌∷◌, length, map, Option, Some, None, Result, Ok, Err, IfOk, refl, sym, ap, subst}
 use Rattle.std.specs.Cmp.{unsigned_Decides}
 use Rattle.std.specs.Cmp.Lexicographic.{bytes_decides, pointwise_decides}
 use Rattle.std.specs.List.{position, position_or_len}
@@ -29,7 +29,7 @@ use Rattle.tydi_tool.specs.Designs.{AreJoined, ClashRead, DesignWords, FindsHead
 use Rattle.tydi_tool.specs.Links.{refusal_of_linking}
 use Rattle.tydi_tool.specs.Ports.{split_unless}
 use Rattle.tydi_tool.specs.Projects.{ReadsProject}
-use Rattle.tydi_tool.specs.Reading.{Gives, IsRefusedBy, ReadsAs, RefusesBy, refusal_in}
+use Rattle.tydi_tool.specs.Reading.{IsRefusedBy, ReadsAs, RefusesBy, refusal_in}
 use Rattle.tydi_tool.specs.Refusals.{Refusal, name_clash, refusal_line}
 use Rattle.tydi_tool.proofs.DesignLemmas.{leaf-last}
 

@@ -3,7 +3,7 @@ use Rattle.std.proofs.Common.{◌≡◌, ℕ, suc, ◌+◌, ◌<◌, ◌≤◌, 
 use Rattle.std.specs.Prelude.{MatchOption}
 use Rattle.tydi_base.specs.Reading.{◌>>=◌}
 use Rattle.handshake.specs.Rows.{StreamRun}
-use Rattle.logical_value.specs.Tree.{Tree, plain_port}
+use Rattle.logical_value.specs.Tree.{Tree}
 use Rattle.logical_value.specs.declared.value.PortValue.{PortValue}
 use Rattle.plan_text.specs.declared.plan.Plan.{Plan}
 use Rattle.plan_text.specs.declared.plan.StreamPlan.{StreamPlan}

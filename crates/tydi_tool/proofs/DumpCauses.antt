@@ -15,7 +15,7 @@ use Rattle.tydi_tool.specs.Commands.{ask_of, dump_ask, port_ask}
 use Rattle.tydi_tool.specs.Dumps.{ReadsDump, refusal_of_dump, wanted_of}
 use Rattle.tydi_tool.specs.Outcome.{output_answer}
 use Rattle.tydi_tool.specs.Reading.{ReadsResult}
-use Rattle.tydi_tool.specs.Words.{Request, Check, Decode, Drive, Link, Read, Sim, Split, Carry, Vhdl, Bench, Testbench, Vcd, Gen, dump_file}
+use Rattle.tydi_tool.specs.Words.{Request, Check, Decode, Drive, Link, Read, Sim, Split, Carry, Design, Bench, Testbench, Vcd, Gen, Compare, dump_file}
 use Rattle.tydi_tool.proofs.CauseLines.{by_line, dump_text, line_of}
 use Rattle.tydi_tool.proofs.CauseSteps.{Told, reaches-port, says-port, says-read, says-refused, told-file}
 use Rattle.tydi_tool.proofs.DumpLemmas.{dump-read, read-dump}
@@ -44,7 +44,7 @@ module _ (known : Files) (words : DumpWords) where
           rows.TextFault,
           inl (record {
             line = line;
-            faulty = inr (inr (inr (inr (inr (inr (inr (inr (inr (record {
+            faulty = inr (inr (inr (inr (inr (inr (inr (inr (inr (inl (record {
               words = words;
               named = named;
               split = split;
@@ -54,7 +54,7 @@ module _ (known : Files) (words : DumpWords) where
               fault = fault;
               reads = is;
               told = sym (dump_text split words.file fault) ∙ line_of TraceText (refusal_of_dump split words.file fault) line refused;
-            })))))))));
+            }))))))))));
             said = said;
           }),
         )
@@ -110,10 +110,11 @@ from_sampled known (Decode project port trace) words a named said = absurd cc
 from_sampled known (Sim bench run) words a named said = absurd cc
 from_sampled known (Link project) words a named said = absurd cc
 from_sampled known (Carry project top from to trace) words a named said = absurd cc
-from_sampled known (Vhdl project) words a named said = absurd cc
+from_sampled known (Design language project) words a named said = absurd cc
 from_sampled known (Bench project port value plan) words a named said = absurd cc
 from_sampled known (Testbench project test) words a named said = absurd cc
 from_sampled known (Gen project port seed count) words a named said = absurd cc
+from_sampled known (Compare project port value trace) words a named said = absurd cc
 from_sampled known (Vcd project port scope file) words a named said =
     subst (λ (w : DumpWords). SaysBy (Some known) (samples known w) a) (sym (same_dump (of_dump project port scope file) words named)) said
 

@@ -1,16 +1,13 @@
 -- The trace that `vcd` writes.
-use Rattle.std.proofs.Common.{◌≡◌, ◌∙◌, ℕ, ◌≤◌, List, length, Some, Ok, refl, sym, ap, subst}
+use Rattle.std.proofs.Common.{◌≡◌, ◌∙◌, ℕ, ◌≤◌, List, length, refl, sym, ap, subst}
 use Rattle.tydi_io.specs.Store.{Files}
 use Rattle.cycle_trace.specs.Spelling.{TracesAreReadAsSpelled}
-use Rattle.cycle_trace.specs.Trace.{TraceText, are_heads}
 use Rattle.cycle_trace.specs.TraceText.{trace_of}
 use Rattle.cycle_trace.specs.Version.{version_of}
 use Rattle.physical_stream.specs.StreamLine.{IsHead}
-use Rattle.physical_stream.specs.declared.head.Head.{Head}
 use Rattle.logical_types.specs.Tree.{Ltype}
-use Rattle.port_drive.specs.Drives.{heads_of}
 use Rattle.port_drive.specs.Forms.{TypesInFormHaveHeads}
-use Rattle.port_drive.specs.Text.{AreHeadsInForm, PortHeadsStandTogether, written_text}
+use Rattle.port_drive.specs.Text.{AreHeadsInForm, PortHeadsStandTogether}
 use Rattle.port_drive.proofs.TextLemmas.{version-fits}
 use Rattle.std.specs.List.{All}
 use Rattle.type_split.specs.Streams.{IsPortSplit, PlainSplit}

@@ -1,6 +1,6 @@
 -- A dump is read in one way, and always; and a reader of it, which keeps the text of the trace.
-use Rattle.std.proofs.Common.{◌≡◌, ◌∙◌, ℕ, ◌+◌, ◌<◌, ◌^◌, ◌⊎◌, inl, inr, Bool, true, false, List, [], ◌∷◌, ◌++◌, length, nat_lt, cond}
-use Rattle.std.proofs.Common.{Option, Some, None, Result, Ok, Err, refl, sym, ap, subst, arith}
+use Rattle.std.proofs.Common.{◌≡◌, ◌∙◌, ℕ, ◌<◌, ◌⊎◌, inl, inr, Bool, true, false, List, [], ◌∷◌, length, nat_lt, cond}
+use Rattle.std.proofs.Common.{Option, Some, None, Result, Ok, Err, refl, sym, ap, subst}
 use Rattle.std.specs.Prelude.{MatchOption}
 use Rattle.std.proofs.lemmas.List.{append-nil, length-map}
 use Rattle.tydi_io.specs.Store.{Files}
@@ -17,7 +17,6 @@ use Rattle.vcd_read.specs.Wanted.{Wanted}
 use Rattle.vcd_read.specs.declared.dump_text.DumpText.{DumpText}
 use Rattle.vcd_read.specs.declared.fault.VcdFault.{VcdFault}
 use Rattle.vcd_read.specs.declared.fault.VcdFault.TheVariants as faults
-use Rattle.tydi_tool.specs.declared.answer.Answer.{Answer}
 use Rattle.tydi_tool.specs.declared.answer.Answer.TheVariants as answers
 use Rattle.tydi_tool.specs.declared.answer.Reply.{Reply}
 use Rattle.tydi_tool.specs.declared.answer.Reply.TheVariants as replies
@@ -28,7 +27,6 @@ use Rattle.tydi_tool.specs.Dumps.{IsFedSome, IsKeptText, IsNewDump, NamesStream,
 use Rattle.tydi_tool.specs.Laws.{AsksAlways, AsksOnce, HasSome, ReadsOnce}
 use Rattle.tydi_tool.specs.Outcome.{output_answer, output_limit}
 use Rattle.tydi_tool.specs.Reading.{IsRefusedBy, ReadsAs, ReadsResult, RefusesBy}
-use Rattle.tydi_tool.specs.Refusals.{Refusal}
 use Rattle.tydi_tool.specs.Words.{FileWord, dump_file}
 use Rattle.tydi_tool.proofs.AskLemmas.{Judges-either}
 use Rattle.tydi_tool.proofs.BenchLemmas.{result-apart, result-lines, result-read, result-same, result-some}

@@ -1,11 +1,11 @@
 -- The causes of the answers of `gen`.
-use Rattle.std.proofs.Common.{◌≡◌, ◌∙◌, ℕ, inl, inr, ◌++◌, List, Option, Some, None, Result, Ok, Err, codes, decimal, refl, sym, ap, subst}
+use Rattle.std.proofs.Common.{◌≡◌, ◌∙◌, ℕ, inr, List, Option, Some, Result, Ok, Err, codes, decimal, refl, sym, ap, subst}
 use Rattle.tydi_base.specs.Path.{path_text}
 use Rattle.tydi_base.specs.Reading.{◌>>=◌}
 use Rattle.tydi_io.specs.Store.{Files}
 use Rattle.port_drive.specs.Drives as driving
 use Rattle.port_gen.specs.Jobs.{Job, NoJob, NotDriven, TooManyCycles, TooManyLeaves, job_of, job_value}
-use Rattle.port_gen.specs.Summaries.{Summary, job_trace, summary_of, summary_of_trace}
+use Rattle.port_gen.specs.Summaries.{Summary, job_trace, summary_of_trace}
 use Rattle.port_gen.proofs.StartLemmas.{jobs-never-unfinished}
 use Rattle.type_split.specs.Streams.{PlainSplit}
 use Rattle.tydi_tool.specs.declared.answer.Answer.{Answer}
@@ -17,8 +17,8 @@ use Rattle.tydi_tool.specs.Commands.{ask_of, carried_ask}
 use Rattle.tydi_tool.specs.Drives.{path_of}
 use Rattle.tydi_tool.specs.Jobs.{TellsJob, refusal_of_job, summary_text, text_of_job}
 use Rattle.tydi_tool.specs.Outcome.{output_answer}
-use Rattle.tydi_tool.specs.Refusals.{Refusal, refusal_line}
-use Rattle.tydi_tool.specs.Words.{Request, Bench, Carry, Check, Decode, Drive, Gen, Link, Read, Sim, Split, Testbench, Vcd, Vhdl}
+use Rattle.tydi_tool.specs.Refusals.{refusal_line}
+use Rattle.tydi_tool.specs.Words.{Request, Bench, Carry, Check, Decode, Drive, Gen, Link, Read, Sim, Split, Testbench, Vcd, Design, Compare}
 use Rattle.tydi_tool.proofs.CauseLines.{same_some, three_words}
 use Rattle.tydi_tool.proofs.CauseSteps.{Told, gives_text, says-carried}
 
@@ -93,7 +93,8 @@ from_generated known (Decode project port trace) words a named said = absurd cc
 from_generated known (Sim bench run) words a named said = absurd cc
 from_generated known (Link project) words a named said = absurd cc
 from_generated known (Carry project top from to trace) words a named said = absurd cc
-from_generated known (Vhdl project) words a named said = absurd cc
+from_generated known (Design language project) words a named said = absurd cc
+from_generated known (Compare project port value trace) words a named said = absurd cc
 from_generated known (Bench project port value plan) words a named said = absurd cc
 from_generated known (Testbench project test) words a named said = absurd cc
 from_generated known (Vcd project port scope file) words a named said = absurd cc

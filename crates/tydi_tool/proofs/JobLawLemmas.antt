@@ -1,16 +1,15 @@
 -- The text that `gen` writes.
-use Rattle.std.proofs.Common.{◌≡◌, ◌∙◌, ℕ, ◌≤◌, List, length, None, Some, Result, Ok, Err, refl, sym, ap, subst}
+use Rattle.std.proofs.Common.{◌≡◌, ◌∙◌, ℕ, ◌≤◌, List, length, Result, Ok, Err, refl, sym, ap, subst}
 use Rattle.tydi_base.specs.Reading.{◌>>=◌}
 use Rattle.tydi_io.specs.Store.{Files}
 use Rattle.handshake.specs.Rows.{StreamRun}
 use Rattle.logical_types.specs.Tree.{Ltype}
 use Rattle.port_drive.specs.Drives.{Undriven}
 use Rattle.port_drive.specs.Laws.{trace_of}
-use Rattle.port_drive.specs.Text.{AreHeadsInForm, drive_text, written_text}
+use Rattle.port_drive.specs.Text.{AreHeadsInForm, written_text}
 use Rattle.port_drive.proofs.FormLemmas.{types-have-heads}
 use Rattle.port_gen.specs.Jobs.{Job, NoJob, job_of, job_value}
-use Rattle.port_gen.specs.Laws.{IsCarried, JobsAreCarried}
-use Rattle.port_gen.specs.Plans.{job_plan}
+use Rattle.port_gen.specs.Laws.{JobsAreCarried}
 use Rattle.port_gen.specs.Summaries.{Summary, job_trace, summary_of, summary_of_trace}
 use Rattle.trace_decode.specs.Standing.{CanDecode}
 use Rattle.type_split.specs.Streams.{PlainSplit}

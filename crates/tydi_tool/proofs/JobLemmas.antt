@@ -1,13 +1,10 @@
 -- The answer of `gen`.
-use Rattle.std.proofs.Common.{◌≡◌, ◌∙◌, ◌⊎◌, inr, ℕ, ◌<◌, List, length, Option, None, Some, option_map, Result, Ok, Err, refl, sym, ap, subst, arith}
+use Rattle.std.proofs.Common.{◌≡◌, ◌∙◌, ◌⊎◌, inr, ℕ, List, length, Option, None, Some, option_map, Result, Ok, Err, refl, sym, ap, subst, arith}
 use Rattle.std.specs.Prelude.{IfOk, IfSome, MatchOption, MatchResult}
 use Rattle.tydi_base.specs.Reading.{◌>>=◌}
-use Rattle.handshake.specs.Rows.{StreamRun}
-use Rattle.port_drive.specs.Drives.{Undriven, runs_of}
-use Rattle.port_gen.specs.Jobs.{Job, NoJob, NotDriven, TooManyCycles, TooManyLeaves, job_of, job_value, reason_in, runs_at_rest}
+use Rattle.port_gen.specs.Jobs.{Job, NoJob, NotDriven, TooManyCycles, TooManyLeaves, job_of, job_value}
 use Rattle.port_gen.specs.Plans.{job_plan}
 use Rattle.port_gen.specs.Summaries.{Summary, job_trace, summary_of, summary_of_trace}
-use Rattle.port_gen.specs.declared.fault.JobFault.{JobFault}
 use Rattle.port_gen.proofs.StartLemmas.{not-driven}
 use Rattle.type_split.specs.Streams.{PlainSplit}
 use Rattle.tydi_io.specs.Store.{Files}
@@ -15,7 +12,6 @@ use Rattle.tydi_tool.specs.declared.answer.Answer.{Answer}
 use Rattle.tydi_tool.specs.declared.answer.Reply.{Reply}
 use Rattle.tydi_tool.specs.declared.answer.Reply.TheVariants as replies
 use Rattle.tydi_tool.specs.Ask.{DecidedBy, Ends, Judges, TellsOf, goes_on}
-use Rattle.tydi_tool.specs.Drives.{stream_of}
 use Rattle.tydi_tool.specs.Jobs.{NamesStreamOf, TellsJob, refusal_of_job, summary_text, text_of_job}
 use Rattle.tydi_tool.specs.Laws.{HasSome}
 use Rattle.tydi_tool.specs.Outcome.{output_answer}

@@ -8,6 +8,9 @@ pub mod CauseLemmas
 pub mod CauseLines
 pub mod CauseSteps
 pub mod CommandLemmas
+pub mod CompareCauses
+pub mod CompareLemmas
+pub mod CompareLawLemmas
 pub mod DecodeLawLemmas
 pub mod DecodeLemmas
 pub mod DeliveryLemmas

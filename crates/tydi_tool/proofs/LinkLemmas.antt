@@ -1,5 +1,5 @@
 -- The answer of `link`: the nets of a project, or the refusal of its first link error.
-use Rattle.std.proofs.Common.{◌≡◌, ◌≢◌, ℕ, ◌⊎◌, inl, inr, Bool, true, false, cond, nat_lt, List, length, Option, Some, None, Result, Ok, Err, refl, sym, ap, ◌∙◌, subst}
+use Rattle.std.proofs.Common.{◌≡◌, ◌≢◌, ℕ, inl, inr, Bool, true, false, cond, nat_lt, List, length, Option, Some, None, Result, Ok, Err, refl, sym, ap, ◌∙◌, subst}
 use Rattle.til_resolve.specs.PlainProject.{PlainProject, PlainStreamlet}
 use Rattle.link_check.specs.Checked.{linked}
 use Rattle.link_check.specs.Text.{nets_text, within}
@@ -10,13 +10,12 @@ use Rattle.link_check.specs.Laws.{AnswersAreOfTheProject}
 use Rattle.tydi_tool.specs.declared.answer.Answer.{Answer}
 use Rattle.tydi_tool.specs.declared.answer.Answer.TheVariants as answers
 use Rattle.tydi_tool.specs.declared.answer.Reply.{Reply}
-use Rattle.tydi_tool.specs.declared.answer.Reply.TheVariants as replies
 use Rattle.tydi_tool.specs.Ask.{Judges}
 use Rattle.tydi_tool.specs.Laws.{HasSome}
 use Rattle.tydi_tool.specs.Links.{TellsChecked, TellsLinked, TellsRefusal, refusal_of_linking}
 use Rattle.tydi_tool.specs.Outcome.{output_answer, output_limit, output_too_long_line}
 use Rattle.tydi_tool.specs.Reading.{IsRefusedBy}
-use Rattle.tydi_tool.specs.Refusals.{Refusal, refusal_line}
+use Rattle.tydi_tool.specs.Refusals.{Refusal}
 
 -- ---- a step in code
 

@@ -1,5 +1,5 @@
 -- The text that the runs of a port make, or the reason why it is not driven, once for each command that drives one.
-use Rattle.std.proofs.Common.{◌≡◌, ℕ, inl, inr, List, Result, Ok, Err, codes, decimal, refl, sym, ap, ◌∙◌, subst}
+use Rattle.std.proofs.Common.{◌≡◌, ℕ, inl, List, Result, Ok, Err, codes, decimal, refl, sym, ap, ◌∙◌, subst}
 use Rattle.tydi_base.specs.Path.{path_text}
 use Rattle.tydi_base.specs.Reading.{◌>>=◌}
 use Rattle.tydi_io.specs.Store.{Files}

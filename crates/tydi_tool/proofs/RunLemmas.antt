@@ -8,16 +8,16 @@ use Rattle.tydi_tool.specs.declared.answer.Reply.TheVariants as replies
 use Rattle.tydi_tool.specs.declared.status.Status.{Status}
 use Rattle.tydi_tool.specs.declared.status.Status.TheVariants as statuses
 use Rattle.tydi_tool.specs.Drives.{TellsBench, TellsDriven}
-use Rattle.tydi_tool.specs.Words.{Request, Check, Decode, Drive, Link, Read, Sim, Split, FileWord, file_words, text_file, trace_file, Carry, Vhdl, Bench, Testbench, Vcd, dump_file, Gen}
+use Rattle.tydi_tool.specs.Words.{Request, Check, Decode, Drive, Link, Read, Sim, Split, FileWord, file_words, text_file, trace_file, Carry, Design, Bench, Testbench, Vcd, dump_file, Gen, Compare}
 use Rattle.split_text.specs.Text.{split_text}
 use Rattle.tydi_tool.specs.Outcome.{out_of_answer, output_answer, out_of, err_of, status_of, status_of_answer, usage_line, memory_line, write_fault_line}
 use Rattle.tydi_tool.specs.Delivery.{Adds, AddsFront, AddsPart, TakesLine, IsLined, IsCut, IsWritten, OutFails, OutWants, Delivers}
 use Rattle.tydi_tool.specs.Ask.{AsksFor, AsksSome, Decides, Ends}
-use Rattle.tydi_tool.specs.Commands.{ask_of, Says, dump_ask, outcome_ask, planned_ask}
+use Rattle.tydi_tool.specs.Commands.{ask_of, Says, compared_ask, dump_ask, outcome_ask, planned_ask, valued_ask}
 use Rattle.tydi_tool.specs.Started.{IsPulledOut, IsGivenOne, NamesStarted, StartsWithin, Leaves}
-use Rattle.tydi_tool.specs.Run.{Runs, EndsAsked, EndsUnasked, EndsInAnswer, IsAnswered, IsComplete, IsCaused, ReportsRead, OutFront, OutPart, IsRefusal}
-use Rattle.tydi_tool.specs.Run.{IsLine, ErrFront, LeavesOut, LeavesErr, StartedAtEnd, UsageExactly, WritesReadBack, WritesTrace, WritesValue, WritesCarried, WritesWired, WritesLines, WritesSampled, WritesJob}
-use Rattle.tydi_tool.proofs.CauseLemmas.{told}
+use Rattle.tydi_tool.specs.Run.{Runs, AnswersCauses, EndsAsked, EndsUnasked, EndsInAnswer, EndsWith, IsAnswered, IsComplete, IsCaused, ReportsRead, OutFront, OutPart, IsRefusal}
+use Rattle.tydi_tool.specs.Run.{IsLine, ErrFront, LeavesOut, LeavesErr, StartedAtEnd, UsageExactly, WritesReadBack, WritesTrace, WritesValue, WritesCarried, WritesWired, WritesLines, WritesCompared, WritesSampled, WritesJob}
+use Rattle.tydi_tool.proofs.CauseLemmas.{exactly, told}
 use Rattle.tydi_tool.proofs.CauseLines.{one_word}
 use Rattle.tydi_tool.proofs.DecodeLemmas.{outcome-for}
 use Rattle.tydi_tool.proofs.DecodeLawLemmas.{driven-read_back, written-carried}
@@ -32,6 +32,7 @@ use Rattle.tydi_tool.specs.Jobs.{TellsJob}
 use Rattle.tydi_tool.specs.DriveLaw.{WritesDriven, drive_words}
 use Rattle.tydi_tool.specs.DumpLaw.{WritesShown, WrittenDumpsAreShown, dump_words}
 use Rattle.tydi_tool.specs.WiringLaw.{WritesDesign, WrittenDesignsAreWired}
+use Rattle.tydi_tool.specs.CompareLaw.{SameTracesShowValues, WritesSame, compare_words}
 use Rattle.tydi_tool.proofs.CommandLemmas.{SaysBy-request}
 use Rattle.tydi_tool.proofs.AskLemmas.{SaysBy-decided}
 use Rattle.tydi_tool.proofs.DeliveryLemmas.{AddsFront-all, AddsFront-part, AddsPart-some}
@@ -50,11 +51,13 @@ asks_for (Decode project port trace) = carried-for project port (trace_file trac
 asks_for (Sim bench run) = (refl, λ read. (refl, λ made. tt))
 asks_for (Link project) = (refl, λ x. tt)
 asks_for (Carry project top from to trace) = (refl, λ heads. (refl, λ t. tt))
-asks_for (Vhdl project) = (refl, λ x. tt)
+asks_for (Design language project) = (refl, λ x. tt)
 asks_for (Bench project port value plan) =
     carried-for project port (text_file value ∷ text_file plan ∷ []) (λ split. planned_ask value plan split (TellsBench split)) (λ split. planned-for value plan split (TellsBench split))
 asks_for (Testbench project test) = (refl, λ x. tt)
 asks_for (Vcd project port scope file) = port-for project port (dump_file file ∷ []) (dump_ask scope file) (dump-for scope file)
+asks_for (Compare project port value trace) =
+    carried-for project port (text_file value ∷ trace_file trace ∷ []) (λ split. valued_ask value split (compared_ask trace split)) (λ split. (refl, λ read. (refl, λ found. tt)))
 asks_for (Gen project port seed count) = carried-for project port [] (λ split. Ends (TellsJob split seed count)) (λ split. tt)
 
 asks_some : (request : Request) → AsksSome (ask_of request)
@@ -66,11 +69,12 @@ asks_some (Decode project port trace) = tt
 asks_some (Sim bench run) = tt
 asks_some (Link project) = tt
 asks_some (Carry project top from to trace) = tt
-asks_some (Vhdl project) = tt
+asks_some (Design language project) = tt
 asks_some (Bench project port value plan) = tt
 asks_some (Testbench project test) = tt
 asks_some (Vcd project port scope file) = tt
 asks_some (Gen project port seed count) = tt
+asks_some (Compare project port value trace) = tt
 
 -- ---- a run of a command
 
@@ -317,6 +321,16 @@ written_text request known Is is status out_old out_new err_old err_new a done =
     by (answers.Verdict line) says ends out = absurd cc
     by (answers.Refused line) says ends out = absurd cc
 
+-- where no count of faults rose, an answer whose cause stands is the answer
+pub AnswersCauses-complete : (files : Option Files) (request : Option Request) (status : Status) (out_old out_new err_old err_new : Option (List ℕ)) →
+    IsComplete files request status out_old out_new err_old err_new → IfSome files (λ known. AnswersCauses known request status out_old out_new err_old err_new)
+AnswersCauses-complete None request status out_old out_new err_old err_new complete = tt
+AnswersCauses-complete (Some known) None status out_old out_new err_old err_new complete = tt
+AnswersCauses-complete (Some known) (Some request) status out_old out_new err_old err_new (inl memory) = λ row answer cause. inl memory
+AnswersCauses-complete (Some known) (Some request) status out_old out_new err_old err_new (inr a) = λ row answer cause.
+    inr (subst (λ (b : Answer). EndsWith b status out_old out_new err_old err_new)
+    (SaysBy-request known request a.answer answer a.says ((exactly row known request answer).1 cause).0) (record { ends = a.ends; out = a.out; err = a.err }))
+
 -- a text that is written for a port that is driven is that of such a trace
 pub WritesTrace-answered : (files : Option Files) (request : Option Request) (status : Status) (out_old out_new err_old err_new : Option (List ℕ)) →
     IsAnswered files request status out_old out_new err_old err_new → status ≡ statuses.Done → IfSome files (λ known. WritesTrace known request out_old out_new)
@@ -329,11 +343,12 @@ WritesTrace-answered (Some known) (Some (Decode project port trace)) status out_
 WritesTrace-answered (Some known) (Some (Sim bench run)) status out_old out_new err_old err_new a done = tt
 WritesTrace-answered (Some known) (Some (Link project)) status out_old out_new err_old err_new a done = tt
 WritesTrace-answered (Some known) (Some (Carry project top from to trace)) status out_old out_new err_old err_new a done = tt
-WritesTrace-answered (Some known) (Some (Vhdl project)) status out_old out_new err_old err_new a done = tt
+WritesTrace-answered (Some known) (Some (Design language project)) status out_old out_new err_old err_new a done = tt
 WritesTrace-answered (Some known) (Some (Bench project port value plan)) status out_old out_new err_old err_new a done = tt
 WritesTrace-answered (Some known) (Some (Testbench project test)) status out_old out_new err_old err_new a done = tt
 WritesTrace-answered (Some known) (Some (Vcd project port scope file)) status out_old out_new err_old err_new a done = tt
 WritesTrace-answered (Some known) (Some (Gen project port seed count)) status out_old out_new err_old err_new a done = tt
+WritesTrace-answered (Some known) (Some (Compare project port value trace)) status out_old out_new err_old err_new a done = tt
 WritesTrace-answered (Some known) (Some (Drive project port value plan)) status out_old out_new err_old err_new a done =
     written_text (Drive project port value plan) known (WritesDriven known (drive_words project port value plan)) (λ text says. (written-driven known project port value plan text says).1)
     status out_old out_new err_old err_new a done
@@ -349,11 +364,12 @@ WritesReadBack-answered (Some known) (Some (Split project port)) status out_old 
 WritesReadBack-answered (Some known) (Some (Decode project port trace)) status out_old out_new err_old err_new a done = tt
 WritesReadBack-answered (Some known) (Some (Sim bench run)) status out_old out_new err_old err_new a done = tt
 WritesReadBack-answered (Some known) (Some (Link project)) status out_old out_new err_old err_new a done = tt
-WritesReadBack-answered (Some known) (Some (Vhdl project)) status out_old out_new err_old err_new a done = tt
+WritesReadBack-answered (Some known) (Some (Design language project)) status out_old out_new err_old err_new a done = tt
 WritesReadBack-answered (Some known) (Some (Bench project port value plan)) status out_old out_new err_old err_new a done = tt
 WritesReadBack-answered (Some known) (Some (Testbench project test)) status out_old out_new err_old err_new a done = tt
 WritesReadBack-answered (Some known) (Some (Vcd project port scope file)) status out_old out_new err_old err_new a done = tt
 WritesReadBack-answered (Some known) (Some (Gen project port seed count)) status out_old out_new err_old err_new a done = tt
+WritesReadBack-answered (Some known) (Some (Compare project port value trace)) status out_old out_new err_old err_new a done = tt
 WritesReadBack-answered (Some known) (Some (Carry project top from to trace)) status out_old out_new err_old err_new a done = tt
 WritesReadBack-answered (Some known) (Some (Drive project port value plan)) status out_old out_new err_old err_new a done =
     written_text (Drive project port value plan) known (IsReadBack known (drive_words project port value plan)) (λ text says. driven-read_back known project port value plan text says)
@@ -370,11 +386,12 @@ WritesValue-answered (Some known) (Some (Split project port)) status out_old out
 WritesValue-answered (Some known) (Some (Drive project port value plan)) status out_old out_new err_old err_new a done = tt
 WritesValue-answered (Some known) (Some (Sim bench run)) status out_old out_new err_old err_new a done = tt
 WritesValue-answered (Some known) (Some (Link project)) status out_old out_new err_old err_new a done = tt
-WritesValue-answered (Some known) (Some (Vhdl project)) status out_old out_new err_old err_new a done = tt
+WritesValue-answered (Some known) (Some (Design language project)) status out_old out_new err_old err_new a done = tt
 WritesValue-answered (Some known) (Some (Bench project port value plan)) status out_old out_new err_old err_new a done = tt
 WritesValue-answered (Some known) (Some (Testbench project test)) status out_old out_new err_old err_new a done = tt
 WritesValue-answered (Some known) (Some (Vcd project port scope file)) status out_old out_new err_old err_new a done = tt
 WritesValue-answered (Some known) (Some (Gen project port seed count)) status out_old out_new err_old err_new a done = tt
+WritesValue-answered (Some known) (Some (Compare project port value trace)) status out_old out_new err_old err_new a done = tt
 WritesValue-answered (Some known) (Some (Carry project top from to trace)) status out_old out_new err_old err_new a done = tt
 WritesValue-answered (Some known) (Some (Decode project port trace)) status out_old out_new err_old err_new a done =
     written_text (Decode project port trace) known (WritesDecoded known (decode_words project port trace)) (λ text says. (written-carried known project port trace text says).1)
@@ -391,11 +408,12 @@ WritesCarried-answered arrive (Some known) (Some (Check trace)) status out_old o
 WritesCarried-answered arrive (Some known) (Some (Read project)) status out_old out_new err_old err_new a done = tt
 WritesCarried-answered arrive (Some known) (Some (Split project port)) status out_old out_new err_old err_new a done = tt
 WritesCarried-answered arrive (Some known) (Some (Drive project port value plan)) status out_old out_new err_old err_new a done = tt
-WritesCarried-answered arrive (Some known) (Some (Vhdl project)) status out_old out_new err_old err_new a done = tt
+WritesCarried-answered arrive (Some known) (Some (Design language project)) status out_old out_new err_old err_new a done = tt
 WritesCarried-answered arrive (Some known) (Some (Bench project port value plan)) status out_old out_new err_old err_new a done = tt
 WritesCarried-answered arrive (Some known) (Some (Testbench project test)) status out_old out_new err_old err_new a done = tt
 WritesCarried-answered arrive (Some known) (Some (Vcd project port scope file)) status out_old out_new err_old err_new a done = tt
 WritesCarried-answered arrive (Some known) (Some (Gen project port seed count)) status out_old out_new err_old err_new a done = tt
+WritesCarried-answered arrive (Some known) (Some (Compare project port value trace)) status out_old out_new err_old err_new a done = tt
 WritesCarried-answered arrive (Some known) (Some (Decode project port trace)) status out_old out_new err_old err_new a done = tt
 WritesCarried-answered arrive (Some known) (Some (Sim bench run)) status out_old out_new err_old err_new a done = tt
 WritesCarried-answered arrive (Some known) (Some (Link project)) status out_old out_new err_old err_new a done = tt
@@ -415,8 +433,8 @@ pub WritesWired-answered : WrittenDesignsAreWired → (files : Option Files) (re
     IsAnswered files request status out_old out_new err_old err_new → status ≡ statuses.Done
     → IfSome files (λ known. WritesWired known request out_old out_new)
 WritesWired-answered wired None request status out_old out_new err_old err_new a done = tt
-WritesWired-answered wired (Some known) (Some (Vhdl project)) status out_old out_new err_old err_new a done =
-    written_text (Vhdl project) known (WritesDesign known project) (λ text says. (wired known project text says).1)
+WritesWired-answered wired (Some known) (Some (Design language project)) status out_old out_new err_old err_new a done =
+    written_text (Design language project) known (WritesDesign known language project) (λ text says. (wired known language project text says).1)
     status out_old out_new err_old err_new a done
 WritesWired-answered wired (Some known) request status out_old out_new err_old err_new a done = tt
 
@@ -433,7 +451,7 @@ WritesLines-answered bench test (Some known) (Some (Decode project port trace)) 
 WritesLines-answered bench test (Some known) (Some (Sim bench_word run)) status out_old out_new err_old err_new a done = tt
 WritesLines-answered bench test (Some known) (Some (Link project)) status out_old out_new err_old err_new a done = tt
 WritesLines-answered bench test (Some known) (Some (Carry project top from to trace)) status out_old out_new err_old err_new a done = tt
-WritesLines-answered bench test (Some known) (Some (Vhdl project)) status out_old out_new err_old err_new a done = tt
+WritesLines-answered bench test (Some known) (Some (Design language project)) status out_old out_new err_old err_new a done = tt
 WritesLines-answered bench test (Some known) (Some (Vcd project port scope file)) status out_old out_new err_old err_new a done = tt
 WritesLines-answered bench test (Some known) (Some (Bench project port value plan)) status out_old out_new err_old err_new a done =
     written_text (Bench project port value plan) known (WritesBench known (drive_words project port value plan)) (λ text says. (bench known project port value plan text says).1)
@@ -442,6 +460,7 @@ WritesLines-answered bench test (Some known) (Some (Testbench project word)) sta
     written_text (Testbench project word) known (WritesTestbench known (test_words project word)) (λ text says. (test known project word text says).1)
     status out_old out_new err_old err_new a done
 WritesLines-answered bench test (Some known) (Some (Gen project port seed count)) status out_old out_new err_old err_new a done = tt
+WritesLines-answered bench test (Some known) (Some (Compare project port value trace)) status out_old out_new err_old err_new a done = tt
 
 -- where a job of a port is made, out has the text of its summary
 pub WritesJob-answered : WrittenSummariesAreOfJobs → (files : Option Files) (request : Option Request) (status : Status) (out_old out_new err_old err_new : Option (List ℕ)) →
@@ -451,6 +470,15 @@ WritesJob-answered jobs (Some known) (Some (Gen project port seed count)) status
     written_text (Gen project port seed count) known (WritesSummary known (job_words project port seed count)) (λ text says. (jobs known project port text seed count says).1)
     status out_old out_new err_old err_new a done
 WritesJob-answered jobs (Some known) request status out_old out_new err_old err_new a done = tt
+
+-- where a trace is compared and is the same, out has the line that says so
+pub WritesCompared-answered : SameTracesShowValues → (files : Option Files) (request : Option Request) (status : Status) (out_old out_new err_old err_new : Option (List ℕ)) →
+    IsAnswered files request status out_old out_new err_old err_new → status ≡ statuses.Done → IfSome files (λ known. WritesCompared known request out_old out_new)
+WritesCompared-answered same None request status out_old out_new err_old err_new a done = tt
+WritesCompared-answered same (Some known) (Some (Compare project port value trace)) status out_old out_new err_old err_new a done =
+    written_text (Compare project port value trace) known (WritesSame known (compare_words project port value trace)) (λ text says. same known project port value trace text says)
+    status out_old out_new err_old err_new a done
+WritesCompared-answered same (Some known) request status out_old out_new err_old err_new a done = tt
 
 -- where a dump is sampled, out has the text of the trace that it shows
 pub WritesSampled-answered : WrittenDumpsAreShown → (files : Option Files) (request : Option Request) (status : Status)

@@ -1,10 +1,6 @@
 -- The answer to a declared test: there is one, and one alone.
-use Rattle.std.proofs.Common.{◌≡◌, ℕ, ◌≤◌, inl, inr, List, Option, Some, None, IfSome, Result, Ok, Err, Contains, refl, sym, ap, ◌∙◌, subst}
-use Rattle.tydi_io.specs.Store.{Files}
-use Rattle.logical_types.specs.Tree.{Ltype}
+use Rattle.std.proofs.Common.{◌≡◌, ℕ, inl, inr, List, Option, Some, None, Result, Ok, Err, refl, sym, ◌∙◌, subst}
 use Rattle.logical_value.specs.Tree.{plain_port}
-use Rattle.logical_value.specs.declared.value.PortValue.{PortValue}
-use Rattle.plan_text.specs.declared.plan.Plan.{Plan}
 use Rattle.port_bench.specs.Benches.{bench_text_of}
 use Rattle.til_resolve.specs.PlainProject.{PlainPort, PlainProject}
 use Rattle.til_resolve.specs.SoundProject.{IsSoundProject}

@@ -1,5 +1,5 @@
 -- The causes of the answers of `testbench`, in both directions.
-use Rattle.std.proofs.Common.{◌≡◌, ℕ, ◌++◌, inl, inr, List, Option, Some, None, Result, Ok, Err, codes, refl, sym, ap, ◌∙◌, subst}
+use Rattle.std.proofs.Common.{◌≡◌, ℕ, ◌++◌, inl, inr, List, Option, Some, None, Result, Err, codes, refl, sym, ap, ◌∙◌, subst}
 use Rattle.tydi_base.specs.Path.{path_text}
 use Rattle.tydi_io.specs.Store.{Files}
 use Rattle.handshake.specs.Rows.{StreamRun}
@@ -22,14 +22,14 @@ use Rattle.tydi_tool.specs.Causes as rows
 use Rattle.tydi_tool.specs.Causes.{HasBytes, HasRead, HasTest, HasTestCarried, HasTestDrive, HasTestPlanFault, HasTestReason, HasTestSplit, HasTestValueFault, IsTestbenchText}
 use Rattle.tydi_tool.specs.Causes.{NoTestCause, TestClashes, TestUncarried, TestWords, tested_in}
 use Rattle.tydi_tool.specs.Commands.{ask_of, testbench_ask}
-use Rattle.tydi_tool.specs.Drives.{TellsBench, carried, carried_unless, refusal_of_driving}
+use Rattle.tydi_tool.specs.Drives.{TellsBench, carried_unless, refusal_of_driving}
 use Rattle.tydi_tool.specs.Outcome.{output_answer}
 use Rattle.tydi_tool.specs.Ports.{split_unless}
 use Rattle.tydi_tool.specs.Projects.{ReadsProject}
 use Rattle.tydi_tool.specs.Refusals.{Refusal, refusal_line, refusal_of_value}
 use Rattle.tydi_tool.specs.Tests.{TellsFound, TellsPlanned, TellsPort, TellsSplit, TellsTest, TellsTexts, TellsTyped, plan_word, test_named, tested_port, value_word}
 use Rattle.tydi_tool.specs.Texts.{ReadsValue}
-use Rattle.tydi_tool.specs.Words.{Request, Bench, Carry, Check, Decode, Drive, Link, Read, Sim, Split, Testbench, Vhdl, project_file, Vcd, Gen}
+use Rattle.tydi_tool.specs.Words.{Request, Bench, Carry, Check, Decode, Drive, Link, Read, Sim, Split, Testbench, Design, project_file, Vcd, Gen, Compare}
 use Rattle.tydi_tool.proofs.CauseLines.{by_line, line_of, one_word, value_text}
 use Rattle.tydi_tool.proofs.CauseSteps.{Told, plan-fault, plan-refused, refuses_project, says-read, told-file}
 use Rattle.tydi_tool.proofs.MadeCauses.{tells-made, tells-unmade, told-made}
@@ -182,10 +182,11 @@ from_tested known (Decode project port trace) words a named said = absurd cc
 from_tested known (Sim bench run) words a named said = absurd cc
 from_tested known (Link project) words a named said = absurd cc
 from_tested known (Carry project top from to trace) words a named said = absurd cc
-from_tested known (Vhdl project) words a named said = absurd cc
+from_tested known (Design language project) words a named said = absurd cc
 from_tested known (Bench project port value plan) words a named said = absurd cc
 from_tested known (Vcd project port scope file) words a named said = absurd cc
 from_tested known (Gen project port seed count) words a named said = absurd cc
+from_tested known (Compare project port value trace) words a named said = absurd cc
 from_tested known (Testbench project test) words a named said =
     subst (λ (w : TestWords). SaysBy (Some known) (testbench_ask w.project w.test) a) (sym (same_tested (of_test project test) words named)) said
 

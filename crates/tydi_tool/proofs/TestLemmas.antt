@@ -1,6 +1,6 @@
 -- The declared tests of a project that is read: each drives a port that is there, its texts are no longer than the project's, and there is one
 -- answer to it.
-use Rattle.std.proofs.Common.{◌≡◌, ℕ, zero, suc, ◌-◌, ◌<◌, ◌≤◌, inl, inr, Bool, true, false, cond, nat_lt, List, [], ◌∷◌, ◌++◌, map, length, take, drop, get_or, find, filter_map, slice_get, Option, Some, None, option_map, option_and_then, Result, Ok, Err, IfOk, IfSome, Contains, refl, sym, ap, ◌∙◌, subst, arith}
+use Rattle.std.proofs.Common.{◌≡◌, ℕ, zero, suc, ◌-◌, ◌<◌, ◌≤◌, Bool, true, false, cond, nat_lt, List, [], ◌∷◌, ◌++◌, map, length, drop, get_or, find, slice_get, Option, Some, None, option_map, option_and_then, Result, Ok, Err, IfOk, IfSome, Contains, refl, sym, ap, ◌∙◌, subst, arith}
 use Rattle.std.specs.List.{flat_map}
 use Rattle.std.specs.Borrow.{Bor}
 use Rattle.std.specs.Prelude.{is_some}
@@ -15,7 +15,7 @@ use Rattle.tydi_base.specs.Path.{path_at}
 use Rattle.til_lexer.specs.declared.token.Token.{Token}
 use Rattle.til_parser.specs.Grammar.{One, IsMarked, SpellsDecl, SpellsKind, SpellsNamespace}
 use Rattle.til_parser.specs.Laws.{IsTreeOf}
-use Rattle.til_parser.specs.Lexemes.{Lexeme, between_marks, lexeme_of, lexemes_of}
+use Rattle.til_parser.specs.Lexemes.{Lexeme, lexemes_of}
 use Rattle.til_parser.specs.declared.tree.Ast.{Ast}
 use Rattle.til_parser.specs.declared.tree.AstDecl.{AstDecl}
 use Rattle.til_parser.specs.declared.tree.AstKind.{AstKind}
@@ -27,7 +27,7 @@ use Rattle.til_resolve.specs.Declarations.{Declaration, declarations, declared_i
 use Rattle.til_resolve.specs.PlainProject.{PlainPort, PlainProject, PlainStreamlet, plain_port, plain_streamlet, plain_test_at, project_of}
 use Rattle.til_resolve.specs.Paths.{is_same_path}
 use Rattle.til_resolve.specs.PortTypes.{IsPortType}
-use Rattle.til_resolve.specs.Project.{test_of, tests_in}
+use Rattle.til_resolve.specs.Project.{tests_in}
 use Rattle.til_resolve.specs.SoundProject.{DrivesPort, IsSoundProject}
 use Rattle.til_resolve.specs.declared.project.Test.{Test}
 use Rattle.til_resolve.proofs.PortTypeLemmas.{Contains-found}
@@ -40,7 +40,7 @@ use Rattle.tydi_tool.specs.Ask.{IsAsked}
 use Rattle.tydi_tool.specs.Projects.{ReadsProject}
 use Rattle.tydi_tool.specs.Reading.{Seen}
 use Rattle.tydi_tool.specs.Words.{project_file}
-use Rattle.tydi_tool.specs.Tests.{AreShort, HasShortTests, test_named, tested_port}
+use Rattle.tydi_tool.specs.Tests.{HasShortTests, test_named, tested_port}
 use Rattle.tydi_tool.proofs.FileLemmas.{found-within}
 use Rattle.tydi_tool.proofs.FormLemmas.{IsPortFormed, each-append, each-inside, read-formed, tree-of}
 

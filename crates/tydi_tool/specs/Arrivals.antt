@@ -4,7 +4,7 @@ use Rattle.cycle_trace.specs.ReaderView.{StandsFor}
 use Rattle.cycle_trace.specs.Trace.{TraceText}
 use Rattle.cycle_trace.specs.TraceText.{trace_of}
 use Rattle.cycle_trace.specs.declared.fault.TraceFault.{TraceFault}
-use Rattle.link_check.specs.Carriers.{CanRise, CarrierStands}
+use Rattle.link_check.specs.Carriers.{CarrierStands}
 use Rattle.link_check.specs.Carry.{FirstOther, carried}
 use Rattle.link_check.specs.KeptTexts.{KeptTextStands, if_kept, text_so_far}
 use Rattle.link_check.specs.declared.carrier.Carrier.{Carrier}

@@ -49,6 +49,8 @@ use Rattle.port_drive.specs.Text.{drive_text}
 use Rattle.port_gen.specs.Jobs.{NoJob, NotDriven, TooManyCycles, TooManyLeaves, job_of}
 use Rattle.port_gen.specs.Summaries.{Summary, summary_of}
 use Rattle.split_text.specs.Text.{split_text}
+use Rattle.trace_compare.specs.Differences.{AreDifferences}
+use Rattle.trace_compare.specs.declared.difference.Difference.{Difference}
 use Rattle.value_text.specs.Reading.{IsFaulty, IsValue}
 use Rattle.value_text.specs.declared.fault.ValueFault.{ValueFault}
 use Rattle.value_text.specs.declared.fault.ValueFault.TheVariants as valuing
@@ -63,6 +65,7 @@ use Rattle.tydi_tool.specs.declared.answer.Answer.{Answer}
 use Rattle.tydi_tool.specs.declared.answer.Answer.TheVariants as answers
 use Rattle.tydi_tool.specs.Ask.{Ask, Ends, Asks}
 use Rattle.tydi_tool.specs.Commands.{ask_of, Says}
+use Rattle.tydi_tool.specs.Comparisons.{difference_lines, items_of_value}
 use Rattle.tydi_tool.specs.Drives.{path_of}
 use Rattle.tydi_tool.specs.Dumps.{wanted_of}
 use Rattle.tydi_tool.specs.Files.{file_of}
@@ -73,6 +76,7 @@ use Rattle.tydi_tool.specs.Reports.{path_of_stream}
 use Rattle.tydi_tool.specs.Trees.{IsSpelled, ReadsTree}
 use Rattle.vhdl_text.specs.Reading.{bench_of}
 use Rattle.vhdl_text.specs.declared.bench.Bench.{Bench}
+use Rattle.vhdl_text.specs.declared.language.Language.{Language}
 use Rattle.vhdl_text.specs.declared.fault.VhdlFault.{VhdlFault}
 use Rattle.vhdl_text.specs.declared.fault.VhdlFault.TheVariants as benching
 use Rattle.vhdl_meaning.specs.RunText.{run_of}
@@ -89,7 +93,7 @@ use Rattle.link_check.specs.declared.fault.LinkFault.TheVariants as linking
 use Rattle.link_check.specs.declared.nets.Nets.{Nets}
 use Rattle.tydi_tool.specs.Tests.{test_named, tested_port}
 use Rattle.tydi_tool.specs.Words as requests
-use Rattle.tydi_tool.specs.Words.{Request, Check, Decode, Drive, Link, Read, Sim, Split, FileWord, Carry, Vhdl}
+use Rattle.tydi_tool.specs.Words.{Request, Check, Decode, Drive, Link, Read, Sim, Split, FileWord, Carry, Design}
 use Rattle.link_check.specs.Carry.{FirstOther, carried}
 use Rattle.link_check.specs.declared.end_heads.EndHeads.{EndHeads}
 use Rattle.port_drive.specs.Text.{written_text}
@@ -126,6 +130,7 @@ pub data Row : Type 0 where
   AnOffence : Row
   AnUnfinished : Row
   ADisagreement : Row
+  ADifference : Row
   AText : Row
   NoTest : Row
 
@@ -158,7 +163,7 @@ rows_of_faults =
 
 -- the row of each word with which a verdict begins
 abbrev pub rows_of_verdicts : List (List ℕ × Row)
-rows_of_verdicts = (codes "offence", AnOffence) ∷ (codes "unfinished", AnUnfinished) ∷ (codes "disagree", ADisagreement) ∷ []
+rows_of_verdicts = (codes "offence", AnOffence) ∷ (codes "unfinished", AnUnfinished) ∷ (codes "disagree", ADisagreement) ∷ (codes "differs", ADifference) ∷ []
 
 abbrev pub row_in : List (List ℕ × Row) → List ℕ → Option Row
 row_in [] name = None
@@ -200,11 +205,12 @@ project_of (Decode project port trace) = Some project
 project_of (Sim bench run) = None
 project_of (Link project) = Some project
 project_of (Carry project top from to trace) = Some project
-project_of (Vhdl project) = Some project
+project_of (Design language project) = Some project
 project_of (requests.Bench project port value plan) = Some project
 project_of (requests.Testbench project test) = Some project
 project_of (requests.Vcd project port scope file) = Some project
 project_of (requests.Gen project port seed count) = Some project
+project_of (requests.Compare project port value trace) = Some project
 
 -- the project that a command resolves
 abbrev pub resolved_of : Request → Option (List ℕ)
@@ -216,11 +222,12 @@ resolved_of (Decode project port trace) = Some project
 resolved_of (Sim bench run) = None
 resolved_of (Link project) = Some project
 resolved_of (Carry project top from to trace) = Some project
-resolved_of (Vhdl project) = Some project
+resolved_of (Design language project) = Some project
 resolved_of (requests.Bench project port value plan) = Some project
 resolved_of (requests.Testbench project test) = Some project
 resolved_of (requests.Vcd project port scope file) = Some project
 resolved_of (requests.Gen project port seed count) = Some project
+resolved_of (requests.Compare project port value trace) = Some project
 
 -- the trace that a command reads before it reads anything else
 abbrev pub trace_in : Request → Option (List ℕ)
@@ -240,6 +247,7 @@ port_in (Decode project port trace) = Some (record { project = project; port = p
 port_in (requests.Bench project port value plan) = Some (record { project = project; port = port })
 port_in (requests.Vcd project port scope file) = Some (record { project = project; port = port })
 port_in (requests.Gen project port seed count) = Some (record { project = project; port = port })
+port_in (requests.Compare project port value trace) = Some (record { project = project; port = port })
 port_in request = None
 
 -- the port that a command begins with, each of whose nodes has to be carried
@@ -248,6 +256,7 @@ carried_in (Drive project port value plan) = Some (record { project = project; p
 carried_in (Decode project port trace) = Some (record { project = project; port = port })
 carried_in (requests.Bench project port value plan) = Some (record { project = project; port = port })
 carried_in (requests.Gen project port seed count) = Some (record { project = project; port = port })
+carried_in (requests.Compare project port value trace) = Some (record { project = project; port = port })
 carried_in request = None
 
 -- a port of a project, a value of it and a plan of its streams
@@ -261,6 +270,29 @@ abbrev pub driven_in : Request → Option DriveWords
 driven_in (Drive project port value plan) = Some (record { at = record { project = project; port = port }; value = value; plan = plan })
 driven_in (requests.Bench project port value plan) = Some (record { at = record { project = project; port = port }; value = value; plan = plan })
 driven_in request = None
+
+-- a port of a project, and a value of it
+pub record ValueWords : Type 0 where
+  pub at : PortWords
+  pub value : List ℕ
+
+-- the port of which a command reads a value from a file
+abbrev pub valued_in : Request → Option ValueWords
+valued_in (Drive project port value plan) = Some (record { at = record { project = project; port = port }; value = value })
+valued_in (requests.Bench project port value plan) = Some (record { at = record { project = project; port = port }; value = value })
+valued_in (requests.Compare project port value trace) = Some (record { at = record { project = project; port = port }; value = value })
+valued_in request = None
+
+-- a port of a project, a value of it, and a trace of it
+pub record CompareWords : Type 0 where
+  pub at : PortWords
+  pub value : List ℕ
+  pub trace : List ℕ
+
+-- the port whose trace a command compares with a value, with the files of both
+abbrev pub compared_in : Request → Option CompareWords
+compared_in (requests.Compare project port value trace) = Some (record { at = record { project = project; port = port }; value = value; trace = trace })
+compared_in request = None
 
 -- a port of a project, and a trace of it
 pub record DecodeWords : Type 0 where
@@ -303,12 +335,12 @@ abbrev pub ChecksLinks : Request → List ℕ → PlainProject → Type 0
 ChecksLinks (Link project) word read = word ≡ project
 ChecksLinks (Carry project top from to trace) word read = (word ≡ project) × ((number : ℕ) × IsPastClash read
     (record { project = project; top = top; from = from; to = to }) number)
-ChecksLinks (Vhdl project) word read = (word ≡ project) × (first_clash read.streamlets ≡ None)
+ChecksLinks (Design language project) word read = (word ≡ project) × (first_clash read.streamlets ≡ None)
 ChecksLinks request word read = ⊥
 
 -- the project each port of which a command splits before it checks the links
 abbrev pub designed_in : Request → Option (List ℕ)
-designed_in (Vhdl project) = Some project
+designed_in (Design language project) = Some project
 designed_in request = None
 
 -- a declared test of a project
@@ -407,6 +439,15 @@ pub record HasDecode (known : Files) (words : DecodeWords) (split : PlainSplit) 
   pub bytes : List ℕ
   pub file : HasBytes known words.trace 67108864 bytes
   pub reads : trace_of bytes ≡ Ok read
+
+-- all that a command needs to compare a trace with a value is there: the port, each node of which is carried, the value, and a file of at most
+-- 64 MiB with the text of this trace
+pub record HasCompare (known : Files) (words : CompareWords) (split : PlainSplit) (value : PortValue) (t : TraceText) : Type 0 where
+  pub at : HasCarried known words.at split
+  pub value_is : HasValue known split words.value value
+  pub bytes : List ℕ
+  pub file : HasBytes known words.trace 67108864 bytes
+  pub reads : trace_of bytes ≡ Ok t
 
 -- a trace of a port has the heads of the port, and no offence by rules 1 to 11
 pub record IsLegalOf (split : PlainSplit) (read : TraceText) : Type 0 where
@@ -786,8 +827,8 @@ pub record HasTraceFault (known : Files) (request : Request) (line : List ℕ) :
 
 -- the text of the value has no reading as one of the port, with this line
 pub record HasValueFault (known : Files) (request : Request) (line : List ℕ) : Type 0 where
-  pub words : DriveWords
-  pub named : driven_in request ≡ Some words
+  pub words : ValueWords
+  pub named : valued_in request ≡ Some words
   pub split : PlainSplit
   pub at : HasCarried known words.at split
   pub bytes : List ℕ
@@ -838,6 +879,20 @@ pub record HasPortTraceFault (known : Files) (request : Request) (line : List �
   pub named : decoded_in request ≡ Some words
   pub split : PlainSplit
   pub at : HasCarried known words.at split
+  pub bytes : List ℕ
+  pub file : HasBytes known words.trace 67108864 bytes
+  pub fault : TraceFault
+  pub reads : trace_of bytes ≡ Err fault
+  pub told : trace_line words.trace fault ≡ Some line
+
+-- the port and the value are there, and the text of the trace that is compared has no reading, with this line
+pub record HasComparedFault (known : Files) (request : Request) (line : List ℕ) : Type 0 where
+  pub words : CompareWords
+  pub named : compared_in request ≡ Some words
+  pub split : PlainSplit
+  pub at : HasCarried known words.at split
+  pub value : PortValue
+  pub value_is : HasValue known split words.value value
   pub bytes : List ℕ
   pub file : HasBytes known words.trace 67108864 bytes
   pub fault : TraceFault
@@ -904,7 +959,8 @@ HasTextFault known request line =
     ⊎ (HasCarriedFault known request line
     ⊎ (HasTestValueFault known request line
     ⊎ (HasTestPlanFault known request line
-    ⊎ HasDumpFault known request line))))))))
+    ⊎ (HasDumpFault known request line
+    ⊎ HasComparedFault known request line)))))))))
 
 -- the text of a trace, a value, a plan, a bench, a run or a dump has no reading, be it a file's or a declared test's
 pub record TextFaultCause (known : Files) (request : Request) (a : Answer) : Type 0 where
@@ -1104,9 +1160,21 @@ pub record DecodedOtherHeader (known : Files) (request : Request) (a : Answer) :
   pub differ : DifferFirst read.heads (heads_of split) place
   pub said : a ≡ answers.Refused (codes "tydi: OtherHeader " ++ words.trace ++ codes " " ++ decimal place ++ codes "\n")
 
+-- the same of a trace that is compared with a value
+pub record ComparedOtherHeader (known : Files) (request : Request) (a : Answer) : Type 0 where
+  pub words : CompareWords
+  pub named : compared_in request ≡ Some words
+  pub split : PlainSplit
+  pub value : PortValue
+  pub read : TraceText
+  pub all : HasCompare known words split value read
+  pub place : ℕ
+  pub differ : DifferFirst read.heads (heads_of split) place
+  pub said : a ≡ answers.Refused (codes "tydi: OtherHeader " ++ words.trace ++ codes " " ++ decimal place ++ codes "\n")
+
 -- the trace has other heads, first at this place
 abbrev pub OtherHeaderCause : Files → Request → Answer → Type 0
-OtherHeaderCause known request a = DecodedOtherHeader known request a ⊎ CarriedOtherHeader known request a
+OtherHeaderCause known request a = DecodedOtherHeader known request a ⊎ (CarriedOtherHeader known request a ⊎ ComparedOtherHeader known request a)
 
 -- the trace has no offence, and each stream ends whole, but the items done are those of no value, first at this stream and packet
 pub record DisagreeCause (known : Files) (request : Request) (a : Answer) : Type 0 where
@@ -1120,6 +1188,21 @@ pub record DisagreeCause (known : Files) (request : Request) (a : Answer) : Type
   pub place : Disagreement
   pub disagree : DisagreeAt split (done_on (streams_of read)) place
   pub said : a ≡ answers.Verdict (codes "disagree stream " ++ path_text place.path ++ codes " packet " ++ decimal place.packet ++ codes "\n")
+
+-- the trace has the heads of the port, and of some streams the items done are not those of the value: these are their first differences, in the
+-- order of the streams
+pub record DifferenceCause (known : Files) (request : Request) (a : Answer) : Type 0 where
+  pub words : CompareWords
+  pub named : compared_in request ≡ Some words
+  pub split : PlainSplit
+  pub value : PortValue
+  pub read : TraceText
+  pub all : HasCompare known words split value read
+  pub same : read.heads ≡ heads_of split
+  pub first : Difference
+  pub more : List Difference
+  pub are : AreDifferences (items_of_value split value) (streams_of read) (first ∷ more)
+  pub said : a ≡ answers.Verdict (difference_lines split (first ∷ more))
 
 -- ---- the text of an answer
 
@@ -1194,7 +1277,7 @@ pub record IsCarriedText (known : Files) (words : CarryWords) (text : List ℕ) 
   pub is : text ≡ written_text (carried heads.to t)
 
 -- the project is read, no port of it has two physical streams of one path, and its links have these nets and no error
-pub record IsVhdlText (known : Files) (project text : List ℕ) : Type 0 where
+pub record IsDesignText (known : Files) (language : Language) (project text : List ℕ) : Type 0 where
   pub bytes : List ℕ
   pub file : HasBytes known project 4194304 bytes
   pub read : PlainProject
@@ -1202,7 +1285,7 @@ pub record IsVhdlText (known : Files) (project text : List ℕ) : Type 0 where
   pub apart : first_clash read.streamlets ≡ None
   pub nets : Nets
   pub nets_are : linked read.streamlets ≡ Ok nets
-  pub is : text ≡ design_text (architectures read.streamlets nets.impls)
+  pub is : text ≡ design_text language (architectures read.streamlets nets.impls)
 
 -- the value and the plan drive the port, and this is the text of the testbench that drives it
 pub record IsBenchText (known : Files) (words : DriveWords) (text : List ℕ) : Type 0 where
@@ -1235,6 +1318,16 @@ pub record IsSummaryText (known : Files) (words : JobWords) (text : List ℕ) : 
   pub summary_is : summary_of split words.seed words.count ≡ Ok summary
   pub is : text ≡ counts_text (heads_of split) summary.counts ++ (codes "cycles " ++ decimal summary.cycles ++ codes "\ntext " ++ decimal summary.text ++ codes "\ntrace " ++ decimal summary.trace ++ codes "\n")
 
+-- the trace has the heads of the port, and there is no stream of which the items done are not those of the value
+pub record IsSameText (known : Files) (words : CompareWords) (text : List ℕ) : Type 0 where
+  pub split : PlainSplit
+  pub value : PortValue
+  pub t : TraceText
+  pub all : HasCompare known words split value t
+  pub same : t.heads ≡ heads_of split
+  pub none : AreDifferences (items_of_value split value) (streams_of t) []
+  pub is : text ≡ codes "same\n"
+
 -- the text that a command makes of the files
 abbrev pub IsTextOf : Files → Request → List ℕ → Type 0
 IsTextOf known (Check trace) text = IsLegalText known trace text
@@ -1246,12 +1339,14 @@ IsTextOf known (Sim bench run) text = IsSimText known (record { bench = bench; r
 IsTextOf known (Link project) text = IsLinkText known project text
 IsTextOf known (Carry project top from to trace) text =
     IsCarriedText known (record { design = record { project = project; top = top; from = from; to = to }; trace = trace }) text
-IsTextOf known (Vhdl project) text = IsVhdlText known project text
+IsTextOf known (Design language project) text = IsDesignText known language project text
 IsTextOf known (requests.Bench project port value plan) text = IsBenchText known (record { at = record { project = project; port = port }; value = value; plan = plan }) text
 IsTextOf known (requests.Testbench project test) text = IsTestbenchText known (record { project = project; test = test }) text
 IsTextOf known (requests.Vcd project port scope file) text =
     IsDumpText known (record { at = record { project = project; port = port }; scope = scope; file = file }) text
 IsTextOf known (requests.Gen project port seed count) text = IsSummaryText known (record { at = record { project = project; port = port }; seed = seed; count = count }) text
+IsTextOf known (requests.Compare project port value trace) text =
+    IsSameText known (record { at = record { project = project; port = port }; value = value; trace = trace }) text
 
 -- the text is over 64 MiB
 pub record OutputTooLongCause (known : Files) (request : Request) (a : Answer) : Type 0 where
@@ -1288,6 +1383,7 @@ CausedBy OutputTooLong known request a = OutputTooLongCause known request a
 CausedBy AnOffence known request a = OffenceCause known request a
 CausedBy AnUnfinished known request a = UnfinishedCause known request a
 CausedBy ADisagreement known request a = DisagreeCause known request a
+CausedBy ADifference known request a = DifferenceCause known request a
 CausedBy AText known request a = TextCause known request a
 CausedBy NoTest known request a = NoTestCause known request a
 

@@ -13,6 +13,7 @@ use Rattle.tydi_tool.specs.declared.traces.Survey.{Survey}
 use Rattle.logical_value.specs.declared.value.PortValue.{PortValue}
 use Rattle.plan_text.specs.declared.plan.Plan.{Plan}
 use Rattle.vhdl_text.specs.declared.bench.Bench.{Bench}
+use Rattle.vhdl_text.specs.declared.language.Language.{Language}
 use Rattle.vhdl_meaning.specs.declared.run.SimRun.{SimRun}
 use Rattle.bench_run.specs.Traces.{trace_text_of}
 use Rattle.trace_decode.specs.Outcome.{Outcome}
@@ -24,8 +25,11 @@ use Rattle.tydi_tool.specs.Entities.{TellsDesign}
 use Rattle.tydi_tool.specs.Jobs.{TellsJob}
 use Rattle.tydi_tool.specs.Links.{TellsLinked}
 use Rattle.tydi_tool.specs.Dumps.{ReadsDump}
+use Rattle.trace_compare.specs.Texts.{Comparison}
+use Rattle.physical_stream.specs.declared.item.Item.{Item}
+use Rattle.tydi_tool.specs.Comparisons.{ReadsComparison, TellsComparison, items_of_value}
 use Rattle.tydi_tool.specs.Words as requests
-use Rattle.tydi_tool.specs.Words.{Request, Check, Decode, Drive, Link, Read, Sim, Split, bench_file, trace_file, project_file, text_file, Carry, Vhdl, dump_file}
+use Rattle.tydi_tool.specs.Words.{Request, Check, Decode, Drive, Link, Read, Sim, Split, bench_file, trace_file, project_file, text_file, Carry, Design, dump_file}
 use Rattle.cycle_trace.specs.Trace.{TraceText}
 use Rattle.link_check.specs.declared.end_heads.EndHeads.{EndHeads}
 use Rattle.port_drive.specs.Text.{written_text}
@@ -68,9 +72,13 @@ carried_ask project port next = port_ask project port (λ split. goes_on (carrie
 abbrev pub plan_ask : List ℕ → PlainSplit → (Plan → Answer → Type 0) → Ask
 plan_ask plan split Tells = Asks (text_file plan) Plan (ReadsPlan plan split) (λ read. Ends (Tells read))
 
+-- a command that goes on with a value of a port
+abbrev pub valued_ask : List ℕ → PlainSplit → (PortValue → Ask) → Ask
+valued_ask value split next = Asks (text_file value) PortValue (ReadsValue value split) next
+
 -- a command that ends with a value and then a plan of a port
 abbrev pub planned_ask : (value plan : List ℕ) → PlainSplit → (PortValue → Plan → Answer → Type 0) → Ask
-planned_ask value plan split Tells = Asks (text_file value) PortValue (ReadsValue value split) (λ read. plan_ask plan split (Tells read))
+planned_ask value plan split Tells = valued_ask value split (λ read. plan_ask plan split (Tells read))
 
 -- a command that ends with this text of a port that is driven
 abbrev pub driven_ask : DrivenText → (project port value plan : List ℕ) → Ask
@@ -113,9 +121,9 @@ carry_ask words trace = Asks (project_file words.project) EndHeads (ReadsDesign 
 abbrev pub of_design : (project top from to : List ℕ) → DesignWords
 of_design project top from to = record { project = project; top = top; from = from; to = to }
 
--- `vhdl PROJECT`: its entities and architectures
-abbrev pub vhdl_ask : List ℕ → Ask
-vhdl_ask project = project_ask project (λ read. Ends (TellsDesign project read))
+-- `vhdl PROJECT`, `verilog PROJECT`: its entities and architectures in this language
+abbrev pub design_ask : Language → List ℕ → Ask
+design_ask language project = project_ask project (λ read. Ends (TellsDesign language project read))
 
 -- `bench PROJECT PORT VALUE PLAN`: the testbench that drives the port
 abbrev pub bench_ask : (project port value plan : List ℕ) → Ask
@@ -137,6 +145,19 @@ vcd_ask project port scope file = port_ask project port (dump_ask scope file)
 abbrev pub gen_ask : (project port : List ℕ) (seed count : ℕ) → Ask
 gen_ask project port seed count = carried_ask project port (λ split. Ends (TellsJob split seed count))
 
+-- a command that ends with a trace of a port, of whose streams these items are expected
+abbrev pub against_ask : List ℕ → PlainSplit → List (List Item) → Ask
+against_ask trace split wants = Asks (trace_file trace) Comparison (ReadsComparison split wants trace) (λ found. Ends (TellsComparison split trace found))
+
+-- a command that ends with a trace of a port beside a value of it
+abbrev pub compared_ask : List ℕ → PlainSplit → PortValue → Ask
+compared_ask trace split value = against_ask trace split (items_of_value split value)
+
+-- `compare PROJECT PORT VALUE TRACE`: where the trace differs from the value first, on each stream. The project, its port and the value are decided
+-- before the trace is started.
+abbrev pub compare_ask : (project port value trace : List ℕ) → Ask
+compare_ask project port value trace = carried_ask project port (λ split. valued_ask value split (compared_ask trace split))
+
 abbrev pub ask_of : Request → Ask
 ask_of (Check trace) = check_ask trace
 ask_of (Read project) = read_ask project
@@ -146,11 +167,12 @@ ask_of (Decode project port trace) = decode_ask project port trace
 ask_of (Sim bench run) = sim_ask bench run
 ask_of (Link project) = link_ask project
 ask_of (Carry project top from to trace) = carry_ask (of_design project top from to) trace
-ask_of (Vhdl project) = vhdl_ask project
+ask_of (Design language project) = design_ask language project
 ask_of (requests.Bench project port value plan) = bench_ask project port value plan
 ask_of (requests.Testbench project test) = testbench_ask project test
 ask_of (requests.Vcd project port scope file) = vcd_ask project port scope file
 ask_of (requests.Gen project port seed count) = gen_ask project port seed count
+ask_of (requests.Compare project port value trace) = compare_ask project port value trace
 
 -- the answer of the tool: none where the words spell no command
 abbrev pub Says : Option Files → Option Request → Answer → Type 0

@@ -1,5 +1,5 @@
 -- The outcome of the trace of a port, and the answer of `decode` (this project's own).
-use Rattle.std.specs.Prelude.{◌≡◌, ℕ, ◌++◌, ◌<◌, List, length, Result, Ok, Err, codes, decimal}
+use Rattle.std.specs.Prelude.{◌≡◌, ℕ, ◌++◌, ◌<◌, List, Result, Ok, Err, codes, decimal}
 use Rattle.tydi_base.specs.Path.{path_text}
 use Rattle.cycle_trace.specs.Trace.{TraceText}
 use Rattle.cycle_trace.specs.TraceText.{trace_of}

@@ -4,6 +4,7 @@ use Rattle.std.specs.Prelude.{◌≡◌, ℕ, List, [], ◌∷◌, Option, Some,
 use Rattle.til_resolve.specs.PlainProject.{PlainProject, PlainStreamlet}
 use Rattle.link_check.specs.Checked.{linked}
 use Rattle.link_check.specs.declared.nets.Nets.{Nets}
+use Rattle.vhdl_text.specs.declared.language.Language.{Language}
 use Rattle.vhdl_writer.specs.Architecture.{architectures}
 use Rattle.vhdl_writer.specs.Designs.{design_text}
 use Rattle.vhdl_writer.specs.PortClashes.{first_clash}
@@ -13,19 +14,19 @@ use Rattle.tydi_tool.specs.declared.answer.Answer.TheVariants as answers
 use Rattle.tydi_tool.specs.Links.{TellsChecked}
 use Rattle.tydi_tool.specs.Refusals.{Refusal, Port, Stream, refusal_line}
 
--- the text of the entities and architectures of a project with these nets
-abbrev pub text_of_nets : List PlainStreamlet → Nets → List ℕ
-text_of_nets streamlets nets = design_text (architectures streamlets nets.impls)
+-- the text of the entities and architectures of a project with these nets, in this language
+abbrev pub text_of_nets : Language → List PlainStreamlet → Nets → List ℕ
+text_of_nets language streamlets nets = design_text language (architectures streamlets nets.impls)
 
 -- the refusal of a project for a port of which two physical streams have one path
 abbrev pub refusal_of_clash : Clash → Refusal
 refusal_of_clash clash = record { name = codes "NameClash"; details = Port clash.streamlet clash.port ∷ Stream clash.path ∷ [] }
 
 -- the answer to a project whose types have this first clash: the refusal of it; or else its text, or its first link error
-abbrev pub TellsApart : List ℕ → List PlainStreamlet → Option Clash → Answer → Type 0
-TellsApart word streamlets (Some clash) a = a ≡ answers.Refused (refusal_line (refusal_of_clash clash))
-TellsApart word streamlets None a = TellsChecked word (text_of_nets streamlets) (linked streamlets) a
+abbrev pub TellsApart : Language → List ℕ → List PlainStreamlet → Option Clash → Answer → Type 0
+TellsApart language word streamlets (Some clash) a = a ≡ answers.Refused (refusal_line (refusal_of_clash clash))
+TellsApart language word streamlets None a = TellsChecked word (text_of_nets language streamlets) (linked streamlets) a
 
 -- the answer to a project
-abbrev pub TellsDesign : List ℕ → PlainProject → Answer → Type 0
-TellsDesign word project a = TellsApart word project.streamlets (first_clash project.streamlets) a
+abbrev pub TellsDesign : Language → List ℕ → PlainProject → Answer → Type 0
+TellsDesign language word project a = TellsApart language word project.streamlets (first_clash project.streamlets) a

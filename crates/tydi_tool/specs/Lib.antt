@@ -5,6 +5,8 @@ pub mod Benches
 pub mod CarryLaw
 pub mod Causes
 pub mod Commands
+pub mod Comparisons
+pub mod CompareLaw
 pub mod Decodes
 pub mod DecodeFiles
 pub mod DecodeLaw

@@ -9,9 +9,10 @@ use Rattle.tydi_tool.specs.declared.status.Status.{Status}
 use Rattle.tydi_tool.specs.declared.status.Status.TheVariants as statuses
 use Rattle.tydi_tool.specs.DecodeLaw.{IsReadBack, WritesDecoded, decode_words}
 use Rattle.tydi_tool.specs.DriveLaw.{WritesDriven, drive_words}
-use Rattle.tydi_tool.specs.Words.{Request, Check, Decode, Drive, Link, Read, Sim, Split, FileWord, file_words, Carry, Vhdl, Bench, Testbench, Vcd, Gen}
+use Rattle.tydi_tool.specs.Words.{Request, Check, Decode, Drive, Link, Read, Sim, Split, FileWord, file_words, Carry, Design, Bench, Testbench, Vcd, Gen, Compare}
 use Rattle.tydi_tool.specs.BenchLaw.{WritesBench, WritesTestbench, test_words}
 use Rattle.tydi_tool.specs.CarryLaw.{WritesArrived, carry_words}
+use Rattle.tydi_tool.specs.CompareLaw.{WritesSame, compare_words}
 use Rattle.tydi_tool.specs.DumpLaw.{WritesShown, dump_words}
 use Rattle.tydi_tool.specs.JobLaw.{WritesSummary, job_words}
 use Rattle.tydi_tool.specs.WiringLaw.{WritesDesign}
@@ -83,6 +84,19 @@ pub record IsCaused (known : Files) (request : Option Request) (status : Status)
   pub ends : status ≡ status_of_answer answer
   pub out : Adds out_old out_new (out_of_answer answer)
   pub err : Adds err_old err_new (err_of_answer answer)
+
+-- the run ended with this answer: out has exactly its text or verdict, err exactly its line
+pub record EndsWith (answer : Answer) (status : Status) (out_old out_new err_old err_new : Option (List ℕ)) : Type 0 where
+  pub ends : status ≡ status_of_answer answer
+  pub out : Adds out_old out_new (out_of_answer answer)
+  pub err : Adds err_old err_new (err_of_answer answer)
+
+-- wherever the cause of an answer stands in the words and the files, by a row of the table of causes, the run ended with this answer, or for
+-- want of memory
+abbrev pub AnswersCauses : Files → Option Request → Status → (out_old out_new err_old err_new : Option (List ℕ)) → Type 0
+AnswersCauses known None status out_old out_new err_old err_new = Unit {0}
+AnswersCauses known (Some request) status out_old out_new err_old err_new =
+    (row : Row) (answer : Answer) → CausedBy row known request answer → (status ≡ statuses.Memory) ⊎ EndsWith answer status out_old out_new err_old err_new
 
 -- a run over which no count of faults rose: it ends with that answer, as Usage, or for want of memory
 abbrev pub IsComplete : Option Files → Option Request → Status → (out_old out_new err_old err_new : Option (List ℕ)) → Type 0
@@ -181,11 +195,12 @@ WritesTrace known (Some (Decode project port trace)) out_old out_new = Unit {0}
 WritesTrace known (Some (Sim bench run)) out_old out_new = Unit {0}
 WritesTrace known (Some (Link project)) out_old out_new = Unit {0}
 WritesTrace known (Some (Carry project top from to trace)) out_old out_new = Unit {0}
-WritesTrace known (Some (Vhdl project)) out_old out_new = Unit {0}
+WritesTrace known (Some (Design language project)) out_old out_new = Unit {0}
 WritesTrace known (Some (Bench project port value plan)) out_old out_new = Unit {0}
 WritesTrace known (Some (Testbench project test)) out_old out_new = Unit {0}
 WritesTrace known (Some (Vcd project port scope file)) out_old out_new = Unit {0}
 WritesTrace known (Some (Gen project port seed count)) out_old out_new = Unit {0}
+WritesTrace known (Some (Compare project port value trace)) out_old out_new = Unit {0}
 WritesTrace known (Some (Drive project port value plan)) out_old out_new =
     (text : List ℕ) × (WritesDriven known (drive_words project port value plan) text × Adds out_old out_new text)
 
@@ -207,10 +222,10 @@ WritesCarried known (Some (Carry project top from to trace)) out_old out_new =
     (text : List ℕ) × (WritesArrived known (carry_words project top from to trace) text × Adds out_old out_new text)
 WritesCarried known request out_old out_new = Unit {0}
 
--- where the command writes a project in VHDL, out has exactly the text more of its entities and architectures, which are wired by its nets
+-- where the command writes a project in VHDL or in Verilog, out has exactly the text more of its entities and architectures, which are wired by its nets
 abbrev pub WritesWired : Files → Option Request → (out_old out_new : Option (List ℕ)) → Type 0
-WritesWired known (Some (Vhdl project)) out_old out_new =
-    (text : List ℕ) × (WritesDesign known project text × Adds out_old out_new text)
+WritesWired known (Some (Design language project)) out_old out_new =
+    (text : List ℕ) × (WritesDesign known language project text × Adds out_old out_new text)
 WritesWired known request out_old out_new = Unit {0}
 
 -- where the command makes a testbench, of a port or of a declared test, out has exactly the text of a testbench more that drives the port: under any
@@ -227,6 +242,12 @@ abbrev pub WritesSampled : Files → Option Request → (out_old out_new : Optio
 WritesSampled known (Some (Vcd project port scope file)) out_old out_new =
     (text : List ℕ) × (WritesShown known (dump_words project port scope file) text × Adds out_old out_new text)
 WritesSampled known request out_old out_new = Unit {0}
+
+-- where the command compares a trace with a value and all is the same, out has exactly the line more that says so, and the trace shows the value
+abbrev pub WritesCompared : Files → Option Request → (out_old out_new : Option (List ℕ)) → Type 0
+WritesCompared known (Some (Compare project port value trace)) out_old out_new =
+    (text : List ℕ) × (WritesSame known (compare_words project port value trace) text × Adds out_old out_new text)
+WritesCompared known request out_old out_new = Unit {0}
 
 -- where the command makes a job of a port, out has exactly the text more of the summary of that job, which drives the port with a value and carries it
 abbrev pub WritesJob : Files → Option Request → (out_old out_new : Option (List ℕ)) → Type 0

@@ -5,6 +5,8 @@ use Rattle.std.specs.Str.{bytes_eq}
 use Rattle.tydi_base.specs.Name.{is_name}
 use Rattle.tydi_base.specs.Pieces.{pieces_of}
 use Rattle.tydi_base.specs.Decimal.{below, decimal_of}
+use Rattle.vhdl_text.specs.declared.language.Language.{Language}
+use Rattle.vhdl_text.specs.declared.language.Language.TheVariants as languages
 use Rattle.tydi_tool.specs.declared.words.Command.{Command}
 use Rattle.tydi_tool.specs.declared.words.Command.TheVariants as commands
 
@@ -18,11 +20,12 @@ pub data Request : Type 0 where
   Sim : List ℕ → List ℕ → Request
   Link : List ℕ → Request
   Carry : List ℕ → List ℕ → List ℕ → List ℕ → List ℕ → Request
-  Vhdl : List ℕ → Request
+  Design : Language → List ℕ → Request
   Bench : List ℕ → List ℕ → List ℕ → List ℕ → Request
   Testbench : List ℕ → List ℕ → Request
   Vcd : List ℕ → List ℕ → List ℕ → List ℕ → Request
   Gen : List ℕ → List ℕ → (seed count : ℕ) → Request
+  Compare : List ℕ → List ℕ → List ℕ → List ℕ → Request
 
 abbrev pub request_from : Command → Request
 request_from (commands.Check trace) = Check trace.now
@@ -33,11 +36,13 @@ request_from (commands.Decode project port trace) = Decode project.now port.now 
 request_from (commands.Sim bench run) = Sim bench.now run.now
 request_from (commands.Link project) = Link project.now
 request_from (commands.Carry project top from to trace) = Carry project.now top.now from.now to.now trace.now
-request_from (commands.Vhdl project) = Vhdl project.now
+request_from (commands.Vhdl project) = Design languages.Vhdl project.now
+request_from (commands.Verilog project) = Design languages.Verilog project.now
 request_from (commands.Bench project port value plan) = Bench project.now port.now value.now plan.now
 request_from (commands.Testbench project test) = Testbench project.now test.now
 request_from (commands.Vcd project port scope file) = Vcd project.now port.now scope.now file.now
 request_from (commands.Gen project port seed count) = Gen project.now port.now seed count
+request_from (commands.Compare project port value trace) = Compare project.now port.now value.now trace.now
 
 -- a word that is not empty and does not begin with `-`
 abbrev pub is_word : List ℕ → Bool
@@ -86,10 +91,10 @@ carry_request (project ∷ top ∷ from ∷ to ∷ trace ∷ []) =
     if is_word project && ((is_word top && is_word from) && (is_word to && is_word trace)) then Some (Carry project top from to trace) else None
 carry_request words = None
 
--- `vhdl PROJECT`
-abbrev pub vhdl_request : List (List ℕ) → Option Request
-vhdl_request (project ∷ []) = if is_word project then Some (Vhdl project) else None
-vhdl_request words = None
+-- `vhdl PROJECT` and `verilog PROJECT`
+abbrev pub design_request : Language → List (List ℕ) → Option Request
+design_request language (project ∷ []) = if is_word project then Some (Design language project) else None
+design_request language words = None
 
 -- `bench PROJECT PORT VALUE PLAN`
 abbrev pub bench_request : List (List ℕ) → Option Request
@@ -127,6 +132,12 @@ abbrev pub gen_request : List (List ℕ) → Option Request
 gen_request (project ∷ port ∷ seed ∷ count ∷ []) = if is_word project && is_word port then job_request project port (number_word 65535 seed) (number_word 100000 count) else None
 gen_request words = None
 
+-- `compare PROJECT PORT VALUE TRACE`
+abbrev pub compare_request : List (List ℕ) → Option Request
+compare_request (project ∷ port ∷ value ∷ trace ∷ []) =
+    if (is_word project && is_word port) && (is_word value && is_word trace) then Some (Compare project port value trace) else None
+compare_request words = None
+
 -- the command that the words spell: the command's own word, and then exactly its words
 abbrev pub request_of : List (List ℕ) → Option Request
 request_of [] = None
@@ -139,12 +150,14 @@ request_of (command ∷ words) =
     else (if bytes_eq command (codes "link") then link_request words
     else (if bytes_eq command (codes "decode") then decode_request words
     else (if bytes_eq command (codes "carry") then carry_request words
-    else (if bytes_eq command (codes "vhdl") then vhdl_request words
+    else (if bytes_eq command (codes "vhdl") then design_request languages.Vhdl words
+    else (if bytes_eq command (codes "verilog") then design_request languages.Verilog words
     else (if bytes_eq command (codes "bench") then bench_request words
     else (if bytes_eq command (codes "testbench") then testbench_request words
     else (if bytes_eq command (codes "vcd") then vcd_request words
     else (if bytes_eq command (codes "gen") then gen_request words
-    else None))))))))))))
+    else (if bytes_eq command (codes "compare") then compare_request words
+    else None))))))))))))))
 
 -- a file that a command names, and the most bytes that it may have
 pub record FileWord : Type 0 where
@@ -191,11 +204,12 @@ file_words (Decode project port trace) = project_file project ∷ trace_file tra
 file_words (Sim bench run) = bench_file bench ∷ text_file run ∷ []
 file_words (Link project) = project_file project ∷ []
 file_words (Carry project top from to trace) = project_file project ∷ trace_file trace ∷ []
-file_words (Vhdl project) = project_file project ∷ []
+file_words (Design language project) = project_file project ∷ []
 file_words (Bench project port value plan) = project_file project ∷ text_file value ∷ text_file plan ∷ []
 file_words (Testbench project test) = project_file project ∷ []
 file_words (Vcd project port scope file) = project_file project ∷ dump_file file ∷ []
 file_words (Gen project port seed count) = project_file project ∷ []
+file_words (Compare project port value trace) = project_file project ∷ text_file value ∷ trace_file trace ∷ []
 
 -- the store may start each file of the command
 abbrev pub Allows : (List ℕ → Bool) → Option Request → Type 0

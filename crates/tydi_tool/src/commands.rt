@@ -20,11 +20,13 @@ ghost use Rattle.tydi_tool.specs.Words.{request_from, file_words, project_file};
 use crate::answer::Reply;
 use crate::asking::{ask, ask_text};
 use crate::carry::carry;
+use crate::compare::compare;
 use crate::declared_test::testbench;
 use crate::decode::decode;
 use crate::designs::DesignText;
 use crate::drive::{bench, drive};
 use crate::ending::{OUTPUT_LIMIT, answered, answered_front, too_long};
+use crate::entities::design;
 use crate::jobs::generate;
 use crate::link::link;
 use crate::ports::split_of_port;
@@ -34,7 +36,6 @@ use crate::sim::sim;
 use crate::traces::TraceFile;
 use crate::trees::TreeText;
 use crate::vcd::vcd;
-use crate::vhdl::vhdl;
 use crate::words::Command;
 use split_text::{split_fits, split_text};
 use std::alloc::Global;
@@ -43,6 +44,7 @@ use til_resolve::Project;
 use tydi_base::{Memory, Text};
 use tydi_io::Store;
 use type_split::Split;
+use vhdl_text::Language;
 
 /// The most bytes of a trace: 64 MiB.
 pub(crate) const TRACE_LIMIT: usize = 67_108_864;
@@ -88,7 +90,8 @@ pub(crate) fn reply_to<S: Store>(alloc: Global, command: Command<'_>, store: &mu
             };
             carry(alloc, words, trace, store)
         }
-        Command::Vhdl { project } => vhdl(alloc, project, store),
+        Command::Vhdl { project } => design(alloc, Language::Vhdl, project, store),
+        Command::Verilog { project } => design(alloc, Language::Verilog, project, store),
         Command::Bench {
             project,
             port,
@@ -108,6 +111,12 @@ pub(crate) fn reply_to<S: Store>(alloc: Global, command: Command<'_>, store: &mu
             seed,
             count,
         } => generate(alloc, project, port, seed, count, store),
+        Command::Compare {
+            project,
+            port,
+            value,
+            trace,
+        } => compare(alloc, project, port, value, trace, store),
     }
 }
 

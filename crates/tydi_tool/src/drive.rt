@@ -171,7 +171,7 @@ fn drive_value<S: Store>(
 
 /// The value of this word, of the port that was split. The error is the reply where its file is lacking, a call fails or its text is
 /// refused.
-fn ask_value<S: Store>(
+pub(crate) fn ask_value<S: Store>(
     alloc: Global,
     split: &Split<'_>,
     value: &Text,

@@ -1,6 +1,7 @@
 ghost use Rattle.tydi_tool.specs.Causes.{
   ClashCause,
   CountCause,
+  DifferenceCause,
   DisagreeCause,
   EachIsOfARow,
   ExactlyWhere,
@@ -32,13 +33,14 @@ ghost use Rattle.tydi_tool.specs.BenchLaw.{
   WrittenBenchesDrive,
   WrittenTestbenchesDrive,
 };
+ghost use Rattle.tydi_tool.specs.CompareLaw.{DrivenTracesAreSame, SameTracesShowValues, ShownValuesAreSame};
 ghost use Rattle.tydi_tool.specs.DecodeLaw.{CarriedValuesAreWritten, DrivenValuesAreReadBack, LevelsKeepValues, WrittenValuesAreCarried};
 ghost use Rattle.tydi_tool.specs.CarryLaw.{LevelsRiseOnTheWay, WrittenTracesArrive};
 ghost use Rattle.tydi_tool.specs.DriveLaw.{AcceptedPortsAreDriven, WrittenTracesAreDriven};
 ghost use Rattle.tydi_tool.specs.DumpLaw.{ShownDumpsAreWritten, WrittenDumpsAreShown};
 ghost use Rattle.tydi_tool.specs.JobLaw.{WrittenSummariesAreOfJobs};
 ghost use Rattle.tydi_tool.specs.Laws.{OneAnswer, SomeAnswer};
-ghost use Rattle.tydi_tool.specs.WiringLaw.{WrittenDesignsAreWired};
+ghost use Rattle.tydi_tool.specs.WiringLaw.{LanguagesAreAlike, LanguagesAreRefusedAlike, WrittenDesignsAreWired};
 
 use carried_values::traces_arrive_whole;
 use cycle_trace::traces_are_read_as_spelled;
@@ -46,6 +48,7 @@ use link_check::{compatible_ports_carry, projects_have_one_answer};
 use port_bench::benches_show_their_runs;
 use port_drive::driven_texts_are_traces;
 use port_gen::jobs_are_carried;
+use trace_compare::{no_differences_where_same, texts_have_one_comparison};
 use trace_decode::texts_have_one_outcome;
 use value_text::values_are_read_as_printed;
 use vcd_read::{dumps_show_traces, faults_name_streams};
@@ -60,6 +63,7 @@ pub fn answers_are_one()
     compatible_ports_carry();
     texts_have_one_outcome();
     faults_name_streams();
+    texts_have_one_comparison();
 }
 
 /// The table of causes: each row's answer comes exactly where its cause stands in the words and the files, and each answer is of a
@@ -85,6 +89,7 @@ pub fn causes_are_told()
     ensures offence { ExactlyWhere rows.AnOffence OffenceCause }
     ensures unfinished { ExactlyWhere rows.AnUnfinished UnfinishedCause }
     ensures disagreement { ExactlyWhere rows.ADisagreement DisagreeCause }
+    ensures difference { ExactlyWhere rows.ADifference DifferenceCause }
     ensures text { ExactlyWhere rows.AText TextCause }
     ensures no_test { ExactlyWhere rows.NoTest NoTestCause }
     ensures each { EachIsOfARow }
@@ -108,6 +113,16 @@ pub fn values_are_read_back()
     ensures levels { LevelsKeepValues }
 {}
 
+/// The laws of `compare`, over the words and the files alone. It says that a trace is the same exactly where the trace has the heads of the
+/// port and the items done on each stream are those of the value. It says so of each text that `drive` wrote for the value.
+pub fn traces_are_compared()
+    ensures same { SameTracesShowValues }
+    ensures shown { ShownValuesAreSame }
+    ensures driven { DrivenTracesAreSame }
+{
+    no_differences_where_same();
+}
+
 /// The laws of `carry`. Each text that it writes is that of the trace that arrives at the leaf sink to which the nets lead from the leaf
 /// source, and this trace arrives whole: the same cycles with valid and ready, the same items done in each, legal where it was legal, and
 /// carrying the same values by the types of both ends. No level falls on the way, so no trace is refused for one.
@@ -121,12 +136,15 @@ pub fn carried_traces_arrive()
     compatible_ports_carry();
 }
 
-/// The law of `vhdl`, over the words and the files alone. Each text that it writes is that of the entities and architectures of a project that
+/// The laws of `vhdl` and of `verilog`, over the words and the files alone. Each text that they write is that of the entities and architectures of a project that
 /// is read from the file and whose links give nets. In each architecture each signal that the receiving end of a stream of a net has is assigned
 /// exactly once, and nothing else is; and under the assignments the trace at the receiving ends of a net is the one that `carry` makes of the
-/// trace at the sending ends.
+/// trace at the sending ends. The two texts of one project are those of the same entities and architectures, and what the one command refuses,
+/// the other refuses with the same line, the length of the output aside.
 pub fn written_designs_are_wired()
-    ensures { WrittenDesignsAreWired }
+    ensures wired { WrittenDesignsAreWired }
+    ensures alike { LanguagesAreAlike }
+    ensures refused { LanguagesAreRefusedAlike }
 {
     values_are_read_as_printed();
     first_clash_is_reported();

@@ -9,6 +9,9 @@ mod asking;
 mod benches;
 mod carry;
 mod commands;
+mod compare;
+mod compare_file;
+mod compare_lines;
 mod declared_test;
 mod decode;
 mod decode_file;
@@ -19,6 +22,7 @@ mod drive;
 mod driven_text;
 mod driving;
 mod ending;
+mod entities;
 mod gather;
 mod jobs;
 mod laws;
@@ -40,13 +44,13 @@ mod traces;
 mod trees;
 mod vcd;
 mod vcd_file;
-mod vhdl;
 mod words;
 
 pub use answer::{Answer, Reply};
 pub use laws::{
     answers_are_one, benches_drive_ports, carried_traces_arrive, causes_are_told, drives_are_legal,
-    dumps_are_sampled, jobs_are_reported, values_are_read_back, written_designs_are_wired,
+    dumps_are_sampled, jobs_are_reported, traces_are_compared, values_are_read_back,
+    written_designs_are_wired,
 };
 pub use output::Output;
 pub use running::run;

@@ -10,6 +10,7 @@ ghost use Rattle.tydi_tool.specs.Run.{
   IsAnswered,
   IsCaused,
   IsComplete,
+  AnswersCauses,
   ReportsRead,
   OutFront,
   OutPart,
@@ -22,6 +23,7 @@ ghost use Rattle.tydi_tool.specs.Run.{
   WritesReadBack,
   WritesSampled,
   WritesCarried,
+  WritesCompared,
   WritesWired,
   WritesLines,
   WritesTrace,
@@ -34,7 +36,7 @@ use crate::commands::reply_to;
 use crate::delivery::{deliver, deliver_line};
 use crate::laws::{
     benches_drive_ports, carried_traces_arrive, dumps_are_sampled, jobs_are_reported,
-    written_designs_are_wired,
+    traces_are_compared, written_designs_are_wired,
 };
 use crate::status::Status;
 use crate::words::words_of;
@@ -86,7 +88,7 @@ pub fn run<S: Store, O: Sink, E: Sink>(
     // Where a trace is carried, out has exactly the text of the trace that arrives, which arrives whole.
     ensures carried { result ≡ statuses.Done → IfSome (S.files store.old) (λ known. WritesCarried known (request_of words.now) (O.taken out.old)
         (O.taken out.new)) }
-    // Where a project is written in VHDL, out has exactly the text of its entities and architectures, in each of which each signal that the
+    // Where a project is written in VHDL or in Verilog, out has exactly the text of its entities and architectures, in each of which each signal that the
     // receiving end of a stream of a net has is assigned exactly once, and which keep what `carry` makes of a trace.
     ensures wired { result ≡ statuses.Done → IfSome (S.files store.old) (λ known. WritesWired known (request_of words.now) (O.taken out.old)
         (O.taken out.new)) }
@@ -101,10 +103,20 @@ pub fn run<S: Store, O: Sink, E: Sink>(
     // its trace breaks no rule, ends whole and carries the value.
     ensures generated { result ≡ statuses.Done → IfSome (S.files store.old) (λ known. WritesJob known (request_of words.now) (O.taken out.old)
         (O.taken out.new)) }
+    // Where a trace is compared with a value and is the same, out has exactly the line that says so, and the items done on each stream are exactly
+    // those of the value.
+    ensures compared { result ≡ statuses.Done → IfSome (S.files store.old) (λ known. WritesCompared known (request_of words.now) (O.taken out.old)
+        (O.taken out.new)) }
     // Where no count of faults rose, the run ends with that answer, as Usage, or for want of memory.
     ensures complete { (Rose (S.faults store.old) (S.faults store.new) → ⊥) →
         (Rose (O.faults out.old) (O.faults out.new) → ⊥) → (Rose (E.faults err.old) (E.faults err.new) → ⊥) →
         IsComplete (S.files store.old) (request_of words.now) result (O.taken out.old) (O.taken out.new) (E.taken err.old) (E.taken err.new) }
+    // Where the store reports its files too, the run ends so with each answer whose cause stands in them. With `caused`: with the answer of a row
+    // exactly where its cause stands, want of memory aside.
+    ensures told { (Rose (S.faults store.old) (S.faults store.new) → ⊥) →
+        (Rose (O.faults out.old) (O.faults out.new) → ⊥) → (Rose (E.faults err.old) (E.faults err.new) → ⊥) →
+        IfSome (S.files store.old) (λ known. AnswersCauses known (request_of words.now) result (O.taken out.old) (O.taken out.new)
+        (E.taken err.old) (E.taken err.new)) }
     // Out keeps its bytes, and is never given more than a front of the answer's text or verdict.
     ensures out_front { OutFront (S.files store.old) (request_of words.now) (O.taken out.old) (O.taken out.new) }
     // Where memory was missing, out did not get the whole of a text.
@@ -125,6 +137,7 @@ pub fn run<S: Store, O: Sink, E: Sink>(
     benches_drive_ports();
     dumps_are_sampled();
     jobs_are_reported();
+    traces_are_compared();
     run_words(alloc, words, store, out, err)
 }
 

@@ -2,6 +2,7 @@ ghost use Rattle.std.specs.Prelude.{◌≡◌, ◌≤◌, ◌<◌, ◌&&◌, IfS
 ghost use Rattle.std.specs.List.{list_all};
 ghost use Rattle.tydi_base.specs.Name.{is_name};
 ghost use Rattle.tydi_base.specs.Pieces.{pieces_of};
+ghost use Rattle.vhdl_text.specs.declared.language.Language.TheVariants as languages;
 ghost use Rattle.tydi_tool.specs.Words.{
   request_of,
   request_from,
@@ -14,7 +15,8 @@ ghost use Rattle.tydi_tool.specs.Words.{
   link_request,
   carry_request,
   decode_request,
-  vhdl_request,
+  design_request,
+  compare_request,
   bench_request,
   testbench_request,
   vcd_request,
@@ -96,8 +98,13 @@ pub enum Command<'a> {
         /// The file of the trace.
         trace: &'a Text,
     },
-    /// Write the entities and architectures of a project.
+    /// Write the entities and architectures of a project in VHDL.
     Vhdl {
+        /// The file of the project.
+        project: &'a Text,
+    },
+    /// Write the same entities and architectures as modules in Verilog.
+    Verilog {
         /// The file of the project.
         project: &'a Text,
     },
@@ -129,6 +136,17 @@ pub enum Command<'a> {
         scope: &'a Text,
         /// The file of the dump.
         file: &'a Text,
+    },
+    /// Compare what a trace of a port carries with a value.
+    Compare {
+        /// The file of the project.
+        project: &'a Text,
+        /// The port, as `a::b::s.p`.
+        port: &'a Text,
+        /// The file of the value.
+        value: &'a Text,
+        /// The file of the trace.
+        trace: &'a Text,
     },
     /// Write the summary of a job that two numbers make.
     Gen {
@@ -166,6 +184,8 @@ pub fn words_of<'a>(words: &'a [Text]) -> Option<Command<'a>>
         carry_of(rest)
     } else if command.as_str() == "vhdl" {
         vhdl_of(rest)
+    } else if command.as_str() == "verilog" {
+        verilog_of(rest)
     } else if command.as_str() == "bench" {
         bench_of(rest)
     } else if command.as_str() == "testbench" {
@@ -174,6 +194,8 @@ pub fn words_of<'a>(words: &'a [Text]) -> Option<Command<'a>>
         vcd_of(rest)
     } else if command.as_str() == "gen" {
         gen_of(rest)
+    } else if command.as_str() == "compare" {
+        compare_of(rest)
     } else {
         None
     }
@@ -276,10 +298,19 @@ fn carry_of<'a>(words: &'a [Text]) -> Option<Command<'a>>
 }
 
 fn vhdl_of<'a>(words: &'a [Text]) -> Option<Command<'a>>
-    ensures { option_map request_from result ≡ vhdl_request words.now }
+    ensures { option_map request_from result ≡ design_request languages.Vhdl words.now }
 {
     match words {
         [project] if is_word(project) => Some(Command::Vhdl { project }),
+        _ => None,
+    }
+}
+
+fn verilog_of<'a>(words: &'a [Text]) -> Option<Command<'a>>
+    ensures { option_map request_from result ≡ design_request languages.Verilog words.now }
+{
+    match words {
+        [project] if is_word(project) => Some(Command::Verilog { project }),
         _ => None,
     }
 }
@@ -322,6 +353,22 @@ fn vcd_of<'a>(words: &'a [Text]) -> Option<Command<'a>>
                 port,
                 scope,
                 file,
+            })
+        }
+        _ => None,
+    }
+}
+
+fn compare_of<'a>(words: &'a [Text]) -> Option<Command<'a>>
+    ensures { option_map request_from result ≡ compare_request words.now }
+{
+    match words {
+        [project, port, value, trace] if are_words(project, port) && are_words(value, trace) => {
+            Some(Command::Compare {
+                project,
+                port,
+                value,
+                trace,
             })
         }
         _ => None,

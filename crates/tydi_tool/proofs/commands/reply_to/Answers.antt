@@ -58,9 +58,17 @@ returns-in-Carry g c = record {
 pub returns-in-Vhdl : goal.returns-in-Vhdl
 returns-in-Vhdl g c = record {
   decided = subst (λ (command : Command). Decides
-      (g.S.Store.files c.args.store.now) (g.S.Store.started c.args.store.now) (g.S.Store.started c.vhdl.new.store)
-      (Rose (g.S.Store.faults c.args.store.now) (g.S.Store.faults c.vhdl.new.store)) (ask_of (request_from command)) c.vhdl.result)
-      (sym c.in-Vhdl.is) c.vhdl.ensures.decided;
+      (g.S.Store.files c.args.store.now) (g.S.Store.started c.args.store.now) (g.S.Store.started c.design.new.store)
+      (Rose (g.S.Store.faults c.args.store.now) (g.S.Store.faults c.design.new.store)) (ask_of (request_from command)) c.design.result)
+      (sym c.in-Vhdl.is) c.design.ensures.decided;
+}
+
+pub returns-in-Verilog : goal.returns-in-Verilog
+returns-in-Verilog g c = record {
+  decided = subst (λ (command : Command). Decides
+      (g.S.Store.files c.args.store.now) (g.S.Store.started c.args.store.now) (g.S.Store.started c.design-in-Verilog.new.store)
+      (Rose (g.S.Store.faults c.args.store.now) (g.S.Store.faults c.design-in-Verilog.new.store)) (ask_of (request_from command)) c.design-in-Verilog.result)
+      (sym c.in-Verilog.is) c.design-in-Verilog.ensures.decided;
 }
 
 pub returns-in-Bench : goal.returns-in-Bench
@@ -93,4 +101,12 @@ returns-in-Gen g c = record {
       (g.S.Store.files c.args.store.now) (g.S.Store.started c.args.store.now) (g.S.Store.started c.generate.new.store)
       (Rose (g.S.Store.faults c.args.store.now) (g.S.Store.faults c.generate.new.store)) (ask_of (request_from command)) c.generate.result)
       (sym c.in-Gen.is) c.generate.ensures.decided;
+}
+
+pub returns-in-Compare : goal.returns-in-Compare
+returns-in-Compare g c = record {
+  decided = subst (λ (command : Command). Decides
+      (g.S.Store.files c.args.store.now) (g.S.Store.started c.args.store.now) (g.S.Store.started c.compare.new.store)
+      (Rose (g.S.Store.faults c.args.store.now) (g.S.Store.faults c.compare.new.store)) (ask_of (request_from command)) c.compare.result)
+      (sym c.in-Compare.is) c.compare.ensures.decided;
 }

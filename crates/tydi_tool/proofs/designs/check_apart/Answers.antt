@@ -1,4 +1,4 @@
-use Rattle.std.proofs.Common.{Option, Some, None, Result, Ok, Err, sym, ap, subst, Bor, rules, tests}
+use Rattle.std.proofs.Common.{Option, Err, sym, subst, Bor, rules, tests}
 use Rattle.std.specs.Option.{option_copied}
 use Rattle.logical_types.specs.Tree.{plain_of_stream}
 use Rattle.til_resolve.specs.PlainProject.{plain_port, plain_project}

@@ -1,4 +1,4 @@
-use Rattle.std.proofs.Common.{◌≡◌, Option, Some, Bor, sym, subst}
+use Rattle.std.proofs.Common.{Option, Some, Bor, sym, subst}
 use Rattle.std.specs.Option.{option_copied}
 use Rattle.til_resolve.specs.PlainProject.{plain_project}
 use Rattle.link_check.specs.declared.leaf.LeafPort.{LeafPort}

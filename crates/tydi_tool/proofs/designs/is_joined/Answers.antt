@@ -1,4 +1,3 @@
-use Rattle.std.proofs.Common.{Some, ap, sym, subst}
 use Rattle.til_resolve.specs.PlainProject.{plain_project}
 use Rattle.tydi_tool.proofs.DesignSteps.{joined-as}
 use Rattle.tydi_tool.proofs.designs.is_joined.Goals as goal

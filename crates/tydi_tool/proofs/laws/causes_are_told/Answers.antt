@@ -62,6 +62,9 @@ returns-clause-unfinished c = exactly rows.AnUnfinished
 pub returns-clause-disagreement : goal.returns-clause-disagreement
 returns-clause-disagreement c = exactly rows.ADisagreement
 
+pub returns-clause-difference : goal.returns-clause-difference
+returns-clause-difference c = exactly rows.ADifference
+
 pub returns-clause-text : goal.returns-clause-text
 returns-clause-text c = exactly rows.AText
 

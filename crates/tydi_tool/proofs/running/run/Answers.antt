@@ -1,7 +1,7 @@
 use Rattle.tydi_tool.proofs.RunLemmas.{is_done, IsAnswered-run, IsCaused-answered, IsComplete-run, ReportsRead-run, OutFront-run, OutPart-run}
 use Rattle.tydi_tool.proofs.RunLemmas.{LeavesOut-run, Refusal-run, ErrFront-run, LeavesErr-run, StartedAtEnd-run, WritesReadBack-answered}
 use Rattle.tydi_tool.proofs.RunLemmas.{WritesTrace-answered, WritesValue-answered, usage-run, read-run, write-run, write_line-run, memory-run}
-use Rattle.tydi_tool.proofs.RunLemmas.{WritesCarried-answered, WritesWired-answered, usage-exactly, WritesLines-answered, WritesSampled-answered, WritesJob-answered}
+use Rattle.tydi_tool.proofs.RunLemmas.{WritesCarried-answered, WritesWired-answered, usage-exactly, WritesLines-answered, WritesSampled-answered, WritesJob-answered, WritesCompared-answered, AnswersCauses-complete}
 use Rattle.tydi_tool.proofs.running.run.Goals as goal
 
 pub returns-clause-read_fault_line : goal.returns-clause-read_fault_line
@@ -15,6 +15,9 @@ returns-clause-caused g c = λ ends. IsCaused-answered _ _ _ _ _ _ _ (IsAnswered
 
 pub returns-clause-complete : goal.returns-clause-complete
 returns-clause-complete g c = IsComplete-run _ _ _ _ _ _ _ _ _ _ _ _ c.run_words.ensures
+
+pub returns-clause-told : goal.returns-clause-told
+returns-clause-told g c = λ store out err. AnswersCauses-complete _ _ _ _ _ _ _ (IsComplete-run _ _ _ _ _ _ _ _ _ _ _ _ c.run_words.ensures store out err)
 
 pub returns-clause-out_front : goal.returns-clause-out_front
 returns-clause-out_front g c = OutFront-run _ _ _ _ _ _ _ _ _ _ _ _ c.run_words.ensures
@@ -68,7 +71,7 @@ returns-clause-carried g c = λ done.
 
 pub returns-clause-wired : goal.returns-clause-wired
 returns-clause-wired g c = λ done.
-    WritesWired-answered c.written_designs_are_wired.ensures _ _ _ _ _ _ _ (IsAnswered-run _ _ _ _ _ _ _ _ _ _ _ _ c.run_words.ensures (is_done _ done))
+    WritesWired-answered c.written_designs_are_wired.ensures.wired _ _ _ _ _ _ _ (IsAnswered-run _ _ _ _ _ _ _ _ _ _ _ _ c.run_words.ensures (is_done _ done))
     done
 
 pub returns-clause-benched : goal.returns-clause-benched
@@ -84,6 +87,11 @@ returns-clause-sampled g c = λ done.
 pub returns-clause-generated : goal.returns-clause-generated
 returns-clause-generated g c = λ done.
     WritesJob-answered c.jobs_are_reported.ensures _ _ _ _ _ _ _ (IsAnswered-run _ _ _ _ _ _ _ _ _ _ _ _ c.run_words.ensures (is_done _ done))
+    done
+
+pub returns-clause-compared : goal.returns-clause-compared
+returns-clause-compared g c = λ done.
+    WritesCompared-answered c.traces_are_compared.ensures.same _ _ _ _ _ _ _ (IsAnswered-run _ _ _ _ _ _ _ _ _ _ _ _ c.run_words.ensures (is_done _ done))
     done
 
 pub returns-clause-usage : goal.returns-clause-usage

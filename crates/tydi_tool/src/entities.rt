@@ -1,4 +1,4 @@
-//! The command that writes a project in VHDL. It asks for the project, and ends with its entities and architectures.
+//! The commands that write a project in VHDL and in Verilog. Each asks for the project, and ends with its entities and architectures.
 
 ghost use Rattle.std.specs.Prelude.{◌≡◌, IsTrue, None, Some};
 ghost use Rattle.link_check.specs.Checked.{linked};
@@ -6,7 +6,7 @@ ghost use Rattle.til_resolve.specs.PlainProject.{HasPortTypes, plain_project};
 ghost use Rattle.tydi_io.specs.Faults.{Rose};
 ghost use Rattle.vhdl_writer.specs.PortClashes.{first_clash};
 ghost use Rattle.tydi_tool.specs.Ask.{Decides, Judges};
-ghost use Rattle.tydi_tool.specs.Commands.{vhdl_ask};
+ghost use Rattle.tydi_tool.specs.Commands.{design_ask};
 ghost use Rattle.tydi_tool.specs.Entities.{TellsDesign, refusal_of_clash, text_of_nets};
 ghost use Rattle.tydi_tool.specs.Links.{TellsChecked};
 ghost use Rattle.tydi_tool.specs.Outcome.{output_answer};
@@ -23,30 +23,36 @@ use std::alloc::Global;
 use til_resolve::Project;
 use tydi_base::{Memory, Text};
 use tydi_io::Store;
+use vhdl_text::Language;
 use vhdl_writer::{
     ArchFault, Clash, DesignText, design_text, first_clash, first_clash_is_reported,
 };
 
-/// `vhdl PROJECT`.
-pub(crate) fn vhdl<S: Store>(alloc: Global, project: &Text, store: &mut S) -> Reply
+/// `vhdl PROJECT` or `verilog PROJECT`, by the language.
+pub(crate) fn design<S: Store>(
+    alloc: Global,
+    language: Language,
+    project: &Text,
+    store: &mut S,
+) -> Reply
     requires { IsTrue (S.allowed store.old project.now) }
     ensures decided { Decides (S.files store.old) (S.started store.old) (S.started store.new) (Rose (S.faults store.old) (S.faults store.new))
-        (vhdl_ask project.now) result }
+        (design_ask language project.now) result }
 {
     match ask_project(alloc, project, store) {
-        Ok(read) => designed(alloc, project, &read),
+        Ok(read) => designed(alloc, language, project, &read),
         Err(reply) => reply,
     }
 }
 
 /// The entities and architectures of the project of this word, or the refusal of its first port whose type is not split, or else of its
 /// first link error.
-fn designed(alloc: Global, word: &Text, project: &Project) -> Reply
+fn designed(alloc: Global, language: Language, word: &Text, project: &Project) -> Reply
     requires { HasPortTypes (plain_project project.now) }
-    ensures { Judges (TellsDesign word.now (plain_project project.now)) result }
+    ensures { Judges (TellsDesign language word.now (plain_project project.now)) result }
 {
     match first_clash(alloc, project) {
-        Ok(None) => wired(alloc, word, project),
+        Ok(None) => wired(alloc, language, word, project),
         Ok(Some(clash)) => clashing(alloc, &clash),
         Err(Memory) => Reply::Memory,
     }
@@ -64,25 +70,25 @@ fn clashing(alloc: Global, clash: &Clash) -> Reply
 }
 
 /// The entities and architectures of a project each port of which is split, or the refusal of its first link error.
-fn wired(alloc: Global, word: &Text, project: &Project) -> Reply
+fn wired(alloc: Global, language: Language, word: &Text, project: &Project) -> Reply
     requires types { HasPortTypes (plain_project project.now) }
     requires apart { first_clash (plain_project project.now).streamlets ≡ None }
-    ensures { Judges (TellsChecked word.now (text_of_nets (plain_project project.now).streamlets) (linked (plain_project project.now).streamlets)) result }
+    ensures { Judges (TellsChecked word.now (text_of_nets language (plain_project project.now).streamlets) (linked (plain_project project.now).streamlets)) result }
 {
     match check(alloc, project) {
-        Ok(nets) => written(alloc, project, &nets),
+        Ok(nets) => written(alloc, language, project, &nets),
         Err(fault) => unlinked(alloc, word, fault),
     }
 }
 
 /// The entities and architectures of a project with these nets, as the answer where their text is not too long.
-fn written(alloc: Global, project: &Project, nets: &Nets) -> Reply
+fn written(alloc: Global, language: Language, project: &Project, nets: &Nets) -> Reply
     requires types { HasPortTypes (plain_project project.now) }
     requires apart { first_clash (plain_project project.now).streamlets ≡ None }
-    ensures { Judges (λ a. a ≡ output_answer (text_of_nets (plain_project project.now).streamlets nets.now)) result }
+    ensures { Judges (λ a. a ≡ output_answer (text_of_nets language (plain_project project.now).streamlets nets.now)) result }
 {
     first_clash_is_reported();
-    match design_text(alloc, project, nets, OUTPUT_LIMIT) {
+    match design_text(alloc, project, nets, language, OUTPUT_LIMIT) {
         Ok(Some(DesignText { pieces, length })) => {
             Reply::Says(Answer::Done(Output::design(pieces, length)))
         }
