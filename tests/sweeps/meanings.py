@@ -235,18 +235,26 @@ def text_of_word(ltype, word):
     return "", word, True
 
 
-def text_of_row(node, payload):
-    """The items of a row with valid, and whether each tag that is read names a variant."""
-    text, are_named = "", True
+def items_of_row(node, payload):
+    """The items of a row with valid: the word of an element, or the dimension whose sequence ends."""
     start, end = payload.get("s", 0), payload.get("e", node.lanes - 1)
     for lane in range(node.lanes):
         if payload.get("b", -1) >> lane & 1 and start <= lane <= end:
-            word = payload.get("d", 0) >> (lane * node.width) & ((1 << node.width) - 1)
-            said, _, is_named = text_of_word(node.element, word)
-            text, are_named = text + said + " " + ("" if node.dims else ";"), are_named and is_named
+            yield "element", payload.get("d", 0) >> (lane * node.width) & ((1 << node.width) - 1)
         for dim in range(node.dims):
             if payload.get("l", 0) >> (lane * node.dims + dim) & 1:
-                text += text_of_end(node.dims, dim)
+                yield "end", dim
+
+
+def text_of_row(node, payload):
+    """The items of a row with valid, and whether each tag that is read names a variant."""
+    text, are_named = "", True
+    for kind, number in items_of_row(node, payload):
+        if kind == "element":
+            said, _, is_named = text_of_word(node.element, number)
+            text, are_named = text + said + " " + ("" if node.dims else ";"), are_named and is_named
+        else:
+            text += text_of_end(node.dims, number)
     return text, are_named
 
 
@@ -352,6 +360,60 @@ def disagreement(port, known, series):
     last = port.nodes.index(port.streams[streams - 1])
     packet = front.rpartition("\n")[2].count(";")
     return f"disagree stream {port.nodes[last + 1].path} packet {packet}\n"
+
+
+# ---- changes
+
+# ---- comparisons
+
+def items_done(node, rows):
+    """The items of the transfers done in the rows of a stream, each with its cycle."""
+    for cycle, row in enumerate(rows):
+        _, is_done, payload = signals_of(row)
+        for item in items_of_row(node, payload) if is_done else ():
+            yield item, cycle
+
+
+def place_behind(dims, items):
+    """The place behind these items: for each dimension from the outermost down, how many sequences of it have ended since a greater one did, and
+    then how many elements came since the last end."""
+    counts = [0] * (dims + 1)
+    for kind, number in items:
+        rank = 0 if kind == "element" else number + 1
+        counts = [0] * rank + [counts[rank] + 1] + counts[rank + 1:]
+    return ".".join(str(count) for count in reversed(counts))
+
+
+def said_of_item(node, items, number):
+    """An item as `compare` names it."""
+    if number >= len(items):
+        return "end"
+    kind, word = items[number]
+    if kind == "end":
+        return f"close {word}"
+    digits = (node.width + 3) // 4
+    return f"0x{word:0{digits}x}" if digits else "0x"
+
+
+def difference(node, want, done):
+    """The line of the first difference of a stream; nothing where there is none."""
+    got = [item for item, _ in done]
+    for number in range(max(len(want), len(got))):
+        if want[number:number + 1] != got[number:number + 1]:
+            cycle = done[number][1] if number < len(done) else "-"
+            place = place_behind(node.dims, want[:number])
+            wanted, came = said_of_item(node, want, number), said_of_item(node, got, number)
+            return f"differs stream {node.path} item {number} at {place} cycle {cycle} want {wanted} got {came}\n"
+    return ""
+
+
+def compared(port, wanted, text):
+    """The answer of `compare` to a trace, beside the value of which this other trace has the items."""
+    lines, count = "", len(port.streams)
+    for stream, node in enumerate(port.streams):
+        want = [item for item, _ in items_done(node, rows_of(port, wanted)[stream::count])]
+        lines += difference(node, want, list(items_done(node, rows_of(port, text)[stream::count])))
+    return (6, lines, "") if lines else (0, "same\n", "")
 
 
 # ---- changes

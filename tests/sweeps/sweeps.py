@@ -1,5 +1,6 @@
 """Sweeps of the program. All small values of the ports of `values` are driven and decoded as the same text. The traces of the ports of
-`changes` have each bit of each row changed, and what `decode` says of each is compared with the outcome by the definitions. All items up to
+`changes` have each bit of each row changed, and what `decode` says of each is compared with the outcome by the definitions; so is what `compare`
+says of each beside the value that was driven. All items up to
 four on streams of up to three lanes and two dimensions, at each level and by six wishes, are driven and decoded. bench.vhd is run by the texts
 of `runs`, with the edits of `edits`, and cut at each byte.
   tests/sweeps/run PROGRAM
@@ -115,25 +116,46 @@ def verdict(port, known, project, text):
 
 
 def changed_traces(port, known, step, project, plan):
-    """The traces that drive a port with some of the known values, each with each of its changes, and how many values these are."""
-    texts, driven = [], 0
+    """The traces that drive a port with some of the known values, each with its value, and each of their changes."""
+    driven = []
     for value in list(known)[::step]:
         status, trace, _ = drive(project, value, plan)
         if status == 0:
-            driven += 1
-            texts += meanings.changes(port, trace)
-    return texts, driven
+            driven.append((value, trace, list(meanings.changes(port, trace))))
+    return driven
+
+
+def is_compared(port, project, value, trace, text):
+    """Whether `compare` says of a trace beside a value what the definitions say, where this trace was driven with the value."""
+    files = store(value), store(text)
+    said = answer("compare", project, "a::s.p", *files)
+    for file in files:
+        os.unlink(file)
+    return said == meanings.compared(port, trace, text)
+
+
+def sweep_comparisons(pool, port, project, driven):
+    """Compares each driven trace and each of its changes with the value."""
+    cases = [(value, trace, text) for value, trace, changed in driven for text in [trace, *changed]]
+    for (value, _, text), is_right in zip(cases, pool.map(lambda case: is_compared(port, project, *case), cases)):
+        if not is_right:
+            fail(f"{value}\n{text}")
+    value, trace, changed = driven[-1]
+    spoilt = next(text for text in changed if meanings.compared(port, trace, text)[0])
+    expect("a spoilt trace is the same", False, is_compared(port, project, value, spoilt, spoilt))
+    return len(cases)
 
 
 def sweep_changes(pool):
-    count = 0
+    count, comparisons = 0, 0
     for block in blocks_of("changes", "port"):
         spelled = block["port"][0]
         port, project = meanings.Port(spelled), project_of(spelled)
         expect(f"the streams of {spelled}", port.heads(), meanings.heads_in(answer("split", project, "a::s.p")[1]))
         known = {text: port.series_of_value(text) for text in meanings.all_spelled(block["rule"])}
         plan = store("\n".join(block["plan"]) + "\n")
-        texts, driven = changed_traces(port, known, int(block["step"][0]), project, plan)
+        driven = changed_traces(port, known, int(block["step"][0]), project, plan)
+        texts = [text for _, _, changed in driven for text in changed]
         kinds = dict.fromkeys(("values", "offences", "tags", "unfinished", "disagree"), 0)
         for text, (kind, is_right) in zip(texts, pool.map(lambda text: verdict(port, known, project, text), texts)):
             kinds[kind] = kinds.get(kind, 0) + 1
@@ -142,10 +164,11 @@ def sweep_changes(pool):
             elif kind == "values":
                 sample = port, {value + " ": series for value, series in known.items()}, project, text
         count += len(texts)
-        told = f"known {len(known)} driven {driven} " + " ".join(f"{kind} {number}" for kind, number in kinds.items())
+        comparisons += sweep_comparisons(pool, port, project, driven)
+        told = f"known {len(known)} driven {len(driven)} " + " ".join(f"{kind} {number}" for kind, number in kinds.items())
         expect(f"the outcomes of {spelled}", block["outcomes"][0], told)
     expect("a spoilt value is right", ("values", False), verdict(*sample))
-    return count
+    return count, comparisons
 
 
 # ---- planned items
@@ -261,13 +284,13 @@ def main():
     with ThreadPoolExecutor(os.cpu_count()) as pool:
         values = sweep_values(pool)
         expect("how many values there are", 2242, values)
-        changed = sweep_changes(pool)
-        expect("how many changed traces there are", 4680, changed)
+        changed, compared = sweep_changes(pool)
+        expect("how many changed traces there are", (4680, 4964), (changed, compared))
         runs, refused = sweep_items(pool)
         expect("how many runs there are", (14952, 456), (runs, refused))
         benches = sweep_benches(pool)
         expect("how many testbenches there are", 2110, benches)
-    print(f"sweeps: {values} values, {changed} changed traces, {runs} runs of items, {refused} refused, {benches} testbenches, {len(failures)} failed")
+    print(f"sweeps: {values} values, {changed} changed traces, {compared} comparisons, {runs} runs of items, {refused} refused, {benches} testbenches, {len(failures)} failed")
     return 1 if failures else 0
 
 
