@@ -301,17 +301,13 @@ class Port:
                        for node in self.streams)
 
     def shown(self, rows):
-        """The series of the transfers done, stream by stream, and the number of the first row with valid that has a tag of no variant."""
-        series, bad = ["" for _ in self.streams], None
+        """The series of the transfers done, stream by stream, each with an LF behind it."""
+        series = ["" for _ in self.streams]
         for number, row in enumerate(rows):
             stream = number % len(self.streams)
-            is_valid, is_done, payload = signals_of(row)
-            text, are_named = text_of_row(self.streams[stream], payload) if is_valid else ("", True)
-            if is_done:
-                series[stream] += text
-            if not are_named and bad is None:
-                bad = number
-        return "".join(text + "\n" for text in series), bad
+            _, is_done, payload = signals_of(row)
+            series[stream] += text_of_row(self.streams[stream], payload)[0] if is_done else ""
+        return "".join(text + "\n" for text in series)
 
     def user_lines(self, rows):
         """The lines of the user words of the transfers done."""
@@ -329,26 +325,6 @@ def rows_of(port, text):
     return text.split("\n")[2 + len(port.streams):-1]
 
 
-def outcome(port, known, text, status, checked):
-    """The kind of a trace's outcome, and what `decode` writes: the first violation of rules 1 to 10, which `check` names, or of rule 11, which
-    is found here; else the first stream that does not end whole; else the value whose series are those of the transfers done, or the place
-    up to which some value goes along with them."""
-    rows = rows_of(port, text)
-    series, bad = port.shown(rows)
-    offence = re.match(r"offence cycle (\d+) stream (\S+) rule", checked)
-    paths = [node.path for node in port.streams]
-    if bad is not None:
-        cycle, stream = divmod(bad, len(paths))
-        if not offence or (cycle, stream) < (int(offence.group(1)), paths.index(offence.group(2))):
-            return "tags", f"offence cycle {cycle} stream {paths[stream]} rule 11 Tag\n"
-    if status != 0:
-        return "offences" if offence else "unfinished", checked
-    for value, carried in known.items():
-        if carried == series:
-            return "values", value + port.user_lines(rows)
-    return "disagree", disagreement(port, known, series)
-
-
 def disagreement(port, known, series):
     """Where no value goes along any further: right after the node of the last stream that some value has in full, at the packet behind those
     that go along."""
@@ -361,8 +337,6 @@ def disagreement(port, known, series):
     packet = front.rpartition("\n")[2].count(";")
     return f"disagree stream {port.nodes[last + 1].path} packet {packet}\n"
 
-
-# ---- changes
 
 # ---- comparisons
 

@@ -1,15 +1,16 @@
 """Sweeps of the program. All small values of the ports of `values` are driven and decoded as the same text. The traces of the ports of
-`changes` have each bit of each row changed, and what `decode` says of each is compared with the outcome by the definitions; so is what `compare`
+`changes` have each bit of each row changed, and what `check` and `decode` say of each is compared with the definitions; so is what `compare`
 says of each beside the value that was driven. All items up to
 four on streams of up to three lanes and two dimensions, at each level and by six wishes, are driven and decoded. bench.vhd is run by the texts
 of `runs`, with the edits of `edits`, and cut at each byte.
   tests/sweeps/run PROGRAM
-The answers that are expected come from meanings.py, which has none of the program's code, except that `check` names the first violation of rules 1 to 10.
+The answers that are expected come from meanings.py and rules.py, which have none of the program's code.
 Each part says how many it ran, and the counts are compared. One answer of each part is spoilt, and is seen to fail."""
 import itertools, os, re, subprocess, sys, tempfile
 from concurrent.futures import ThreadPoolExecutor
 
 import meanings
+import rules
 
 HERE = os.path.dirname(os.path.realpath(__file__))
 PROGRAM = os.path.realpath(sys.argv[1])
@@ -107,12 +108,10 @@ def sweep_values(pool):
 # ---- changed traces
 
 def verdict(port, known, project, text):
-    """The kind of the outcome of a trace by the definitions, and whether `decode` says the same."""
-    status, out, err = answer_of_text("check", None, text)
-    if err:
-        return "wrong", False
-    kind, wanted = meanings.outcome(port, known, text, status, out)
-    return kind, answer_of_text("decode", project, text) == (6 if kind not in ("values",) else 0, wanted, "")
+    """The kind of the outcome of a trace by the definitions, and whether `check` and `decode` say what they do."""
+    kind, wanted = rules.outcome(port, known, text)
+    is_right = answer_of_text("check", None, text) == rules.checked(port, text)
+    return kind, is_right and answer_of_text("decode", project, text) == wanted
 
 
 def changed_traces(port, known, step, project, plan):
@@ -163,11 +162,16 @@ def sweep_changes(pool):
                 fail(f"{spelled}\n{text}")
             elif kind == "values":
                 sample = port, {value + " ": series for value, series in known.items()}, project, text
+            elif kind == "offences":
+                offence = port, text
         count += len(texts)
         comparisons += sweep_comparisons(pool, port, project, driven)
         told = f"known {len(known)} driven {len(driven)} " + " ".join(f"{kind} {number}" for kind, number in kinds.items())
         expect(f"the outcomes of {spelled}", block["outcomes"][0], told)
     expect("a spoilt value is right", ("values", False), verdict(*sample))
+    port, text = offence
+    unjudged = rules.first_refused(port, meanings.rows_of(port, text), (11,))
+    expect("an offence is none", False, answer_of_text("check", None, text)[1].startswith(unjudged or "legal"))
     return count, comparisons
 
 
@@ -285,7 +289,7 @@ def main():
         values = sweep_values(pool)
         expect("how many values there are", 2242, values)
         changed, compared = sweep_changes(pool)
-        expect("how many changed traces there are", (4680, 4964), (changed, compared))
+        expect("how many changed traces there are", (5042, 5347), (changed, compared))
         runs, refused = sweep_items(pool)
         expect("how many runs there are", (14952, 456), (runs, refused))
         benches = sweep_benches(pool)
