@@ -445,12 +445,12 @@ $ compare p n::s.p v t
 ! tydi: WrongSignals t 4
 = 1
 # files that are not there
-$ compare p n::s.p v t
+$ compare p n::s.p v u
 ~ namespace n { type t = Stream(data: Bits(8), throughput: 1, dimensionality: 1, complexity: 1); streamlet s = (p: in t); }
 @ p
 ~ root - = [1];
 @ v
-! tydi: NoFile t
+! tydi: NoFile u
 = 1
 $ compare p n::s.p v t
 ~ namespace n { type t = Stream(data: Bits(8), throughput: 1, dimensionality: 1, complexity: 1); streamlet s = (p: in t); }

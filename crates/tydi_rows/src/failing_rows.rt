@@ -59,7 +59,7 @@ $ compare p n::s.p v t
 < 1 1 d=02 l=1 b=1
 > same
 = 0 failing 4 2
-# verilog
+# verilog, whose three pieces have 22, 82 and 22 bytes
 $ verilog p
 < namespace a { streamlet s = (); }
 @ p
@@ -71,7 +71,7 @@ $ verilog p
 >   `include \"a.s.vh\"
 > endmodule
 > `default_nettype wire
-= 0 failing 4 20
+= 0 failing 2 63
 # bench
 $ bench p n::s.p v q
 < namespace n { streamlet s = (p: in Stream(data: Bits(2), complexity: 1)); test x of s drive p = \"root - = 2;\" plan \"tydi-plan 1
