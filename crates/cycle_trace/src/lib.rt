@@ -29,5 +29,5 @@ pub use surveying::surveyor::Surveyor;
 pub use trace::keep::Keep;
 pub use trace::{OwnRow, Trace};
 pub use version::Version;
-pub use writing::lengths::{header_length, row_length};
+pub use writing::lengths::{head_length, header_length, row_length};
 pub use writing::{write_header, write_row};

@@ -7,7 +7,7 @@ use crate::frame::HighestBit;
 use tydi_base::{Binary, Each, Name, Path, Text, Written, decimal_length};
 
 /// A value that has a text whose length is known before it is written.
-pub(crate) trait Counted: Written {
+pub trait Counted: Written {
     /// The number of bytes of its text; `u64::MAX` where they are more, which no memory holds.
     fn count(&self) -> u64
         ensures { result ≡ min (length (Self.text self.now)) most_bytes };

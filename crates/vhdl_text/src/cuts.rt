@@ -7,7 +7,7 @@ ghost use Rattle.vhdl_text.specs.Lines as spec;
 use tydi_base::first_piece;
 
 /// The parts of a text before its last such byte and after it. None exactly where the text has no such byte.
-pub(crate) fn cut_last(text: &[u8], mark: u8) -> Option<(&[u8], &[u8])>
+pub fn cut_last(text: &[u8], mark: u8) -> Option<(&[u8], &[u8])>
     ensures { option_map (λ parts. record { front = parts.0.now; back = parts.1.now }) result ≡ spec.cut_last mark text.now }
 {
     let mut left = text.len();
@@ -46,7 +46,7 @@ pub(crate) fn between(text: &[u8], mark: u8) -> Option<Parts<'_>>
 }
 
 /// Whether two texts have the same bytes.
-pub(crate) fn is_same(one: &[u8], other: &[u8]) -> bool
+pub fn is_same(one: &[u8], other: &[u8]) -> bool
     ensures { result ≡ bytes_eq one.now other.now }
 {
     one == other

@@ -87,7 +87,7 @@ impl Written for VectorPort<'_> {
 
 /// The place of the highest bit of a vector of this width, counted from 0.
 #[derive(Clone, Copy)]
-pub(crate) struct HighestBit(pub(crate) u32);
+pub struct HighestBit(pub u32);
 
 impl Written for HighestBit {
     ghost text = { λ bit. decimal (bit.0 - 1) };

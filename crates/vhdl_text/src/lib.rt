@@ -6,6 +6,9 @@
 //! Entities and architectures: an `Arch` is a streamlet with the signals, instances and assignments of its architecture. `print_in` writes
 //! it in either `Language`, and `length_in` counts the bytes beforehand. `specs/ArchText.antt` is the text in VHDL, and
 //! `specs/VerilogText.antt` is that in Verilog.
+//!
+//! What other texts of this kind share is public too: the comments of streams and the names of signals, written and counted, and lines that
+//! are to be those of a text.
 #![tactic(auto)]
 
 mod arch;
@@ -42,14 +45,20 @@ mod verilog_printing;
 pub use arch::{Arch, ArchMap, ArchPart, ArchPort, ArchSet, ArchSource, ArchWire};
 pub use arch_printing::{arch_length, print_arch};
 pub use bench::{Bench, Stmt};
+pub use counted::Counted;
+pub use cuts::{cut_last, is_same};
 pub use fault::VhdlFault;
+pub use frame::HighestBit;
 pub use language::Language;
 pub use languages::{length_in, print_in};
 pub use laws::benches_are_read_as_printed;
+pub use lines::{Lines, expect_line, expect_lines};
 pub use parts::{
     begin_process, benches_have_parts, end_process, write_back, write_front, write_stmts,
 };
-pub use printing::print_bench;
+pub use printing::{StreamComments, print_bench};
 pub use reading::read_bench;
-pub use signal_name::signal_word;
+pub use refusal::{Fault, Refusal};
+pub use signal_name::{SignalName, signal_word};
+pub use stream_comments::read_heads;
 pub use verilog_printing::{print_verilog, verilog_length};

@@ -1,4 +1,4 @@
-//! Lines that a bench is to have.
+//! Lines that a text is to have.
 
 ghost use Rattle.std.specs.Prelude.{◌≡◌};
 ghost use Rattle.std.specs.Str.{bytes_eq};
@@ -12,10 +12,10 @@ use crate::refusal::Fault;
 use tydi_reading::{Pieces, Source};
 
 /// The lines of a text that are not taken yet.
-pub(crate) type Lines<'a> = Pieces<'a, b'\n'>;
+pub type Lines<'a> = Pieces<'a, b'\n'>;
 
-/// Takes just the lines of a text.
-pub(crate) fn expect_lines(lines: &mut Lines<'_>, text: &[u8]) -> Result<(), Fault>
+/// Takes just the lines of a text. It is refused at the first line that is another.
+pub fn expect_lines(lines: &mut Lines<'_>, text: &[u8]) -> Result<(), Fault>
     ensures { ReadsAlways (the_lines (pieces_of 10 text.now) lines.old) result lines.new }
 {
     let mut wanted: Lines<'_> = Pieces::new(text);
@@ -26,9 +26,9 @@ pub(crate) fn expect_lines(lines: &mut Lines<'_>, text: &[u8]) -> Result<(), Fau
     Ok(())
 }
 
-/// Takes the next line, which is to be this one.
+/// Takes the next line, which is to be this one. It is refused where there is none, or another.
 #[tactic(auto, unfolding(tydi_reading::specs::Lists::mark))]
-pub(crate) fn expect_line(lines: &mut Lines<'_>, wanted: &[u8]) -> Result<(), Fault>
+pub fn expect_line(lines: &mut Lines<'_>, wanted: &[u8]) -> Result<(), Fault>
     ensures { ReadsAlways (mark (λ next. bytes_eq next wanted.now) lines.old) result lines.new }
 {
     let Some(line) = lines.first() else {

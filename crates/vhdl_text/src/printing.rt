@@ -28,7 +28,7 @@ pub fn print_bench(alloc: Global, bench: &Bench) -> Result<List<u8>, Memory>
 
 /// The lines of streams, as comments.
 #[derive(Clone, Copy)]
-pub(crate) struct StreamComments<'a>(pub(crate) &'a [Head]);
+pub struct StreamComments<'a>(pub &'a [Head]);
 
 impl Written for StreamComments<'_> {
     ghost text = { λ comments. flat_map stream_comment comments.0.now };

@@ -2,7 +2,7 @@
 
 /// The refusals of lines that are of their form.
 #[derive(Clone, Copy)]
-pub(crate) enum Refusal {
+pub enum Refusal {
     /// The line assigns to a name that is no valid or payload port, or waits for a name that is no ready port.
     UnknownSignal,
     /// The line assigns to a signal to which an earlier process assigns.
@@ -10,4 +10,4 @@ pub(crate) enum Refusal {
 }
 
 /// Why lines are not read.
-pub(crate) type Fault = tydi_reading::Fault<Refusal>;
+pub type Fault = tydi_reading::Fault<Refusal>;

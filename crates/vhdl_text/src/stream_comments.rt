@@ -21,8 +21,9 @@ use tydi_reading::Source;
 /// The most streams of a bench.
 const MOST_STREAMS: usize = 65536;
 
-/// The heads of the comments that the lines begin with.
-pub(crate) fn read_heads(alloc: Global, lines: &mut Lines<'_>) -> Result<List<Head>, Fault>
+/// The heads of the comments that the lines begin with. The first such line that spells no head is refused; so is one that repeats a path, and
+/// one after 65,536 others.
+pub fn read_heads(alloc: Global, lines: &mut Lines<'_>) -> Result<List<Head>, Fault>
     ensures { Reads (spec.heads_from [] lines.old) result lines.new }
 {
     let mut paths = BTreeSet::new(alloc);

@@ -27,8 +27,8 @@ pub fn header_length(header: &Header) -> u64
     length
 }
 
-/// How many bytes the line of a stream has.
-fn head_length(head: &Head) -> u64
+/// How many bytes the line of a stream has; `u64::MAX` where they are more, which no memory holds.
+pub fn head_length(head: &Head) -> u64
     ensures { result ≡ min (length (head_text head.now)) most_bytes }
 {
     let p = &head.params;
