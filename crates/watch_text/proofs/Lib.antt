@@ -1,1 +1,7 @@
 mod Examples
+pub mod PlainLemmas
+mod LoopLemmas
+mod ItemLemmas
+mod LineLengths
+mod PrintingLemmas
+mod PieceLemmas
