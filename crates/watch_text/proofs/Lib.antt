@@ -5,3 +5,4 @@ mod ItemLemmas
 mod LineLengths
 mod PrintingLemmas
 mod PieceLemmas
+mod TableLengths
