@@ -1,4 +1,5 @@
 mod EdgeLemmas
+mod LawLemmas
 pub mod PlainLemmas
 mod ProcessLemmas
 mod RunLemmas

@@ -8,5 +8,5 @@ pub returns : goal.returns
 returns c watch cycles stands = (
   stands.0,
   subst (λ (w : PlainWatch). AreAfter w (with_cycle c.args.stream (cycle_in c.args.row) cycles) c.edge.new.self) stands.0
-  (c.edge.ensures cycles (subst (λ (w : PlainWatch). AreAfter w cycles c.args.self.now.processes) (sym stands.0) stands.1))
+      (c.edge.ensures cycles (subst (λ (w : PlainWatch). AreAfter w cycles c.args.self.now.processes) (sym stands.0) stands.1)),
 )
