@@ -1,5 +1,5 @@
 mod EdgeLemmas
 mod LawLemmas
 pub mod PlainLemmas
-mod ProcessLemmas
+pub mod ProcessLemmas
 mod RunLemmas

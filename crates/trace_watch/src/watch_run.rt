@@ -49,7 +49,11 @@ impl WatchRun {
     }
 
     /// What each process says of its stream. `Memory` comes where there is none for it.
-    pub(crate) fn watched(&self, alloc: Global, watch: &Watch) -> Result<List<StreamWatched>, Memory>
+    pub(crate) fn watched(
+        &self,
+        alloc: Global,
+        watch: &Watch,
+    ) -> Result<List<StreamWatched>, Memory>
         requires { (t : TraceText) × RunsOver (plain_watch watch.now) t self.now }
         ensures { (t : TraceText) → RunsOver (plain_watch watch.now) t self.now → IfOk result (λ found. found ≡ watched_of (plain_watch watch.now) (streams_of t)) }
     {
