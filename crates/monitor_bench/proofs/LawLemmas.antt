@@ -1,9 +1,9 @@
 -- The processes of a monitor need exactly the items that are done, one after another.
-use Rattle.std.proofs.Common.{◌≡◌, ◌∙◌, ℕ, zero, suc, ◌+◌, ◌<◌, ◌≤◌, Bool, true, false, Decides, List, [], ◌∷◌, ◌++◌, length, map, take, drop, Option, Some, None, slice_get, refl, sym, ap, subst, arith, append-nil}
-use Rattle.std.specs.Prelude.{◌==◌, if◌then◌else◌}
+use Rattle.std.proofs.Common.{◌≡◌, ◌∙◌, ℕ, zero, suc, ◌+◌, ◌<◌, Bool, true, false, Decides, List, [], ◌∷◌, ◌++◌, length, map, take, drop, Option, Some, None, slice_get, refl, sym, ap, subst, arith, append-nil}
+use Rattle.std.specs.Prelude.{if◌then◌else◌}
 use Rattle.std.specs.Bool.{beq}
-use Rattle.std.specs.Cmp.Lexicographic.{pointwise, pointwise_decides}
-use Rattle.std.specs.List.{flat_map, fold}
+use Rattle.std.specs.Cmp.Lexicographic.{pointwise_decides}
+use Rattle.std.specs.List.{fold}
 use Rattle.std.specs.Option.{option_map}
 use Rattle.std.proofs.lemmas.Bool.Decides.{nat_tests}
 use Rattle.std.proofs.lemmas.Grind.{flat_map-append, fold-append}
@@ -19,7 +19,7 @@ use Rattle.physical_stream.proofs.ItemsLemmas.{close_at}
 use Rattle.port_drive.specs.Drives.{heads_of}
 use Rattle.watch_text.specs.Statements.{Statements, if_last, need_close}
 use Rattle.monitor_bench.specs.Laws.{IsAsExpected, IsFirstOther, IsFront, MonitorsReport, ReportsFirstOther}
-use Rattle.monitor_bench.specs.Meaning.{Process, State, after_edge, after_edges, after_transfer, for_each, going, has_stopped, is_expected, is_same_item, needs, place_in, place_of, processes_from, report_of, run_all, state_after, stopped, stops_at}
+use Rattle.monitor_bench.specs.Meaning.{Process, State, after_edge, after_edges, after_transfer, for_each, going, has_stopped, is_expected, is_same_item, needs, place_in, processes_from, report_of, run_all, state_after, stopped, stops_at}
 use Rattle.monitor_bench.specs.Monitors.{lane_statements, only, process_for, statements_for}
 
 -- ---- an item that is needed

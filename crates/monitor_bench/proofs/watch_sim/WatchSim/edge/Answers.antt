@@ -1,6 +1,6 @@
-use Rattle.std.proofs.Common.{ℕ, List, ◌∙◌, sym, subst}
+use Rattle.std.proofs.Common.{sym, subst}
 use Rattle.physical_stream.specs.Cycles.{cycle_in}
-use Rattle.watch_text.specs.Statements.{PlainWatch, plain_watch}
+use Rattle.watch_text.specs.Statements.{PlainWatch}
 use Rattle.monitor_bench.specs.Standing.{AreAfter, with_cycle}
 use Rattle.monitor_bench.proofs.watch_sim.WatchSim.edge.Goals as goal
 
