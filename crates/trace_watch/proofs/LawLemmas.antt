@@ -1,12 +1,11 @@
 -- Exactly one thing is said of a text.
-use Rattle.std.proofs.Common.{◌≡◌, ◌∙◌, ℕ, List, Result, Ok, Err, refl, sym, ap, subst}
+use Rattle.std.proofs.Common.{◌≡◌, ◌∙◌, Result, Ok, Err, refl, sym, ap, subst}
 use Rattle.cycle_trace.specs.Trace.{TraceText, streams_of}
 use Rattle.cycle_trace.specs.TraceText.{trace_of}
 use Rattle.cycle_trace.specs.declared.fault.TraceFault.{TraceFault}
 use Rattle.trace_decode.specs.Outcome.{DifferFirst}
 use Rattle.trace_decode.proofs.LawLemmas.{not_other, one_place}
 use Rattle.trace_decode.proofs.SomeLemmas.{differ_or_same}
-use Rattle.watch_text.specs.Statements.{PlainWatch}
 use Rattle.trace_watch.specs.Laws.{OneWatching, SomeWatching}
 use Rattle.trace_watch.specs.Texts.{Misspelled, OtherHeader, Watched}
 use Rattle.trace_watch.specs.Watched.{watched_of}

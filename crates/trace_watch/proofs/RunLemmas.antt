@@ -1,5 +1,5 @@
 -- The processes of a monitor over the rows of a trace: before the first row, one row more, and what they say.
-use Rattle.std.proofs.Common.{◌≡◌, ◌∙◌, ◌⊎◌, inl, inr, ℕ, zero, suc, ◌+◌, ◌-◌, ◌*◌, ◌/◌, ◌%◌, ◌^◌, ◌<◌, ◌≤◌, List, [], ◌∷◌, ◌++◌, length, take, Option, None, Some, slice_get, refl, sym, ap, subst, arith, add-one}
+use Rattle.std.proofs.Common.{◌≡◌, ◌∙◌, ◌⊎◌, inl, inr, ℕ, zero, suc, ◌+◌, ◌*◌, ◌/◌, ◌%◌, ◌<◌, ◌≤◌, List, [], ◌∷◌, ◌++◌, length, take, None, Some, slice_get, refl, sym, ap, arith, add-one}
 use Rattle.std.specs.Prelude.{option_map}
 use Rattle.std.proofs.Math.Nat.{mod-lt}
 use Rattle.std.proofs.Math.Seq.{take-suc}
@@ -7,13 +7,12 @@ use Rattle.std.proofs.lemmas.List.{length_push, take_all}
 use Rattle.std.proofs.lemmas.Nat.{div-add-mod'}
 use Rattle.std.proofs.lemmas.Option.{get_or_from_slice_get, slice_get_within}
 use Rattle.tydi_base.proofs.PlaceLemmas.{same_or_other, slice_get-there}
-use Rattle.physical_stream.specs.Params.{Parameters}
 use Rattle.physical_stream.specs.Cycles.{Cycle, StreamTrace}
 use Rattle.physical_stream.specs.declared.head.Head.{Head}
 use Rattle.physical_stream.specs.declared.head.Header.{Header}
 use Rattle.cycle_trace.specs.RowSink.{CanTake, IsHeader, begun_by, with_row}
 use Rattle.cycle_trace.specs.Surveying.{IsNextRow}
-use Rattle.cycle_trace.specs.Trace.{TraceText, cycles_of_stream, most_cycles, owed, params_of_heads, streams_of}
+use Rattle.cycle_trace.specs.Trace.{TraceText, cycles_of_stream, owed, params_of_heads, streams_of}
 use Rattle.cycle_trace.proofs.RowAdded.{cycles_of_stream-other, cycles_of_stream-turn, length-cycles_here}
 use Rattle.cycle_trace.proofs.RowsLemmas.{length-owed_heads, some_stream}
 use Rattle.cycle_trace.proofs.StreamLemmas.{length-streams, stream_of_head, stream_with}

@@ -1,4 +1,4 @@
-use Rattle.std.proofs.Common.{◌≡◌, ◌∙◌, ℕ, true, length, refl, sym, subst, arith}
+use Rattle.std.proofs.Common.{◌≡◌, ℕ, true, length, refl, subst, arith}
 use Rattle.std.proofs.lemmas.Option.{slice_get_read}
 use Rattle.trace_decode.proofs.HeadLemmas.{SameBefore, differ_past, same_more}
 use Rattle.trace_watch.proofs.heads.other_head.Goals as goal

@@ -1,4 +1,3 @@
-use Rattle.std.proofs.Common.{◌∙◌}
 use Rattle.physical_stream.specs.Cycles.{cycle_in}
 use Rattle.cycle_trace.specs.Trace.{cycles_of_stream}
 use Rattle.watch_text.specs.Statements.{plain_watch}
