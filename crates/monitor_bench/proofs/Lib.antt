@@ -1,5 +1,4 @@
 mod EdgeLemmas
 mod LawLemmas
-pub mod PlainLemmas
 pub mod ProcessLemmas
 mod RunLemmas

@@ -4,7 +4,7 @@ use Rattle.watch_text.specs.Statements.{lanes, plain_statements}
 use Rattle.watch_text.specs.declared.watch.WStmt.{WStmt}
 use Rattle.watch_text.specs.declared.watch.WStmt.TheVariants as statements
 use Rattle.monitor_bench.specs.Monitors.{only, statements_for}
-use Rattle.monitor_bench.proofs.PlainLemmas.{plain-Lanes}
+use Rattle.watch_text.proofs.PlainLemmas.{plain-Lanes}
 use Rattle.monitor_bench.proofs.making.statements_for.Goals as goal
 
 pub returns : goal.returns
