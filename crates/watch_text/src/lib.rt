@@ -5,8 +5,21 @@
 //! benches. What a monitor means is said in `monitor_bench`.
 #![tactic(auto)]
 
+mod conditions;
+mod entity;
 mod fault;
+mod items;
+mod laws;
+mod marks;
+mod pieces;
+mod printing;
+mod processes;
+mod statements;
+mod tables;
 mod watch;
 
 pub use fault::WatchFault;
+pub use laws::tables_are_shorter_than_their_text;
+pub use pieces::WatchPieces;
+pub use printing::{print_watch, watch_length};
 pub use watch::{WStmt, Watch};

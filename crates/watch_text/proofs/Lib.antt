@@ -1,0 +1,8 @@
+mod Examples
+pub mod PlainLemmas
+mod LoopLemmas
+mod ItemLemmas
+mod LineLengths
+mod PrintingLemmas
+mod PieceLemmas
+mod TableLengths
