@@ -1,0 +1,4 @@
+mod EdgeLemmas
+mod LawLemmas
+pub mod ProcessLemmas
+mod RunLemmas
