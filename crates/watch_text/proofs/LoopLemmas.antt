@@ -1,7 +1,5 @@
 -- Loops that write a text, or count its bytes, part after part: what stands there, with what is left, is the whole.
-use Rattle.std.proofs.Common.{◌≡◌, ◌∙◌, ℕ, ◌+◌, ◌≤◌, List, [], ◌++◌, append_assoc, append-nil, length, length-append, min, take, take-take, refl, sym, ap, subst, arith}
-use Rattle.std.proofs.lemmas.List.{length-take}
-use Rattle.std.proofs.Math.Seq.{take-length}
+use Rattle.std.proofs.Common.{◌≡◌, ◌∙◌, ℕ, ◌+◌, ◌≤◌, List, [], ◌++◌, append_assoc, append-nil, length, length-append, min, sym, ap, subst, arith}
 use Rattle.tydi_base.specs.Lengths.{most_bytes}
 use Rattle.tydi_base.specs.Writing.{StandsInFront}
 use Rattle.tydi_base.proofs.WritingLemmas.{front_stays}
@@ -13,9 +11,6 @@ pub record IsBegun (old out rest whole : List ℕ) : Type 0 where
   pub front : StandsInFront old out
   pub all : out ++ rest ≡ old ++ whole
 
-pub begun-start : (old whole : List ℕ) → IsBegun old old whole whole
-begun-start old whole = record { front = take-length old; all = refl }
-
 pub begun-more : (old out new part rest left whole : List ℕ) → IsBegun old out rest whole → new ≡ out ++ part → rest ≡ part ++ left → IsBegun old new left whole
 begun-more old out new part rest left whole begun written is = record {
   front = subst (λ (l : List ℕ). StandsInFront old l) (sym written) (front_stays old out part begun.front);
@@ -25,24 +20,12 @@ begun-more old out new part rest left whole begun written is = record {
 pub begun-end : (old out rest whole : List ℕ) → IsBegun old out rest whole → rest ≡ [] → out ≡ old ++ whole
 begun-end old out rest whole begun over = sym (append-nil out) ∙ ap (λ (l : List ℕ). out ++ l) (sym over) ∙ begun.all
 
--- a front of a text that begins with a front
-pub front-on : (old mid new : List ℕ) → StandsInFront old mid → StandsInFront mid new → StandsInFront old new
-front-on old mid new first second =
-    let within : length old ≤ length mid = omega (arith, ap length first, length-take (length old) mid) in
-    sym (take-take (length old) (length mid) new within) ∙ ap (take (length old)) second ∙ first
-
-pub begun-front : (old out rest whole new : List ℕ) → IsBegun old out rest whole → StandsInFront out new → StandsInFront old new
-begun-front old out rest whole new begun front = front-on old out new begun.front front
-
 -- ---- counted
 
 -- so many bytes, with those of the rest, are those of the whole, as far as a length goes
 pub record IsCounted (count : ℕ) (rest whole : List ℕ) : Type 0 where
   pub few : count ≤ most_bytes
   pub all : min (count + length rest) most_bytes ≡ min (length whole) most_bytes
-
-pub counted-start : (whole : List ℕ) → IsCounted 0 whole whole
-counted-start whole = record { few = omega arith; all = omega arith }
 
 pub counted-more : (count new bytes : ℕ) (part rest left whole : List ℕ) → IsCounted count rest whole → bytes ≡ min (length part) most_bytes → new ≡ min (count + bytes) most_bytes → rest ≡ part ++ left
     → IsCounted new left whole

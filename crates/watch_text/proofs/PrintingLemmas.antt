@@ -1,5 +1,5 @@
 -- The text of a monitor, part after part.
-use Rattle.std.proofs.Common.{◌≡◌, ◌∙◌, ◌⊎◌, ℕ, zero, suc, ◌≤◌, Bool, true, false, ◌&&◌, ◌||◌, not, if◌then◌else◌, nat_le, List, [], ◌∷◌, ◌++◌, append_assoc, append-nil, Option, is_some, inl, inr, map, refl, ap, arith}
+use Rattle.std.proofs.Common.{◌≡◌, ◌∙◌, ◌⊎◌, ℕ, Bool, true, false, ◌&&◌, ◌||◌, not, if◌then◌else◌, List, [], ◌∷◌, ◌++◌, append_assoc, append-nil, Option, is_some, inl, inr, map, refl, ap}
 use Rattle.std.specs.Prelude.{codes}
 use Rattle.physical_stream.specs.Signals.{has_endi, has_stai, has_strb}
 use Rattle.physical_stream.specs.declared.head.Head.{Head}
@@ -8,7 +8,7 @@ use Rattle.signal_layout.specs.Layout.{where_present}
 use Rattle.signal_layout.specs.declared.signal.Signal.{Signal}
 use Rattle.signal_layout.specs.declared.signal.Signal.TheVariants as signals
 use Rattle.watch_text.specs.Statements.{plain_statements}
-use Rattle.watch_text.specs.Text.{active_test, elem_word, endi_test, inputs_of, joined, lane_slice, process_text, processes_text, stai_test, strb_test, table_text, tables_text, where_has}
+use Rattle.watch_text.specs.Text.{active_test, endi_test, inputs_of, joined, process_text, processes_text, stai_test, strb_test, table_text, tables_text, where_has}
 use Rattle.watch_text.specs.declared.watch.WStmt.{WStmt}
 
 -- the ports depend on the widths of the payload signals alone
@@ -64,8 +64,3 @@ processes-none [] procs over = refl
 processes-none (head ∷ heads) [] over = refl
 processes-none (head ∷ heads) (first ∷ procs) (inl over) = absurd cc
 processes-none (head ∷ heads) (first ∷ procs) (inr over) = absurd cc
-
--- the word of an element, by the range of its width
-pub elem_word-wide : (head : Head) (width : ℕ) → 6 ≤ width → elem_word head width ≡ codes "\"10\" & " ++ lane_slice head
-elem_word-wide head zero wide = absurd (omega (arith, wide))
-elem_word-wide head (suc less) wide = let at : nat_le 6 (suc less) ≡ true = grind (arith, wide) in rw at refl
