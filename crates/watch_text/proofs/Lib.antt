@@ -1,3 +1,6 @@
 mod Examples
+mod PlainLemmas
 mod LineParts
+mod SoFarLemmas
 mod EntrySpelling
+mod EntryReading

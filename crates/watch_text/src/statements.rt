@@ -186,14 +186,14 @@ fn count_need<T: Counted + Copy>(head: &Head, indent: usize, test: T) -> u64
 }
 
 /// The lanes of a stream.
-fn lanes_of(head: &Head) -> u32
+pub(crate) fn lanes_of(head: &Head) -> u32
     ensures { result ≡ head.now.params.lanes }
 {
     u32::from(head.params.lanes)
 }
 
 /// The dimensions of a stream.
-fn dims_of(head: &Head) -> u32
+pub(crate) fn dims_of(head: &Head) -> u32
     ensures { result ≡ head.now.params.dims }
 {
     u32::from(head.params.dims)
@@ -201,7 +201,7 @@ fn dims_of(head: &Head) -> u32
 
 /// The line that begins a loop of this variable through so many values.
 #[derive(Clone, Copy)]
-struct LoopLine(&'static str, u32);
+pub(crate) struct LoopLine(pub(crate) &'static str, pub(crate) u32);
 
 impl Written for LoopLine {
     ghost text = { λ line. loop_line line.0.now line.1 };
@@ -219,7 +219,7 @@ impl Counted for LoopLine {
 
 /// The line that begins a test.
 #[derive(Clone, Copy)]
-struct IfLine<T>(T);
+pub(crate) struct IfLine<T>(pub(crate) T);
 
 impl<T: Written + Copy> Written for IfLine<T> {
     ghost text = { λ line. if_line (T.text line.0) };
@@ -237,7 +237,7 @@ impl<T: Counted + Copy> Counted for IfLine<T> {
 
 /// The line that raises the fault of a stream.
 #[derive(Clone, Copy)]
-struct FaultLine<'a>(&'a Head);
+pub(crate) struct FaultLine<'a>(pub(crate) &'a Head);
 
 impl Written for FaultLine<'_> {
     ghost text = { λ line. fault_line line.0.now };

@@ -1,0 +1,9 @@
+use Rattle.watch_text.proofs.EntrySpelling.{end_line-spelled}
+use Rattle.watch_text.proofs.EntryReading.{entry_of_line-some}
+use Rattle.watch_text.proofs.reading_laws.monitors_are_read_as_printed.Goals as goal
+
+pub returns-clause-spelled : goal.returns-clause-spelled
+returns-clause-spelled c = ?
+
+pub returns-clause-read : goal.returns-clause-read
+returns-clause-read c = ?
