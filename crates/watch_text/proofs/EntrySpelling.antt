@@ -75,10 +75,16 @@ module _ (head : Head) (h : IsHead head) where
   item-spelled (items.Elem word) is = elem-spelled word is
   item-spelled (items.Close dim) is = close-spelled dim is
 
+  -- the end begins with two zeros
+  ends_so : end_digits p ++ codes "\"" ≡ 48 ∷ 48 ∷ (zeros (item_width p) ++ codes "\"")
+  ends_so = let two : item_width p + 2 ≡ suc (suc (item_width p)) = omega arith in ap (λ (n : ℕ). zeros n ++ codes "\"") two
+
   -- an item is no end
   no-end : (item : Item) → bytes_eq (item_digits p item ++ codes "\",") (end_digits p ++ codes "\"") ≡ false
-  no-end (items.Elem word) = other-text (item_digits p (items.Elem word) ++ codes "\",") (end_digits p ++ codes "\"") (λ same. first-clash 49 48 _ _ (λ e. omega (arith, e)) same)
-  no-end (items.Close dim) = other-text (item_digits p (items.Close dim) ++ codes "\",") (end_digits p ++ codes "\"") (λ same. second-clash 48 49 48 _ _ (λ e. omega (arith, e)) same)
+  no-end (items.Elem word) = other-text (item_digits p (items.Elem word) ++ codes "\",") (end_digits p ++ codes "\"") 
+      (λ same. first-clash 49 48 (48 ∷ ((zeros (item_width p - p.element) ++ binary_of word) ++ codes "\",")) (48 ∷ (zeros (item_width p) ++ codes "\"")) (λ e. omega (arith, e)) (same ∙ ends_so))
+  no-end (items.Close dim) = other-text (item_digits p (items.Close dim) ++ codes "\",") (end_digits p ++ codes "\"") 
+      (λ same. second-clash 48 49 48 ((zeros (item_width p - 6) ++ binary_of (bits_of 6 dim)) ++ codes "\",") (zeros (item_width p) ++ codes "\"") (λ e. omega (arith, e)) (same ∙ ends_so))
 
   -- ---- lines
 

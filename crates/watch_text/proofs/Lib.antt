@@ -4,3 +4,6 @@ mod LineParts
 mod SoFarLemmas
 mod EntrySpelling
 mod EntryReading
+mod TableSpelling
+mod TableReading
+mod OpeningLemmas

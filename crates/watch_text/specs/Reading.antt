@@ -64,7 +64,7 @@ abbrev pub type_front : Head → List ℕ
 type_front head = codes "  type " ⁀ items_name head ⁀ codes " is array (0 to "
 
 abbrev pub type_back : Head → List ℕ
-type_back head = codes ") of std_logic_vector(" ⁀ decimal (suc (item_width head.params)) ⁀ codes " downto 0);"
+type_back head = codes ") of std_logic_vector(" ⁀ decimal (item_width head.params + 1) ⁀ codes " downto 0);"
 
 -- the texts of a table's lines that are the same in all of them, for a stream with these parameters
 unfoldable pub shape_of : Head → Shape

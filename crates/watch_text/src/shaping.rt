@@ -1,6 +1,6 @@
 //! The texts of a stream's lines, made once for each stream.
 
-ghost use Rattle.std.specs.Prelude.{◌≡◌, ◌<◌, ◌^◌, suc, IfOk, codes};
+ghost use Rattle.std.specs.Prelude.{◌≡◌, ◌<◌, ◌+◌, ◌^◌, IfOk, codes};
 ghost use Rattle.vhdl_text.specs.Text.{◌⁀◌};
 ghost use Rattle.watch_text.specs.Reading as spec;
 ghost use Rattle.watch_text.specs.Text as texts;
@@ -69,7 +69,7 @@ fn front_of(alloc: Global, digits: &'static str, zeros: usize) -> Result<List<u8
 /// The digits of the end of a table whose words have so many bits and two, and the end of its line.
 fn end_text(alloc: Global, width: usize) -> Result<List<u8>, Memory>
     requires { width < 2 ^ 32 }
-    ensures { IfOk result (λ text. text ≡ texts.zeros (suc (suc width)) ⁀ codes "\"") }
+    ensures { IfOk result (λ text. text ≡ texts.zeros (width + 2) ⁀ codes "\"") }
 {
     let digits = width + 2;
     let mut text = List::new(alloc);
