@@ -7,3 +7,4 @@ mod EntryReading
 mod TableSpelling
 mod TableReading
 mod OpeningLemmas
+mod StatementSpelling

@@ -1,6 +1,6 @@
 use Rattle.watch_text.proofs.TableSpelling.{tables-spelled}
 use Rattle.watch_text.proofs.TableReading.{tables-some}
-use Rattle.watch_text.proofs.OpeningLemmas.{opening_of-own}
+use Rattle.watch_text.proofs.StatementSpelling.{process-spelled}
 use Rattle.watch_text.proofs.reading_laws.monitors_are_read_as_printed.Goals as goal
 
 pub returns-clause-spelled : goal.returns-clause-spelled
