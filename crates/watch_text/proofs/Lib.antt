@@ -8,3 +8,5 @@ mod TableSpelling
 mod TableReading
 mod OpeningLemmas
 mod StatementSpelling
+mod StatementReading
+mod WatchLines

@@ -71,7 +71,7 @@ indent-inside around openings.IfLast some few = omega arith
 indent-inside around openings.NeedElem some few = omega arith
 indent-inside around openings.NeedClose some few = omega arith
 
-room-inside : (around : Around) (opening : Opening) → around.room ≤ 7 → (around_inside around opening).room ≤ 7
+pub room-inside : (around : Around) (opening : Opening) → around.room ≤ 7 → (around_inside around opening).room ≤ 7
 room-inside around openings.Lanes few = omega arith
 room-inside around openings.Dims few = omega arith
 room-inside around openings.IfActive few = omega arith

@@ -1,6 +1,7 @@
 use Rattle.watch_text.proofs.TableSpelling.{tables-spelled}
 use Rattle.watch_text.proofs.TableReading.{tables-some}
-use Rattle.watch_text.proofs.StatementSpelling.{process-spelled}
+use Rattle.watch_text.proofs.WatchLines.{watch_lines-lack}
+use Rattle.watch_text.proofs.StatementReading.{process-some}
 use Rattle.watch_text.proofs.reading_laws.monitors_are_read_as_printed.Goals as goal
 
 pub returns-clause-spelled : goal.returns-clause-spelled
