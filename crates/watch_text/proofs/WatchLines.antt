@@ -31,8 +31,8 @@ use Rattle.watch_text.proofs.TableSpelling.{AreTables, IsTable, item_lines_of, t
 
 -- ---- parts of lines
 
-then : (front rest : List ℕ) → is_line front ≡ true → is_line rest ≡ true → is_line (front ++ rest) ≡ true
-then front rest e f = all-append (is_not 10) front rest e f
+joins : (front rest : List ℕ) → is_line front ≡ true → is_line rest ≡ true → is_line (front ++ rest) ≡ true
+joins front rest e f = all-append (is_not 10) front rest e f
 
 repeat-line : (count byte : ℕ) → is_not 10 byte ≡ true → is_line (replicate count byte) ≡ true
 repeat-line zero byte other = refl
@@ -52,28 +52,28 @@ module _ (head : Head) (h : IsHead head) where
 
   own_name-line : (word : List ℕ) → is_line word ≡ true → is_line (own_name head word) ≡ true
   own_name-line word is =
-      then (path_text head.path) (46 ∷ (word ++ 92 ∷ [])) (path_bytes-not 10 (path_text head.path) refl (path_text-bytes head.path h.names)) (then word (92 ∷ []) is refl)
+      joins (path_text head.path) (46 ∷ (word ++ 92 ∷ [])) (path_bytes-not 10 (path_text head.path) refl (path_text-bytes head.path h.names)) (joins word (92 ∷ []) is refl)
 
   name_text-line : (signal : Signal) → is_line (name_text head signal) ≡ true
-  name_text-line signal = then (plain_name head signal) (92 ∷ []) (path_bytes-not 10 (plain_name head signal) refl (plain_name-bytes head signal h)) refl
+  name_text-line signal = joins (plain_name head signal) (92 ∷ []) (path_bytes-not 10 (plain_name head signal) refl (plain_name-bytes head signal h)) refl
 
   type_line-line : (last : ℕ) → last < 2 ^ 64 → is_line (type_line head last) ≡ true
   type_line-line last few =
-      then (items_name head) (codes " is array (0 to " ++ (decimal last ++ type_back head)) (own_name-line (codes "items") refl)
-      (then (decimal last) (type_back head) (number-line last few) (then (decimal (item_width p + 1)) (codes " downto 0);") (number-line (item_width p + 1) few-bits) refl))
+      joins (items_name head) (codes " is array (0 to " ++ (decimal last ++ type_back head)) (own_name-line (codes "items") refl)
+      (joins (decimal last) (type_back head) (number-line last few) (joins (decimal (item_width p + 1)) (codes " downto 0);") (number-line (item_width p + 1) few-bits) refl))
 
   digits-line : (item : Item) → is_line (item_digits p item) ≡ true
-  digits-line (items.Elem word) = then (zeros (item_width p - p.element)) (binary_of word) (repeat-line (item_width p - p.element) 48 refl) (binary-all (is_not 10) word refl refl)
-  digits-line (items.Close dim) = then (zeros (item_width p - 6)) (binary_of (bits_of 6 dim)) (repeat-line (item_width p - 6) 48 refl) (binary-all (is_not 10) (bits_of 6 dim) refl refl)
+  digits-line (items.Elem word) = joins (zeros (item_width p - p.element)) (binary_of word) (repeat-line (item_width p - p.element) 48 refl) (binary-all (is_not 10) word refl refl)
+  digits-line (items.Close dim) = joins (zeros (item_width p - 6)) (binary_of (bits_of 6 dim)) (repeat-line (item_width p - 6) 48 refl) (binary-all (is_not 10) (bits_of 6 dim) refl refl)
 
   front-line : (number : ℕ) → number < 2 ^ 64 → is_line (entry_front number) ≡ true
-  front-line number few = then (decimal number) (codes " => \"") (number-line number few) refl
+  front-line number few = joins (decimal number) (codes " => \"") (number-line number few) refl
 
   item_line-line : (number : ℕ) (item : Item) → number < 2 ^ 64 → is_line (item_line p number item) ≡ true
-  item_line-line number item few = then (entry_front number) (item_digits p item ++ codes "\",") (front-line number few) (then (item_digits p item) (codes "\",") (digits-line item) refl)
+  item_line-line number item few = joins (entry_front number) (item_digits p item ++ codes "\",") (front-line number few) (joins (item_digits p item) (codes "\",") (digits-line item) refl)
 
   end_line-line : (number : ℕ) → number < 2 ^ 64 → is_line (end_line p number) ≡ true
-  end_line-line number few = then (entry_front number) (zeros (item_width p + 2) ++ codes "\"") (front-line number few) (then (zeros (item_width p + 2)) (codes "\"") (repeat-line (item_width p + 2) 48 refl) refl)
+  end_line-line number few = joins (entry_front number) (zeros (item_width p + 2) ++ codes "\"") (front-line number few) (joins (zeros (item_width p + 2)) (codes "\"") (repeat-line (item_width p + 2) 48 refl) refl)
 
   item_lines-line : (number : ℕ) (want : List Item) → number + length want < 2 ^ 64 → list_all is_line (item_lines_of p number want) ≡ true
   item_lines-line number [] few = refl
@@ -92,22 +92,22 @@ module _ (head : Head) (h : IsHead head) where
 
   loop-line : (variable : List ℕ) (count : ℕ) → is_line variable ≡ true → count < 2 ^ 64 → is_line (loop_line variable count) ≡ true
   loop-line variable count is few =
-      then variable (codes " in 0 to " ++ (decimal (count - 1) ++ codes " loop")) is (then (decimal (count - 1)) (codes " loop") (number-line (count - 1) (omega (arith, few))) refl)
+      joins variable (codes " in 0 to " ++ (decimal (count - 1) ++ codes " loop")) is (joins (decimal (count - 1)) (codes " loop") (number-line (count - 1) (omega (arith, few))) refl)
 
   if-line : (test : List ℕ) → is_line test ≡ true → is_line (if_line test) ≡ true
-  if-line test is = then test (codes " then") is refl
+  if-line test is = joins test (codes " then") is refl
 
   more-line : (tests : List (List ℕ)) → list_all is_line tests ≡ true → is_line (flat_map (λ test. codes " and " ++ test) tests) ≡ true
   more-line [] are = refl
   more-line (test ∷ tests) are =
       let parts = and_parts (is_line test) (list_all is_line tests) are in
-      then test (flat_map (λ test. codes " and " ++ test) tests) parts.0 (more-line tests parts.1)
+      joins test (flat_map (λ test. codes " and " ++ test) tests) parts.0 (more-line tests parts.1)
 
   joined-line : (tests : List (List ℕ)) → list_all is_line tests ≡ true → is_line (joined tests) ≡ true
   joined-line [] are = refl
   joined-line (test ∷ tests) are =
       let parts = and_parts (is_line test) (list_all is_line tests) are in
-      then test (flat_map (λ test. codes " and " ++ test) tests) parts.0 (more-line tests parts.1)
+      joins test (flat_map (λ test. codes " and " ++ test) tests) parts.0 (more-line tests parts.1)
 
   where-line : (has : Bool) (test : List ℕ) → is_line test ≡ true → list_all is_line (where_has has test) ≡ true
   where-line true test is = both (is_line test) true is refl
@@ -120,15 +120,15 @@ module _ (head : Head) (h : IsHead head) where
       let strb = where_has (has_strb p) (strb_test head) in
       joined-line (stai ++ endi ++ strb)
       (lines-append (stai ++ endi) strb
-      (lines-append stai endi (where-line (has_stai p) (stai_test head) (then (name_text head signals.Stai) (codes ")) <= lane") (name_text-line signals.Stai) refl))
-      (where-line (has_endi p) (endi_test head) (then (name_text head signals.Endi) (codes "))") (name_text-line signals.Endi) refl)))
-      (where-line (has_strb p) (strb_test head) (then (name_text head signals.Strb) (codes "(lane) = '1'") (name_text-line signals.Strb) refl)))
+      (lines-append stai endi (where-line (has_stai p) (stai_test head) (joins (name_text head signals.Stai) (codes ")) <= lane") (name_text-line signals.Stai) refl))
+      (where-line (has_endi p) (endi_test head) (joins (name_text head signals.Endi) (codes "))") (name_text-line signals.Endi) refl)))
+      (where-line (has_strb p) (strb_test head) (joins (name_text head signals.Strb) (codes "(lane) = '1'") (name_text-line signals.Strb) refl)))
 
   last-line : is_line (last_test head) ≡ true
   last-line =
       let most = h.range.dims_most in
-      then (name_text head signals.Last) (codes "(lane * " ++ (decimal p.dims ++ codes " + dim) = '1'")) (name_text-line signals.Last)
-      (then (decimal p.dims) (codes " + dim) = '1'") (number-line p.dims (omega (arith, most))) refl)
+      joins (name_text head signals.Last) (codes "(lane * " ++ (decimal p.dims ++ codes " + dim) = '1'")) (name_text-line signals.Last)
+      (joins (decimal p.dims) (codes " + dim) = '1'") (number-line p.dims (omega (arith, most))) refl)
 
   slice-line : is_line (lane_slice head) ≡ true
   slice-line =
@@ -137,12 +137,12 @@ module _ (head : Head) (h : IsHead head) where
       let less : p.element - 1 < 2 ^ 64 = omega (arith, most) in
       let last = decimal p.element ++ codes ")" in
       let mid = decimal (p.element - 1) ++ (codes " downto lane * " ++ last) in
-      then (name_text head signals.Content) (codes "(lane * " ++ (decimal p.element ++ (codes " + " ++ mid))) (name_text-line signals.Content)
-      (then (decimal p.element) (codes " + " ++ mid) (number-line p.element few)
-      (then (decimal (p.element - 1)) (codes " downto lane * " ++ last) (number-line (p.element - 1) less) (then (decimal p.element) (codes ")") (number-line p.element few) refl)))
+      joins (name_text head signals.Content) (codes "(lane * " ++ (decimal p.element ++ (codes " + " ++ mid))) (name_text-line signals.Content)
+      (joins (decimal p.element) (codes " + " ++ mid) (number-line p.element few)
+      (joins (decimal (p.element - 1)) (codes " downto lane * " ++ last) (number-line (p.element - 1) less) (joins (decimal p.element) (codes ")") (number-line p.element few) refl)))
 
   want-line : (word : List ℕ) → is_line word ≡ true → is_line (want_test head word) ≡ true
-  want-line word is = then (want_name head) (codes "(place) = " ++ word) (own_name-line (codes "want") refl) is
+  want-line word is = joins (want_name head) (codes "(place) = " ++ word) (own_name-line (codes "want") refl) is
 
   word-line : (width : ℕ) → is_line (elem_word head width) ≡ true
   word-line zero = refl
@@ -150,12 +150,12 @@ module _ (head : Head) (h : IsHead head) where
     where
       by : (wide : Bool) → is_line (if wide then codes "\"10\" & " ++ lane_slice head else codes "\"10\" & \"" ++ (zeros (6 - suc less) ++ (codes "\" & " ++ lane_slice head))) ≡ true
       by true = slice-line
-      by false = then (zeros (6 - suc less)) (codes "\" & " ++ lane_slice head) (repeat-line (6 - suc less) 48 refl) slice-line
+      by false = joins (zeros (6 - suc less)) (codes "\" & " ++ lane_slice head) (repeat-line (6 - suc less) 48 refl) slice-line
 
   close-line : is_line (close_test head) ≡ true
   close-line =
       let most = few-bits in
-      want-line (codes "\"01\" & std_logic_vector(to_unsigned(dim, " ++ (decimal (item_width p) ++ codes "))")) (then (decimal (item_width p)) (codes "))") (number-line (item_width p) (omega (arith, most))) refl)
+      want-line (codes "\"01\" & std_logic_vector(to_unsigned(dim, " ++ (decimal (item_width p) ++ codes "))")) (joins (decimal (item_width p)) (codes "))") (number-line (item_width p) (omega (arith, most))) refl)
 
   opening-line : (opening : Opening) → is_line (opening_text (forms_of head) opening) ≡ true
   unfolding forms_of
@@ -175,7 +175,7 @@ module _ (head : Head) (h : IsHead head) where
   end-line openings.NeedClose = refl
 
   at-line : (indent : ℕ) (text : List ℕ) → is_line text ≡ true → is_line (at indent text) ≡ true
-  at-line indent text is = then (replicate indent 32) text (repeat-line indent 32 refl) is
+  at-line indent text is = joins (replicate indent 32) text (repeat-line indent 32 refl) is
 
   block-line : (indent : ℕ) (opening : Opening) (body : List (List ℕ)) → list_all is_line body ≡ true → list_all is_line (block_lines (forms_of head) indent opening body) ≡ true
   block-line indent opening body are =
@@ -188,7 +188,7 @@ module _ (head : Head) (h : IsHead head) where
       both (is_line (at indent (opening_text (forms_of head) need))) _ (at-line indent (opening_text (forms_of head) need) (opening-line need))
       (both (is_line (at (indent + 2) (codes "place := place + 1;"))) _ (at-line (indent + 2) (codes "place := place + 1;") refl)
       (both (is_line (at indent (codes "else"))) _ (at-line indent (codes "else") refl)
-      (both (is_line (at (indent + 2) (fault_line head))) _ (at-line (indent + 2) (fault_line head) (then (fault_name head) (codes " <= '1';") (own_name-line (codes "fault") refl) refl))
+      (both (is_line (at (indent + 2) (fault_line head))) _ (at-line (indent + 2) (fault_line head) (joins (fault_name head) (codes " <= '1';") (own_name-line (codes "fault") refl) refl))
       (both (is_line (at (indent + 2) (codes "wait;"))) _ (at-line (indent + 2) (codes "wait;") refl)
       (both (is_line (at indent (codes "end if;"))) true (at-line indent (codes "end if;") refl) refl)))))
 
