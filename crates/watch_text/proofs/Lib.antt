@@ -1,5 +1,4 @@
 mod Examples
-mod PlainLemmas
 mod LineParts
 mod SoFarLemmas
 mod EntrySpelling
@@ -10,3 +9,9 @@ mod OpeningLemmas
 mod StatementSpelling
 mod StatementReading
 mod WatchLines
+pub mod PlainLemmas
+mod LoopLemmas
+mod ItemLemmas
+mod PrintingLemmas
+mod PieceLemmas
+mod TableLengths

@@ -3,5 +3,6 @@ pub mod WellFormed
 pub mod Text
 pub mod Reading
 pub mod Progress
+pub mod Blocks
 pub mod Pieces
 pub mod Lengths

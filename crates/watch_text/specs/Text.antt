@@ -149,7 +149,7 @@ strb_test head = name_text head signals.Strb ⁀ codes "(lane) = '1'"
 -- a lane is active, as far as the stream has these signals
 abbrev pub active_test : Head → List ℕ
 active_test head = joined
-    (where_has (has_stai head.params) (stai_test head) ++ where_has (has_endi head.params) (endi_test head) ++ where_has (has_strb head.params) (strb_test head))
+    (where_has (has_stai head.params) (stai_test head) ++ (where_has (has_endi head.params) (endi_test head) ++ where_has (has_strb head.params) (strb_test head)))
 
 -- the last bit of the lane and the dimension is 1
 abbrev pub last_test : Head → List ℕ

@@ -5,14 +5,14 @@ ghost use Rattle.vhdl_text.specs.Text.{◌⁀◌};
 ghost use Rattle.watch_text.specs.Reading as spec;
 ghost use Rattle.watch_text.specs.Text as texts;
 
-use crate::conditions::{ActiveTest, CloseTest, ElemTest, LastTest};
+use crate::conditions::{CloseTest, ElemTest};
 use crate::entity::Entity;
 use crate::forms::Forms;
 use crate::items::{close_zeros, element_zeros, item_width};
 use crate::marks::{OwnName, Repeated};
 use crate::processes::WaitLine;
 use crate::shape::Shape;
-use crate::statements::{FaultLine, IfLine, LoopLine, dims_of, lanes_of};
+use crate::statements::{Block, FaultLine, FirstLine, IfLine};
 use crate::tables::TableLine;
 use physical_stream::Head;
 use std::alloc::Global;
@@ -102,10 +102,10 @@ impl Forms {
         let params = &head.params;
         Ok(Forms {
             dims: params.dims,
-            lanes_line: text_of(alloc, LoopLine("lane", lanes_of(head)))?,
-            dims_line: text_of(alloc, LoopLine("dim", dims_of(head)))?,
-            active_line: text_of(alloc, IfLine(ActiveTest(head)))?,
-            last_line: text_of(alloc, IfLine(LastTest(head)))?,
+            lanes_line: text_of(alloc, FirstLine(head, Block::Lanes))?,
+            dims_line: text_of(alloc, FirstLine(head, Block::Dims))?,
+            active_line: text_of(alloc, FirstLine(head, Block::IfActive))?,
+            last_line: text_of(alloc, FirstLine(head, Block::IfLast))?,
             elem_line: text_of(alloc, IfLine(ElemTest(head)))?,
             close_line: text_of(alloc, IfLine(CloseTest(head)))?,
             fault_line: text_of(alloc, FaultLine(head))?,
