@@ -15,3 +15,5 @@ mod ItemLemmas
 mod PrintingLemmas
 mod PieceLemmas
 mod TableLengths
+mod WatchSpelling
+mod WatchReading

@@ -45,7 +45,7 @@ module _ (head : Head) where
     by_byte : (byte : ℕ) (rest : List ℕ) → text ≡ byte ∷ rest → (byte ≡ 92 → ⊥) → Begins text
     by_name : (rest : List ℕ) → text ≡ named (codes "strb") rest → Begins text
 
-  active-begins : (stai endi strb : Bool) → Begins (joined (where_has stai (stai_test head) ++ where_has endi (endi_test head) ++ where_has strb (strb_test head)))
+  active-begins : (stai endi strb : Bool) → Begins (joined (where_has stai (stai_test head) ++ (where_has endi (endi_test head) ++ where_has strb (strb_test head))))
   active-begins true true true = by_byte 116 _ refl (λ e. omega (arith, e))
   active-begins true true false = by_byte 116 _ refl (λ e. omega (arith, e))
   active-begins true false true = by_byte 116 _ refl (λ e. omega (arith, e))

@@ -118,11 +118,10 @@ module _ (head : Head) (h : IsHead head) where
       let stai = where_has (has_stai p) (stai_test head) in
       let endi = where_has (has_endi p) (endi_test head) in
       let strb = where_has (has_strb p) (strb_test head) in
-      joined-line (stai ++ endi ++ strb)
-      (lines-append (stai ++ endi) strb
-      (lines-append stai endi (where-line (has_stai p) (stai_test head) (joins (name_text head signals.Stai) (codes ")) <= lane") (name_text-line signals.Stai) refl))
-      (where-line (has_endi p) (endi_test head) (joins (name_text head signals.Endi) (codes "))") (name_text-line signals.Endi) refl)))
-      (where-line (has_strb p) (strb_test head) (joins (name_text head signals.Strb) (codes "(lane) = '1'") (name_text-line signals.Strb) refl)))
+      joined-line (stai ++ (endi ++ strb))
+      (lines-append stai (endi ++ strb) (where-line (has_stai p) (stai_test head) (joins (name_text head signals.Stai) (codes ")) <= lane") (name_text-line signals.Stai) refl))
+      (lines-append endi strb (where-line (has_endi p) (endi_test head) (joins (name_text head signals.Endi) (codes "))") (name_text-line signals.Endi) refl))
+      (where-line (has_strb p) (strb_test head) (joins (name_text head signals.Strb) (codes "(lane) = '1'") (name_text-line signals.Strb) refl))))
 
   last-line : is_line (last_test head) ≡ true
   last-line =
