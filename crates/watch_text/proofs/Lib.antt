@@ -17,3 +17,4 @@ mod PieceLemmas
 mod TableLengths
 mod WatchSpelling
 mod WatchReading
+mod WholeSteps
