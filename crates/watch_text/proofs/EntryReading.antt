@@ -13,6 +13,7 @@ use Rattle.physical_stream.specs.Params.{Parameters}
 use Rattle.physical_stream.specs.declared.head.Head.{Head}
 use Rattle.physical_stream.specs.declared.item.Item.{Item}
 use Rattle.physical_stream.specs.declared.item.Item.TheVariants as items
+use Rattle.vhdl_text.proofs.LineLemmas.{sized-some}
 use Rattle.watch_text.specs.declared.entry.Entry.{Entry}
 use Rattle.watch_text.specs.declared.entry.Entry.TheVariants as entries
 use Rattle.watch_text.specs.Reading.{behind_number, close_in, cut_before, elem_or, entry_at, entry_of_line, item_of, shape_of, without_front, word_in}
@@ -21,14 +22,6 @@ use Rattle.watch_text.specs.WellFormed.{IsItemOf}
 use Rattle.watch_text.proofs.LineParts.{cut_before-some, without_front-some}
 
 -- ---- words
-
-sized-some : (width : ℕ) (digits : List ℕ) (bits : List Bool) → binary_word_at width digits ≡ Some bits → (digits ≡ binary_of bits) × (length bits ≡ width)
-unfolding binary_word_at
-sized-some width digits bits e = by_test (length digits == width) refl e
-  where
-    by_test : (test : Bool) → (length digits == width) ≡ test → cond test (binary_word digits) None ≡ Some bits → (digits ≡ binary_of bits) × (length bits ≡ width)
-    by_test true is e = let read = binary_read digits bits e in (read.0, read.1 ∙ eqb-true (length digits) width is)
-    by_test false is e = absurd (none-some bits e)
 
 -- a word that was read behind a front
 pub record WordRead (front : List ℕ) (width : ℕ) (text : List ℕ) (bits : List Bool) : Type 0 where

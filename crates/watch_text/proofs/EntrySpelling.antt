@@ -19,7 +19,7 @@ use Rattle.watch_text.specs.declared.entry.Entry.TheVariants as entries
 use Rattle.watch_text.specs.Reading.{behind_number, close_in, cut_before, elem_or, entry_at, entry_of_line, item_of, shape_of, without_front, word_in}
 use Rattle.watch_text.specs.Text.{end_digits, end_line, entry_front, item_digits, item_line, item_width, zeros}
 use Rattle.watch_text.specs.WellFormed.{IsItemOf}
-use Rattle.watch_text.proofs.LineParts.{cut_before-append, other-text, same-front, same-text, without_front-append, without_front-none}
+use Rattle.watch_text.proofs.LineParts.{cut_before-append, other-text, same-text, without_front-append, without_front-none}
 
 -- ---- bytes that differ
 

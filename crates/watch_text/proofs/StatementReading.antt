@@ -13,7 +13,7 @@ use Rattle.tydi_reading.proofs.TableLemmas.{entry-word}
 use Rattle.physical_stream.specs.declared.head.Head.{Head}
 use Rattle.vhdl_text.specs.declared.refusal.Refusal.{Refusal}
 use Rattle.vhdl_text.specs.Reading.{lines_text, the_lines}
-use Rattle.vhdl_text.proofs.BenchReading.{and_then-some, mark-some, the_lines-some, took-same}
+use Rattle.vhdl_text.proofs.BenchReading.{and_then-some, mark-some, not-true, the_lines-some, took-same}
 use Rattle.vhdl_text.proofs.BenchSpelling.{pieces-text}
 use Rattle.vhdl_text.proofs.ProcessSpelling.{lines_text-append}
 use Rattle.watch_text.specs.declared.forms.Forms.{Forms}
@@ -31,7 +31,7 @@ use Rattle.watch_text.proofs.StatementSpelling.{indent-inside, room-inside}
 -- ---- lines
 
 -- a line so far to the right
-line-at : (indent : ℕ) (text : List ℕ) → at indent text ++ 10 ∷ [] ≡ line indent text
+pub line-at : (indent : ℕ) (text : List ℕ) → at indent text ++ 10 ∷ [] ≡ line indent text
 line-at indent text = append_assoc (replicate indent 32) text (10 ∷ [])
 
 -- ---- one statement more
@@ -188,10 +188,6 @@ module _ (head : Head) where
       grind (arith, nat_tests, room.1)
   has-room around openings.NeedElem may holds = absurd cc
   has-room around openings.NeedClose may holds = absurd cc
-
-  not-true : (test : Bool) → not test ≡ true → test ≡ false
-  not-true true e = absurd cc
-  not-true false e = refl
 
   block-is : (around : Around) (opening : Opening) (body : Statements) → allows count around opening ≡ true → is_need opening ≡ false → IsSome body → AreStatements count (around_inside around opening) body
       → IsStatement count around (made opening body)

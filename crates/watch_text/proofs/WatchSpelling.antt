@@ -24,6 +24,7 @@ use Rattle.watch_text.specs.WellFormed.{AreStatements, IsItemOf, IsStream, IsWel
 use Rattle.watch_text.specs.declared.opening.Opening.{Opening}
 use Rattle.watch_text.specs.declared.opening.Opening.TheVariants as openings
 use Rattle.watch_text.specs.Reading.{end_of, opening_text}
+use Rattle.watch_text.proofs.StatementReading.{line-at}
 use Rattle.watch_text.proofs.StatementSpelling.{block_lines, need_lines, process-spelled, process_lines, statement_lines, statements_lines}
 use Rattle.watch_text.proofs.TableSpelling.{AreTables, IsTable, a_line-given, item_lines_of, table_lines, tables-spelled, tables_lines}
 use Rattle.watch_text.proofs.WatchLines.{processes_lines, watch_lines, watch_lines-lack}
@@ -55,9 +56,6 @@ tables_lines-text (head ∷ heads) [] = refl
 tables_lines-text (head ∷ heads) (first ∷ want) =
     lines_text-append (table_lines head first) (tables_lines heads want) ∙ ap (λ (t : List ℕ). t ++ lines_text (tables_lines heads want)) (table_lines-text head first)
     ∙ ap (λ (t : List ℕ). table_text head first ++ t) (tables_lines-text heads want)
-
-line-at : (indent : ℕ) (text : List ℕ) → at indent text ++ 10 ∷ [] ≡ line indent text
-line-at indent text = append_assoc (replicate indent 32) text (10 ∷ [])
 
 module _ (head : Head) where
   -- the lines of a statement around those inside it
