@@ -1,13 +1,11 @@
 -- Entries of tables: what is read is spelled so.
-use Rattle.std.proofs.Common.{◌≡◌, ℕ, suc, ◌+◌, ◌-◌, ◌<◌, ◌≤◌, ◌^◌, ◌==◌, Bool, true, false, nat_lt, cond, List, [], ◌∷◌, ◌++◌, append_assoc, append-nil, length, Option, Some, None, option_and_then, refl, sym, ap, ◌∙◌, codes, decimal, arith}
+use Rattle.std.proofs.Common.{◌≡◌, ℕ, ◌-◌, ◌<◌, ◌^◌, Bool, true, false, nat_lt, cond, List, ◌++◌, append_assoc, append-nil, length, Option, Some, None, option_and_then, refl, sym, ap, ◌∙◌, codes, decimal, arith}
 use Rattle.std.specs.Str.{bytes_eq}
-use Rattle.std.proofs.lemmas.Bool.{eqb-true}
 use Rattle.std.proofs.lemmas.Bool.Decides.{nat_tests}
 use Rattle.std.proofs.lemmas.Option.{none-some, same_Some, option_and_then_some}
 use Rattle.std.proofs.lemmas.Slice.Eq.{bytes_eq-Decides}
-use Rattle.tydi_base.specs.Binary.{binary_of, binary_word, binary_word_at}
+use Rattle.tydi_base.specs.Binary.{binary_of, binary_word_at}
 use Rattle.tydi_base.specs.Bits.{bits_of, number_of_bits}
-use Rattle.tydi_base.proofs.BinaryLemmas.{binary_read}
 use Rattle.tydi_base.proofs.BitsLemmas.{bits_of-number_of_bits}
 use Rattle.physical_stream.specs.Params.{Parameters}
 use Rattle.physical_stream.specs.declared.head.Head.{Head}
@@ -32,13 +30,13 @@ pub word_in-some : (front : List ℕ) (width : ℕ) (text : List ℕ) (bits : Li
 unfolding word_in
 word_in-some front width text bits e =
     option_and_then_some {A = List ℕ} {B = List Bool} {P = WordRead front width text bits} (binary_word_at width) (option_and_then (cut_before width (codes "\",")) (without_front front text)) bits e (λ digits cut word.
-        option_and_then_some {A = List ℕ} {B = List ℕ} {P = WordRead front width text bits} (cut_before width (codes "\",")) (without_front front text) digits cut (λ rest there before.
-            let read = sized-some width digits bits word in
-            record {
-              spelled = without_front-some front text rest there
-                  ∙ ap (λ (t : List ℕ). front ++ t) (cut_before-some width (codes "\",") rest digits before ∙ ap (λ (t : List ℕ). t ++ codes "\",") read.0);
-              wide = read.1;
-            }))
+    option_and_then_some {A = List ℕ} {B = List ℕ} {P = WordRead front width text bits} (cut_before width (codes "\",")) (without_front front text) digits cut (λ rest there before.
+    let read = sized-some width digits bits word in
+    record {
+      spelled = without_front-some front text rest there
+          ∙ ap (λ (t : List ℕ). front ++ t) (cut_before-some width (codes "\",") rest digits before ∙ ap (λ (t : List ℕ). t ++ codes "\",") read.0);
+      wide = read.1;
+    }))
 
 -- ---- items
 
@@ -105,10 +103,10 @@ module _ (head : Head) where
   unfolding behind_number
   behind_number-some number line rest e =
       option_and_then_some {A = List ℕ} {B = List ℕ} {P = line ≡ entry_front number ++ rest} (without_front (codes " => \"")) (option_and_then (without_front (decimal number)) (without_front (codes "    ") line)) rest e (λ after found last.
-          option_and_then_some {A = List ℕ} {B = List ℕ} {P = line ≡ entry_front number ++ rest} (without_front (decimal number)) (without_front (codes "    ") line) after found (λ spelled there digits.
-              without_front-some (codes "    ") line spelled there
-              ∙ ap (λ (t : List ℕ). codes "    " ++ t) (without_front-some (decimal number) spelled after digits ∙ ap (λ (t : List ℕ). decimal number ++ t) (without_front-some (codes " => \"") after rest last)
-              ∙ sym (append_assoc (decimal number) (codes " => \"") rest))))
+      option_and_then_some {A = List ℕ} {B = List ℕ} {P = line ≡ entry_front number ++ rest} (without_front (decimal number)) (without_front (codes "    ") line) after found (λ spelled there digits.
+      without_front-some (codes "    ") line spelled there
+      ∙ ap (λ (t : List ℕ). codes "    " ++ t) (without_front-some (decimal number) spelled after digits ∙ ap (λ (t : List ℕ). decimal number ++ t) (without_front-some (codes " => \"") after rest last)
+      ∙ sym (append_assoc (decimal number) (codes " => \"") rest))))
 
   -- the line of an item, or that of the end
   pub data LineRead (last : List ℕ) (number : ℕ) (line : List ℕ) (entry : Entry) : Type 0 where
@@ -137,4 +135,4 @@ module _ (head : Head) where
       by_few true is e =
           let few : number < 2 ^ 64 = grind (arith, nat_tests) in
           option_and_then_some {A = List ℕ} {B = Entry} {P = LineRead last number line entry} (entry_at (shape_of head) (bytes_eq (decimal number) last)) (behind_number (decimal number) line) entry e (λ text found entry_is.
-              by_last text few (behind_number-some number line text found) (bytes_eq text (end_digits p ++ codes "\"")) (bytes_eq (decimal number) last) refl refl entry_is)
+          by_last text few (behind_number-some number line text found) (bytes_eq text (end_digits p ++ codes "\"")) (bytes_eq (decimal number) last) refl refl entry_is)

@@ -1,5 +1,5 @@
 -- Parts of lines: what stands behind a front, and before a back.
-use Rattle.std.proofs.Common.{◌≡◌, ℕ, zero, Bool, true, false, cond, List, [], ◌∷◌, ◌++◌, append_assoc, length, length-append, nat_le, ◌&&◌, take, drop, Option, Some, None, refl, sym, ap, ◌∙◌, nat_eq, suc, ◌<◌, ◌-◌, ◌≤◌, ◌==◌, replicate, arith}
+use Rattle.std.proofs.Common.{◌≡◌, ℕ, zero, Bool, true, false, cond, List, [], ◌∷◌, ◌++◌, length, length-append, nat_le, ◌&&◌, take, drop, Option, Some, None, refl, sym, ap, ◌∙◌, nat_eq, suc, ◌<◌, ◌≤◌, ◌==◌, replicate, arith}
 use Rattle.std.proofs.lemmas.Bool.{eqb-true}
 use Rattle.tydi_base.proofs.PlainWords.{and_parts}
 use Rattle.std.specs.List.{list_all, starts_with}

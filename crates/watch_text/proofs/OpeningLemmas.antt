@@ -1,14 +1,12 @@
 -- The first lines of statements: no two kinds have one.
-use Rattle.std.proofs.Common.{◌≡◌, ℕ, zero, suc, ◌+◌, ◌-◌, ◌*◌, ◌<◌, ◌≤◌, Bool, true, false, nat_le, cond, if◌then◌else◌, List, [], ◌∷◌, ◌++◌, append_assoc, append-nil, length, replicate, slice_index, Option, Some, None, refl, sym, ap, ◌∙◌, ◌⊎◌, inl, inr, codes, decimal, arith}
-use Rattle.std.specs.List.{flat_map}
+use Rattle.std.proofs.Common.{◌≡◌, ℕ, zero, suc, ◌-◌, Bool, true, false, nat_le, if◌then◌else◌, List, [], ◌∷◌, ◌++◌, append_assoc, append-nil, slice_index, Some, refl, sym, ap, ◌∙◌, codes, decimal, arith}
 use Rattle.std.specs.Str.{bytes_eq}
 use Rattle.tydi_base.specs.Path.{path_text}
-use Rattle.tydi_reading.specs.Tables.{entry_of}
 use Rattle.physical_stream.specs.Signals.{has_endi, has_stai, has_strb}
 use Rattle.physical_stream.specs.declared.head.Head.{Head}
 use Rattle.signal_layout.specs.declared.signal.Signal.{Signal}
 use Rattle.signal_layout.specs.declared.signal.Signal.TheVariants as signals
-use Rattle.vhdl_text.specs.Text.{name_text, plain_name, signal_word}
+use Rattle.vhdl_text.specs.Text.{name_text, signal_word}
 use Rattle.watch_text.specs.declared.opening.Opening.{Opening}
 use Rattle.watch_text.specs.declared.opening.Opening.TheVariants as openings
 use Rattle.watch_text.specs.Reading.{forms_of, opening_of, opening_text}
@@ -122,20 +120,29 @@ module _ (head : Head) where
   opening_of-own openings.IfLast =
       let line = if_line (last_test head) in
       rw (
-        differ-at 0 line (loop_line (codes "lane") head.params.lanes) (λ e. omega (arith, e)), differ-at 0 line (loop_line (codes "dim") head.params.dims) (λ e. omega (arith, e)),
-        active-other 108 (codes "ast") (codes "(lane * " ++ (decimal head.params.dims ++ codes " + dim) = '1'")) (last_test head) (λ e. omega (arith, e)) last-named, same-text line,
+        differ-at 0 line (loop_line (codes "lane") head.params.lanes) (λ e. omega (arith, e)),
+        differ-at 0 line (loop_line (codes "dim") head.params.dims) (λ e. omega (arith, e)),
+        active-other 108 (codes "ast") (codes "(lane * " ++ (decimal head.params.dims ++ codes " + dim) = '1'")) (last_test head) (λ e. omega (arith, e)) last-named,
+        same-text line,
       ) refl
   opening_of-own openings.NeedElem =
       let line = if_line (elem_test head) in
       let word = elem_word head head.params.element in
       rw (
-        differ-at 0 line (loop_line (codes "lane") head.params.lanes) (λ e. omega (arith, e)), differ-at 0 line (loop_line (codes "dim") head.params.dims) (λ e. omega (arith, e)),
-        active-other 119 (codes "ant") (codes "(place) = " ++ word) (elem_test head) (λ e. omega (arith, e)) (want-named word), last-other word, same-text line,
+        differ-at 0 line (loop_line (codes "lane") head.params.lanes) (λ e. omega (arith, e)),
+        differ-at 0 line (loop_line (codes "dim") head.params.dims) (λ e. omega (arith, e)),
+        active-other 119 (codes "ant") (codes "(place) = " ++ word) (elem_test head) (λ e. omega (arith, e)) (want-named word),
+        last-other word,
+        same-text line,
       ) refl
   opening_of-own openings.NeedClose =
       let line = if_line (close_test head) in
       let word = codes "\"01\" & std_logic_vector(to_unsigned(dim, " ++ (decimal (item_width head.params) ++ codes "))") in
       rw (
-        differ-at 0 line (loop_line (codes "lane") head.params.lanes) (λ e. omega (arith, e)), differ-at 0 line (loop_line (codes "dim") head.params.dims) (λ e. omega (arith, e)),
-        active-other 119 (codes "ant") (codes "(place) = " ++ word) (close_test head) (λ e. omega (arith, e)) (want-named word), last-other word, elem-other, same-text line,
+        differ-at 0 line (loop_line (codes "lane") head.params.lanes) (λ e. omega (arith, e)),
+        differ-at 0 line (loop_line (codes "dim") head.params.dims) (λ e. omega (arith, e)),
+        active-other 119 (codes "ant") (codes "(place) = " ++ word) (close_test head) (λ e. omega (arith, e)) (want-named word),
+        last-other word,
+        elem-other,
+        same-text line,
       ) refl

@@ -1,20 +1,17 @@
 -- Monitors: what is read is spelled so.
-use Rattle.std.proofs.Common.{◌≡◌, ℕ, zero, suc, ◌+◌, ◌<◌, ◌≤◌, ◌^◌, Bool, true, false, ◌==◌, cond, List, [], ◌∷◌, ◌++◌, append_assoc, append-nil, length, slice_get, Option, Some, None, Result, Ok, Err, All, refl, sym, ap, ◌∙◌, codes, arith}
+use Rattle.std.proofs.Common.{◌≡◌, ℕ, zero, suc, ◌+◌, Bool, true, false, ◌==◌, cond, List, [], ◌∷◌, ◌++◌, append_assoc, append-nil, length, slice_get, Option, Some, None, Result, Ok, Err, refl, sym, ap, ◌∙◌, codes, arith}
 use Rattle.std.specs.List.{flat_map}
 use Rattle.std.proofs.lemmas.Bool.Decides.{nat_tests}
-use Rattle.std.proofs.lemmas.List.Elements.{All-tail}
 use Rattle.std.proofs.lemmas.Option.{none-some, same_Some}
 use Rattle.tydi_base.specs.Pieces.{pieces_of}
 use Rattle.tydi_base.proofs.ReadingLaws.{ok_is}
 use Rattle.tydi_reading.specs.Reading.{Outcome, took, stopped, and_then, pure}
-use Rattle.physical_stream.specs.StreamLine.{IsHead}
 use Rattle.physical_stream.specs.declared.head.Head.{Head}
 use Rattle.physical_stream.specs.declared.item.Item.{Item}
 use Rattle.vhdl_text.specs.declared.refusal.Refusal.{Refusal}
 use Rattle.vhdl_text.specs.Lines.{Cut, cut_last}
-use Rattle.vhdl_text.specs.Reading.{heads_from, lines_text, offset_of, the_lines}
+use Rattle.vhdl_text.specs.Reading.{heads_from, lines_text, the_lines}
 use Rattle.vhdl_text.specs.Text.{stream_comment}
-use Rattle.vhdl_text.specs.WellFormed.{AreHeads}
 use Rattle.vhdl_text.proofs.BenchReading.{and_then-some, heads_from-some, mark-some, the_lines-some, took-same}
 use Rattle.vhdl_text.proofs.BenchSpelling.{pieces-text}
 use Rattle.vhdl_text.proofs.CutLemmas.{cut_last-some}
@@ -23,7 +20,7 @@ use Rattle.watch_text.specs.declared.fault.WatchFault.{WatchFault}
 use Rattle.watch_text.specs.declared.fault.WatchFault.TheVariants as faults
 use Rattle.watch_text.specs.Reading.{MonitorsArePrintedAsRead, a_line, body_of, closed, forms_of, process_of, processes_from, processes_of, tables_from, watch_from, watch_in, watch_of, whole}
 use Rattle.watch_text.specs.Statements.{PlainWatch, Statements}
-use Rattle.watch_text.specs.Text.{back_text, entity_text, front_text, process_text, processes_text, tables_text, watch_text}
+use Rattle.watch_text.specs.Text.{back_text, entity_text, process_text, processes_text, tables_text, watch_text}
 use Rattle.watch_text.specs.WellFormed.{IsStream, IsWellFormed}
 use Rattle.watch_text.proofs.StatementReading.{process-some}
 use Rattle.watch_text.proofs.TableReading.{tables-some}

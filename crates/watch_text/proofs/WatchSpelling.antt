@@ -1,32 +1,31 @@
 -- Monitors: what is spelled is read.
-use Rattle.std.proofs.Common.{◌≡◌, ℕ, zero, suc, ◌+◌, ◌<◌, ◌≤◌, ◌^◌, true, false, List, [], ◌∷◌, ◌++◌, append_assoc, append-nil, map, length, drop, replicate, slice_get, Option, Some, None, Ok, All, refl, sym, ap, ◌∙◌, codes, arith}
+use Rattle.std.proofs.Common.{◌≡◌, ℕ, suc, ◌+◌, false, List, [], ◌∷◌, ◌++◌, append_assoc, append-nil, map, length, drop, slice_get, Some, All, refl, sym, ap, ◌∙◌, codes, arith}
 use Rattle.std.specs.List.{flat_map, join_with_byte}
 use Rattle.std.proofs.lemmas.List.Elements.{All-head, All-tail}
 use Rattle.tydi_base.specs.Pieces.{pieces_of}
 use Rattle.tydi_base.proofs.PieceLaws.{pieces_of-append, pieces_of-join}
-use Rattle.tydi_reading.specs.Lists.{mark}
-use Rattle.tydi_reading.specs.Reading.{took, and_then}
+use Rattle.tydi_reading.specs.Reading.{took}
 use Rattle.physical_stream.specs.Params.{Parameters}
 use Rattle.physical_stream.specs.StreamLine.{IsHead}
 use Rattle.physical_stream.specs.declared.head.Head.{Head}
 use Rattle.physical_stream.specs.declared.item.Item.{Item}
 use Rattle.vhdl_text.specs.Lines.{cut_last}
-use Rattle.vhdl_text.specs.Reading.{heads_from, is_comment, lines_text, the_lines}
+use Rattle.vhdl_text.specs.Reading.{heads_from, is_comment, lines_text}
 use Rattle.vhdl_text.specs.Text.{stream_comment}
 use Rattle.vhdl_text.specs.WellFormed.{AreHeads}
 use Rattle.vhdl_text.proofs.BenchSpelling.{MayFollow, comment_line, comments-text, heads_from-spelled, pieces-text, some-pieces, the_lines-given}
 use Rattle.vhdl_text.proofs.CutLemmas.{cut_last-append, lacks-by}
 use Rattle.vhdl_text.proofs.ProcessSpelling.{lines_text-append}
-use Rattle.watch_text.specs.Reading.{MonitorsAreReadAsPrinted, a_line, at, body_of, closed, forms_of, process_of, processes_from, processes_of, tables_from, wait_text, watch_from, watch_in, watch_of, whole}
+use Rattle.watch_text.specs.Reading.{MonitorsAreReadAsPrinted, at, body_of, closed, forms_of, processes_from, processes_of, wait_text, watch_from, watch_in, watch_of, whole}
 use Rattle.watch_text.specs.Statements.{PlainWatch, Statement, Statements, dims, if_active, if_last, lanes, need_close, need_elem, no_statements, statement}
-use Rattle.watch_text.specs.Text.{back_text, end_line, entity_text, fault_line, front_text, item_line, item_lines, line, process_back, process_front, process_text, processes_text, statement_text, statements_text, table_line, table_text, tables_text, type_line, watch_text}
-use Rattle.watch_text.specs.WellFormed.{AreStatements, IsItemOf, IsStream, IsWellFormed, around_process}
+use Rattle.watch_text.specs.Text.{back_text, end_line, entity_text, fault_line, item_line, item_lines, line, process_back, process_front, process_text, processes_text, statement_text, statements_text, table_line, table_text, tables_text, type_line, watch_text}
+use Rattle.watch_text.specs.WellFormed.{AreStatements, IsStream, around_process}
 use Rattle.watch_text.specs.declared.opening.Opening.{Opening}
 use Rattle.watch_text.specs.declared.opening.Opening.TheVariants as openings
 use Rattle.watch_text.specs.Reading.{end_of, opening_text}
 use Rattle.watch_text.proofs.StatementReading.{line-at}
 use Rattle.watch_text.proofs.StatementSpelling.{block_lines, need_lines, process-spelled, process_lines, statement_lines, statements_lines}
-use Rattle.watch_text.proofs.TableSpelling.{AreTables, IsTable, a_line-given, item_lines_of, table_lines, tables-spelled, tables_lines}
+use Rattle.watch_text.proofs.TableSpelling.{AreTables, a_line-given, item_lines_of, table_lines, tables-spelled, tables_lines}
 use Rattle.watch_text.proofs.WatchLines.{processes_lines, watch_lines, watch_lines-lack}
 
 -- ---- the text of the lines
@@ -73,8 +72,13 @@ module _ (head : Head) where
       ≡ line indent (opening_text (forms_of head) need) ++ (line (indent + 2) (codes "place := place + 1;") ++ (line indent (codes "else") ++ (line (indent + 2) (fault_line head) ++ (line (indent + 2) (codes "wait;") ++ line indent (codes "end if;")))))
   unfolding forms_of
   need-text indent need = rw (
-    line-at indent (opening_text (forms_of head) need), line-at (indent + 2) (codes "place := place + 1;"), line-at indent (codes "else"), line-at (indent + 2) (fault_line head), line-at (indent + 2) (codes "wait;"),
-    append-nil (at indent (codes "end if;") ++ 10 ∷ []), line-at indent (codes "end if;"),
+    line-at indent (opening_text (forms_of head) need),
+    line-at (indent + 2) (codes "place := place + 1;"),
+    line-at indent (codes "else"),
+    line-at (indent + 2) (fault_line head),
+    line-at (indent + 2) (codes "wait;"),
+    append-nil (at indent (codes "end if;") ++ 10 ∷ []),
+    line-at indent (codes "end if;"),
   ) refl
 
   mutual
@@ -159,8 +163,7 @@ tables-are [] (first ∷ want) procs own many count each = absurd (omega (arith,
 tables-are (head ∷ heads) [] procs own many count each = absurd (omega (arith, many))
 tables-are (head ∷ heads) (first ∷ want) [] own many count each = absurd (omega (arith, count))
 tables-are (head ∷ heads) (first ∷ want) (process ∷ procs) own many count each =
-    let is = each 0 head first process refl refl refl in
-    (
+    let is = each 0 head first process refl refl refl in (
       record { own = All-head IsHead head heads own; few = is.few; items = is.items },
       tables-are heads want procs (All-tail IsHead head heads own) (less (length want) (length heads) many) (less (length procs) (length heads) count) (λ i. each (suc i)),
     )
@@ -196,8 +199,13 @@ watch_from-spelled watch own tables procs =
     let found : heads_from [] (map comment_line heads ++ (entity ++ second)) ≡ took heads (entity ++ second) =
     heads-found heads entity second (codes "library ieee;") (pieces_of 10 (drop 14 (entity_text heads))) may (entity-begins heads) refl in
     rw (
-      a_line-given (codes "-- tydi-watch 1") (map comment_line heads ++ (entity ++ second)), found, the_lines-given entity second, tables-spelled heads [] watch.want third tables,
-      a_line-given (codes "begin") (processes_lines heads watch.procs ++ last), processes-spelled heads [] watch.procs last procs, a_line-given (codes "end architecture;") [],
+      a_line-given (codes "-- tydi-watch 1") (map comment_line heads ++ (entity ++ second)),
+      found,
+      the_lines-given entity second,
+      tables-spelled heads [] watch.want third tables,
+      a_line-given (codes "begin") (processes_lines heads watch.procs ++ last),
+      processes-spelled heads [] watch.procs last procs,
+      a_line-given (codes "end architecture;") [],
     ) refl
 
 pub monitors_read : MonitorsAreReadAsPrinted

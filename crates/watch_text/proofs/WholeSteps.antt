@@ -1,5 +1,5 @@
 -- Monitors, by the steps of their reading.
-use Rattle.std.proofs.Common.{◌≡◌, ◌≢◌, ℕ, ◌+◌, List, length, Some, None, Result, Err, refl, sym, ap, ◌∙◌, subst}
+use Rattle.std.proofs.Common.{◌≡◌, ◌≢◌, ℕ, ◌+◌, List, length, Some, None, Result, Err, sym, ap, ◌∙◌, subst}
 use Rattle.tydi_base.specs.Pieces.{pieces_of}
 use Rattle.tydi_base.specs.Reading.{Gives}
 use Rattle.tydi_reading.specs.Reading.{Outcome, took, stopped}
