@@ -15,6 +15,7 @@ mod ItemLemmas
 mod PrintingLemmas
 mod PieceLemmas
 mod TableLengths
-mod WatchSpelling
-mod WatchReading
+pub mod WatchSpelling
+pub mod WatchReading
 mod WholeSteps
+pub mod WatchFaults

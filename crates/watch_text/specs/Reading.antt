@@ -202,7 +202,8 @@ pub record Opened : Type 0 where
   pub around : Around
   pub earlier : List Statement
 
--- how far a process is read: what comes next, what stands around it, the statements before it in its list, and the statements that are begun, the innermost first
+-- how far a process is read: what comes next, what stands around it, the statements before it in its list, and the statements that are begun, the
+-- innermost first
 pub record Progress : Type 0 where
   pub stage : Stage
   pub around : Around
@@ -275,7 +276,7 @@ abbrev pub is_none_of : List Statement → Bool
 is_none_of [] = true
 is_none_of (first ∷ more) = false
 
--- ends the innermost statement that is begun, where it holds one at least
+-- ends the innermost statement that is begun, where that holds at least one
 abbrev pub closes : Progress → List ℕ → List Opened → Next
 closes so_far line [] = Err refusals.Refused
 closes so_far line (inner ∷ begun) =
@@ -299,7 +300,8 @@ by_place forms so_far line None = closes so_far line so_far.begun
 -- after a line at this stage
 abbrev pub after_line : Forms → Progress → List ℕ → Stage → Next
 after_line forms so_far line stages.Free = by_place forms so_far line (without_front (replicate (indent_of so_far.around) 32) line)
-after_line forms so_far line (stages.Counts need) = where_line (at (indent_of so_far.around + 2) (codes "place := place + 1;")) line (then_comes so_far (stages.Otherwise need))
+after_line forms so_far line (stages.Counts need) =
+    where_line (at (indent_of so_far.around + 2) (codes "place := place + 1;")) line (then_comes so_far (stages.Otherwise need))
 after_line forms so_far line (stages.Otherwise need) = where_line (at (indent_of so_far.around) (codes "else")) line (then_comes so_far (stages.Raises need))
 after_line forms so_far line (stages.Raises need) = where_line (at (indent_of so_far.around + 2) forms.fault_line) line (then_comes so_far (stages.Stops need))
 after_line forms so_far line (stages.Stops need) = where_line (at (indent_of so_far.around + 2) (codes "wait;")) line (then_comes so_far (stages.Ends need))
@@ -389,12 +391,12 @@ watch_in (Some cut) = whole (length cut.front + 1) cut.back (watch_from (pieces_
 unfoldable pub watch_of : List ℕ → Result PlainWatch WatchFault
 watch_of text = watch_in (cut_last 10 text)
 
--- a text is no monitor; want of memory is no error of it
+-- the error that a text is no monitor; want of memory maps to None
 abbrev pub fault_in : WatchFault → Option WatchFault
 fault_in (faults.NotForm offset) = Some (faults.NotForm offset)
 fault_in faults.Memory = None
 
--- a function did what the reader does, its value seen so, unless memory ran out
+-- a function did what the reader does, with its value seen by view, unless memory ran out
 abbrev pub ReadsSeen : {A B : Type 0} → (A → B) → Outcome Refusal (List ℕ) B → Result A (Fault Refusal) → List (List ℕ) → Type 0
 ReadsSeen view outcome (Ok x) new = outcome ≡ took (view x) new
 ReadsSeen view outcome (Err e) new = e ≢ refusals.Memory → outcome ≡ stopped e new

@@ -159,7 +159,8 @@ impl SoFar {
 
     /// Goes on to another stage where the line is this text, so far to the right.
     fn pass(&mut self, line: &[u8], indent: usize, wanted: &[u8], next: Stage) -> Result<(), Fault>
-        ensures { Gives refusal_in (λ _. progress_of self.new) result (spec.where_line (spec.at indent wanted.now) line.now (spec.then_comes (progress_of self.old) next)) }
+        ensures { Gives refusal_in (λ _. progress_of self.new) result
+            (spec.where_line (spec.at indent wanted.now) line.now (spec.then_comes (progress_of self.old) next)) }
     {
         if !is_at(line, indent, wanted) {
             return Err(Fault::Refused);
@@ -171,7 +172,8 @@ impl SoFar {
     /// Ends a need.
     fn end_need(&mut self, alloc: Global, line: &[u8], need: Opening) -> Result<(), Fault>
         ensures { Gives refusal_in (λ _. progress_of self.new) result
-            (spec.where_line (spec.at (spec.indent_of (around_of self.old.nest)) (codes "end if;")) line.now (spec.with_need (progress_of self.old) need)) }
+            (spec.where_line (spec.at (spec.indent_of (around_of self.old.nest)) (codes "end if;")) line.now
+            (spec.with_need (progress_of self.old) need)) }
     {
         if !is_at(line, self.nest.indent(), b"end if;") {
             return Err(Fault::Refused);
@@ -182,7 +184,12 @@ impl SoFar {
 
     /// Adds a statement to the innermost list.
     fn add(&mut self, stmt: WStmt) -> Result<(), Memory>
-        ensures { OnOk result (progress_of self.new ≡ record { stage = stages.Free; around = around_of self.old.nest; earlier = map plain self.old.stmts ++ plain stmt ∷ []; begun = all_begun self.old.begun }) }
+        ensures { OnOk result (progress_of self.new ≡ record {
+          stage = stages.Free;
+          around = around_of self.old.nest;
+          earlier = map plain self.old.stmts ++ plain stmt ∷ [];
+          begun = all_begun self.old.begun;
+        }) }
     {
         self.stmts.push(stmt)?;
         self.stage = Stage::Free;
@@ -248,7 +255,8 @@ impl SoFar {
 
     /// Whether a statement holds one at least, and the line is its last one.
     fn may_end(&self, inner: &Begun, line: &[u8]) -> bool
-        ensures { result ≡ (not (spec.is_none_of (map plain self.now.stmts)) && bytes_eq line.now (spec.at (spec.indent_of (around_of inner.now.nest)) (spec.end_of inner.now.opening))) }
+        ensures { result ≡ (not (spec.is_none_of (map plain self.now.stmts))
+            && bytes_eq line.now (spec.at (spec.indent_of (around_of inner.now.nest)) (spec.end_of inner.now.opening))) }
     {
         !self.has_none() && is_at(line, inner.nest.indent(), end_of(inner.opening))
     }
