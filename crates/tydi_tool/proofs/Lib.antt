@@ -11,6 +11,9 @@ pub mod CommandLemmas
 pub mod CompareCauses
 pub mod CompareLemmas
 pub mod CompareLawLemmas
+pub mod WatchCauses
+pub mod WatchLemmas
+pub mod WatchLawLemmas
 pub mod DecodeLawLemmas
 pub mod DecodeLemmas
 pub mod DeliveryLemmas

@@ -9,7 +9,7 @@ use Rattle.tydi_tool.specs.declared.status.Status.{Status}
 use Rattle.tydi_tool.specs.declared.status.Status.TheVariants as statuses
 use Rattle.tydi_tool.specs.DecodeLaw.{IsReadBack, WritesDecoded, decode_words}
 use Rattle.tydi_tool.specs.DriveLaw.{WritesDriven, drive_words}
-use Rattle.tydi_tool.specs.Words.{Request, Check, Decode, Drive, Link, Read, Sim, Split, FileWord, file_words, Carry, Design, Bench, Testbench, Vcd, Gen, Compare}
+use Rattle.tydi_tool.specs.Words.{Request, Check, Decode, Drive, Link, Read, Sim, Split, FileWord, file_words, Carry, Design, Bench, Testbench, Vcd, Gen, Compare, Expect, Watch}
 use Rattle.tydi_tool.specs.BenchLaw.{WritesBench, WritesTestbench, test_words}
 use Rattle.tydi_tool.specs.CarryLaw.{WritesArrived, carry_words}
 use Rattle.tydi_tool.specs.CompareLaw.{WritesSame, compare_words}
@@ -201,6 +201,8 @@ WritesTrace known (Some (Testbench project test)) out_old out_new = Unit {0}
 WritesTrace known (Some (Vcd project port scope file)) out_old out_new = Unit {0}
 WritesTrace known (Some (Gen project port seed count)) out_old out_new = Unit {0}
 WritesTrace known (Some (Compare project port value trace)) out_old out_new = Unit {0}
+WritesTrace known (Some (Expect project port value)) out_old out_new = Unit {0}
+WritesTrace known (Some (Watch monitor trace)) out_old out_new = Unit {0}
 WritesTrace known (Some (Drive project port value plan)) out_old out_new =
     (text : List ℕ) × (WritesDriven known (drive_words project port value plan) text × Adds out_old out_new text)
 

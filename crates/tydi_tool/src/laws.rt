@@ -20,6 +20,7 @@ ghost use Rattle.tydi_tool.specs.Causes.{
   OtherHeaderCause,
   OutputTooLongCause,
   ParserCause,
+  ReportCause,
   ResolverCause,
   TextCause,
   TooLongCause,
@@ -50,6 +51,7 @@ use port_drive::driven_texts_are_traces;
 use port_gen::jobs_are_carried;
 use trace_compare::{no_differences_where_same, texts_have_one_comparison};
 use trace_decode::texts_have_one_outcome;
+use trace_watch::texts_have_one_watching;
 use value_text::values_are_read_as_printed;
 use vcd_read::{dumps_show_traces, faults_name_streams};
 use vhdl_writer::{checked_nets_carry, each_signal_is_assigned_once, first_clash_is_reported};
@@ -64,6 +66,7 @@ pub fn answers_are_one()
     texts_have_one_outcome();
     faults_name_streams();
     texts_have_one_comparison();
+    texts_have_one_watching();
 }
 
 /// The table of causes: each row's answer comes exactly where its cause stands in the words and the files, and each answer is of a
@@ -90,6 +93,7 @@ pub fn causes_are_told()
     ensures unfinished { ExactlyWhere rows.AnUnfinished UnfinishedCause }
     ensures disagreement { ExactlyWhere rows.ADisagreement DisagreeCause }
     ensures difference { ExactlyWhere rows.ADifference DifferenceCause }
+    ensures report { ExactlyWhere rows.AReport ReportCause }
     ensures text { ExactlyWhere rows.AText TextCause }
     ensures no_test { ExactlyWhere rows.NoTest NoTestCause }
     ensures each { EachIsOfARow }
