@@ -1,6 +1,6 @@
 -- The text of a monitor, in VHDL (the statements are those of IEEE 1076; the few forms of them are this project's own). Names of signals are those
 -- of benches: extended identifiers of the path of the stream, a point and a word.
-use Rattle.std.specs.Prelude.{ℕ, suc, ◌+◌, ◌-◌, max, Bool, true, false, nat_le, if◌then◌else◌, List, [], ◌∷◌, ◌++◌, length, replicate, Option, Some, None, codes, decimal}
+use Rattle.std.specs.Prelude.{ℕ, zero, suc, ◌+◌, ◌-◌, max, Bool, nat_le, if◌then◌else◌, List, [], ◌∷◌, ◌++◌, length, replicate, Option, Some, None, codes, decimal}
 use Rattle.std.specs.List.{flat_map}
 use Rattle.tydi_base.specs.Binary.{binary_of}
 use Rattle.tydi_base.specs.Bits.{bits_of}
@@ -153,7 +153,7 @@ lane_slice head =
 
 -- the word of the element of the lane, as an expression: by the width of an element
 abbrev pub elem_word : Head → ℕ → List ℕ
-elem_word head 0 = codes "\"10000000\""
+elem_word head zero = codes "\"10000000\""
 elem_word head (suc less) = if nat_le 6 (suc less) then codes "\"10\" & " ⁀ lane_slice head else codes "\"10\" & \"" ⁀ zeros (6 - suc less) ⁀ codes "\" & " ⁀ lane_slice head
 
 -- the entry of the table at the place is this word
@@ -183,8 +183,8 @@ need_text head indent test =
     ⁀ line (indent + 2) (fault_name head ⁀ codes " <= '1';") ⁀ line (indent + 2) (codes "wait;") ⁀ line indent (codes "end if;")
 
 -- the lines of statements that are so far to the right
-mutual
-  abbrev pub statement_text : Head → ℕ → Statement → List ℕ
+abbrev mutual
+  pub statement_text : Head → ℕ → Statement → List ℕ
   statement_text head indent (lanes body) = line indent (loop_line (codes "lane") head.params.lanes) ⁀ statements_text head (indent + 2) body ⁀ line indent (codes "end loop;")
   statement_text head indent (dims body) = line indent (loop_line (codes "dim") head.params.dims) ⁀ statements_text head (indent + 2) body ⁀ line indent (codes "end loop;")
   statement_text head indent (if_active body) = line indent (if_line (active_test head)) ⁀ statements_text head (indent + 2) body ⁀ line indent (codes "end if;")
@@ -192,7 +192,7 @@ mutual
   statement_text head indent need_elem = need_text head indent (elem_test head)
   statement_text head indent need_close = need_text head indent (close_test head)
 
-  abbrev pub statements_text : Head → ℕ → Statements → List ℕ
+  pub statements_text : Head → ℕ → Statements → List ℕ
   statements_text head indent no_statements = []
   statements_text head indent (statement first more) = statement_text head indent first ⁀ statements_text head indent more
 

@@ -19,9 +19,16 @@ pub record Around : Type 0 where
   pub in_dims : Bool
   pub room : ℕ
 
--- what stands around the statements of a list inside
-abbrev pub inside : Around → Around
-inside around = record { in_lanes = around.in_lanes; in_dims = around.in_dims; room = around.room - 1 }
+-- what stands around the statements of a test
+abbrev pub in_test : Around → Around
+in_test around = record { in_lanes = around.in_lanes; in_dims = around.in_dims; room = around.room - 1 }
+
+-- what stands around the statements of a loop over lanes, and of one over dimensions
+abbrev pub in_lane_loop : Around → Around
+in_lane_loop around = record { in_lanes = true; in_dims = around.in_dims; room = around.room - 1 }
+
+abbrev pub in_dim_loop : Around → Around
+in_dim_loop around = record { in_lanes = around.in_lanes; in_dims = true; room = around.room - 1 }
 
 -- what stands around the statements of a process: no loop. Its own list and seven more may stand in one another.
 abbrev pub around_process : Around
@@ -32,22 +39,22 @@ abbrev pub IsSome : Statements → Type 0
 IsSome no_statements = ⊥
 IsSome (statement first more) = Unit {0}
 
--- statements that a process of a stream of so many dimensions may have with this around them. Lists inside are not empty, a loop stands in none of
--- its own kind, a test stands in the loops that it asks about, and so does a need.
-mutual
-  abbrev pub IsStatement : ℕ → Around → Statement → Type 0
-  IsStatement count around (lanes body) = (around.in_lanes ≡ false) × IsInside count (record { in_lanes = true; in_dims = around.in_dims; room = around.room }) body
-  IsStatement count around (dims body) = (around.in_dims ≡ false) × ((1 ≤ count) × IsInside count (record { in_lanes = around.in_lanes; in_dims = true; room = around.room }) body)
-  IsStatement count around (if_active body) = (around.in_lanes ≡ true) × IsInside count around body
-  IsStatement count around (if_last body) = (around.in_lanes ≡ true) × ((around.in_dims ≡ true) × IsInside count around body)
+-- a list inside a statement: there is room for it, it is not empty, and its statements may stand there
+abbrev pub IsInside : Around → Statements → Type 0 → Type 0
+IsInside around body are_statements = (1 ≤ around.room) × (IsSome body × are_statements)
+
+-- statements that a process of a stream of so many dimensions may have with this around them. A loop stands in none of its own kind, a test stands in
+-- the loops that it asks about, and so does a need.
+abbrev mutual
+  pub IsStatement : ℕ → Around → Statement → Type 0
+  IsStatement count around (lanes body) = (around.in_lanes ≡ false) × IsInside around body (AreStatements count (in_lane_loop around) body)
+  IsStatement count around (dims body) = (around.in_dims ≡ false) × ((1 ≤ count) × IsInside around body (AreStatements count (in_dim_loop around) body))
+  IsStatement count around (if_active body) = (around.in_lanes ≡ true) × IsInside around body (AreStatements count (in_test around) body)
+  IsStatement count around (if_last body) = (around.in_lanes ≡ true) × ((around.in_dims ≡ true) × IsInside around body (AreStatements count (in_test around) body))
   IsStatement count around need_elem = around.in_lanes ≡ true
   IsStatement count around need_close = around.in_dims ≡ true
 
-  -- the list of a statement with this around the statement
-  abbrev pub IsInside : ℕ → Around → Statements → Type 0
-  IsInside count around body = (1 ≤ around.room) × (IsSome body × AreStatements count (inside around) body)
-
-  abbrev pub AreStatements : ℕ → Around → Statements → Type 0
+  pub AreStatements : ℕ → Around → Statements → Type 0
   AreStatements count around no_statements = Unit {0}
   AreStatements count around (statement first more) = IsStatement count around first × AreStatements count around more
 

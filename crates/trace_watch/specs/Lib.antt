@@ -1,0 +1,4 @@
+pub mod Watched
+pub mod Standing
+pub mod Texts
+pub mod Laws
