@@ -74,7 +74,7 @@ item_digits p (items.Close dim) = codes "01" ⁀ zeros (item_width p - 6) ⁀ bi
 
 -- the digits of the end of a table
 abbrev pub end_digits : Parameters → List ℕ
-end_digits p = zeros (suc (suc (item_width p)))
+end_digits p = zeros (item_width p + 2)
 
 -- the front of the line of the entry of this number
 abbrev pub entry_front : ℕ → List ℕ
@@ -95,7 +95,7 @@ end_line p number = entry_front number ⁀ end_digits p ⁀ codes "\""
 
 -- the line of the type of a table whose end has this number
 abbrev pub type_line : Head → ℕ → List ℕ
-type_line head last = codes "  type " ⁀ items_name head ⁀ codes " is array (0 to " ⁀ decimal last ⁀ codes ") of std_logic_vector(" ⁀ decimal (suc (item_width head.params)) ⁀ codes " downto 0);"
+type_line head last = codes "  type " ⁀ items_name head ⁀ codes " is array (0 to " ⁀ decimal last ⁀ codes ") of std_logic_vector(" ⁀ decimal (item_width head.params + 1) ⁀ codes " downto 0);"
 
 -- the line before the entries of a table
 abbrev pub table_line : Head → List ℕ
