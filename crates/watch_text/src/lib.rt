@@ -5,8 +5,24 @@
 //! benches. What a monitor means is said in `monitor_bench`.
 #![tactic(auto)]
 
+mod begun;
+mod entry;
 mod fault;
+mod forms;
+mod line_parts;
+mod nest;
+mod opening;
+mod reading;
+mod reading_laws;
+mod shape;
+mod shaping;
+mod so_far;
+mod stage;
+mod statement_reading;
+mod table_reading;
 mod watch;
 
 pub use fault::WatchFault;
+pub use reading::read_watch;
+pub use reading_laws::monitors_are_read_as_printed;
 pub use watch::{WStmt, Watch};
