@@ -1,5 +1,5 @@
 -- The laws of `expect` and of `watch` (this project's own): what the monitor of a value says of a trace, by the items that are done alone.
-use Rattle.std.specs.Prelude.{◌≡◌, ℕ, ◌<◌, ◌≤◌, ◌⊎◌, ◌↔◌, List, length, map, slice_get, Option, Some, None, Ok}
+use Rattle.std.specs.Prelude.{◌≡◌, ℕ, ◌<◌, ◌≤◌, ◌⊎◌, ◌↔◌, List, length, map, slice_get, Some, None, Ok}
 use Rattle.tydi_io.specs.Store.{Files}
 use Rattle.physical_stream.specs.Cycles.{StreamTrace, items_done}
 use Rattle.physical_stream.specs.declared.item.Item.{Item}
@@ -16,7 +16,7 @@ use Rattle.watch_text.specs.Reading.{watch_of}
 use Rattle.watch_text.specs.Statements.{PlainWatch}
 use Rattle.tydi_tool.specs.declared.answer.Answer.{Answer}
 use Rattle.tydi_tool.specs.declared.answer.Answer.TheVariants as answers
-use Rattle.tydi_tool.specs.Causes.{HasCarried, HasDecode, HasValue, HasWatch, IsQuietText, ValueWords, WatchWords}
+use Rattle.tydi_tool.specs.Causes.{HasCarried, HasDecode, HasMonitor, HasValue, HasWatch, IsQuietText, ValueWords, WatchWords}
 use Rattle.tydi_tool.specs.Commands.{Says}
 use Rattle.tydi_tool.specs.Comparisons.{items_of_value}
 use Rattle.tydi_tool.specs.CompareLaw.{ShowsValue}
@@ -80,7 +80,7 @@ seen_lines split value = watched_lines (monitor_for split value) (all_seen (item
 -- where a monitor expects the items of a value, and a trace shows the value, the answer is that all is seen, and no other
 abbrev pub ShownValuesAreSeen : Type 0
 ShownValuesAreSeen = (known : Files) (monitor trace : List ℕ) (split : PlainSplit) (value : PortValue) (t : TraceText)
-    → HasWatch known (watch_words monitor trace) (monitor_for split value) t → ShowsValue split value t → length (expected_text split value) ≤ 67108864
+    → HasWatch known (watch_words monitor trace) (monitor_for split value) t → ShowsValue split value t
     → (a : Answer) → Says (Some known) (Some (Watch monitor trace)) a ↔ (a ≡ answers.Done (seen_lines split value))
 
 -- some stream reports an edge, or has seen fewer items than are expected of it
@@ -118,9 +118,10 @@ DrivenTracesAreSeen = (known after : Files) (project port value plan monitor tra
 
 -- ---- `expect`, `decode` and `watch`
 
--- where a file holds what `expect` wrote for a value, and `decode` reads a trace as another value, some stream reports or has seen fewer items
+-- where one file holds the text that `expect` writes for a value, and `decode` reads the trace of another as another value, some stream reports or has
+-- seen fewer items
 abbrev pub OtherValuesAreTold : Type 0
-OtherValuesAreTold = (known : Files) (project port trace monitor : List ℕ) (split : PlainSplit) (value : PortValue) (t : TraceText) (other : List (List Tree))
-    → HasDecode known (decode_words project port trace) split t → CarriesAlone split other t → (plain_port value ≡ other → ⊥)
-    → known monitor ≡ Some (expected_text split value) → length (expected_text split value) ≤ 67108864 → HasValue known split word value
+OtherValuesAreTold = (known : Files) (project port word trace monitor : List ℕ) (split : PlainSplit) (value : PortValue) (t : TraceText) (other : List (List Tree))
+    → HasDecode known (decode_words project port trace) split t → CarriesAlone split other t → HasValue known split word value → (plain_port value ≡ other → ⊥)
+    → HasMonitor known monitor (monitor_for split value)
     → (a : Answer) → Says (Some known) (Some (Watch monitor trace)) a → TellsLess split value a
