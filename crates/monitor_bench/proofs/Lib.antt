@@ -1,2 +1,4 @@
+mod EdgeLemmas
 pub mod PlainLemmas
+mod ProcessLemmas
 mod RunLemmas
