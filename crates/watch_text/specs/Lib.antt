@@ -3,3 +3,5 @@ pub mod WellFormed
 pub mod Text
 pub mod Reading
 pub mod Progress
+pub mod Pieces
+pub mod Lengths

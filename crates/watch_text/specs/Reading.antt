@@ -78,8 +78,8 @@ word_in front width text = option_and_then (binary_word_at width) (option_and_th
 
 -- the end of a sequence whose dimension is in range
 abbrev pub close_in : ℕ → Option (List Bool) → Option Entry
-close_in dims None = None
-close_in dims (Some bits) = if nat_lt (number_of_bits bits) dims then Some (entries.Item (items.Close (number_of_bits bits))) else None
+close_in count None = None
+close_in count (Some bits) = if nat_lt (number_of_bits bits) count then Some (entries.Item (items.Close (number_of_bits bits))) else None
 
 -- an element, or else the end of a sequence
 abbrev pub elem_or : Option (List Bool) → Option Entry → Option Entry

@@ -134,12 +134,22 @@ joined (first ∷ more) = first ⁀ flat_map (λ test. codes " and " ⁀ test) m
 abbrev pub where_has : Bool → List ℕ → List (List ℕ)
 where_has has test = if has then test ∷ [] else []
 
--- a lane is active: it stands between stai and endi, and its strobe bit is 1, as far as the stream has these signals
+-- the lane is not below the first one that may be active
+abbrev pub stai_test : Head → List ℕ
+stai_test head = codes "to_integer(unsigned(" ⁀ name_text head signals.Stai ⁀ codes ")) <= lane"
+
+-- nor above the last one
+abbrev pub endi_test : Head → List ℕ
+endi_test head = codes "lane <= to_integer(unsigned(" ⁀ name_text head signals.Endi ⁀ codes "))"
+
+-- the strobe bit of the lane is 1
+abbrev pub strb_test : Head → List ℕ
+strb_test head = name_text head signals.Strb ⁀ codes "(lane) = '1'"
+
+-- a lane is active, as far as the stream has these signals
 abbrev pub active_test : Head → List ℕ
 active_test head = joined
-    (where_has (has_stai head.params) (codes "to_integer(unsigned(" ⁀ name_text head signals.Stai ⁀ codes ")) <= lane")
-    ++ where_has (has_endi head.params) (codes "lane <= to_integer(unsigned(" ⁀ name_text head signals.Endi ⁀ codes "))")
-    ++ where_has (has_strb head.params) (name_text head signals.Strb ⁀ codes "(lane) = '1'"))
+    (where_has (has_stai head.params) (stai_test head) ++ where_has (has_endi head.params) (endi_test head) ++ where_has (has_strb head.params) (strb_test head))
 
 -- the last bit of the lane and the dimension is 1
 abbrev pub last_test : Head → List ℕ
@@ -176,11 +186,15 @@ loop_line variable count = codes "for " ⁀ variable ⁀ codes " in 0 to " ⁀ d
 abbrev pub if_line : List ℕ → List ℕ
 if_line test = codes "if " ⁀ test ⁀ codes " then"
 
+-- the line that raises the fault
+abbrev pub fault_line : Head → List ℕ
+fault_line head = fault_name head ⁀ codes " <= '1';"
+
 -- the lines of a need: the place goes on where its test holds, else the fault is raised, for good
 abbrev pub need_text : Head → ℕ → List ℕ → List ℕ
 need_text head indent test =
     line indent (if_line test) ⁀ line (indent + 2) (codes "place := place + 1;") ⁀ line indent (codes "else")
-    ⁀ line (indent + 2) (fault_name head ⁀ codes " <= '1';") ⁀ line (indent + 2) (codes "wait;") ⁀ line indent (codes "end if;")
+    ⁀ line (indent + 2) (fault_line head) ⁀ line (indent + 2) (codes "wait;") ⁀ line indent (codes "end if;")
 
 -- the lines of statements that are so far to the right
 abbrev mutual

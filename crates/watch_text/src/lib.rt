@@ -6,12 +6,20 @@
 #![tactic(auto)]
 
 mod begun;
+mod conditions;
+mod entity;
 mod entry;
 mod fault;
 mod forms;
+mod items;
+mod laws;
 mod line_parts;
+mod marks;
 mod nest;
 mod opening;
+mod pieces;
+mod printing;
+mod processes;
 mod reading;
 mod reading_laws;
 mod shape;
@@ -19,10 +27,15 @@ mod shaping;
 mod so_far;
 mod stage;
 mod statement_reading;
+mod statements;
 mod table_reading;
+mod tables;
 mod watch;
 
 pub use fault::WatchFault;
+pub use laws::tables_are_shorter_than_their_text;
+pub use pieces::WatchPieces;
+pub use printing::{print_watch, watch_length};
 pub use reading::read_watch;
 pub use reading_laws::monitors_are_read_as_printed;
 pub use watch::{WStmt, Watch};

@@ -1,4 +1,3 @@
-
 /// What stands around statements.
 #[derive(Clone, Copy)]
 pub(crate) struct Nest {

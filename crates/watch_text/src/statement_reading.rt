@@ -37,10 +37,8 @@ impl Nest {
         match opening {
             Opening::Lanes => self.with(true, self.in_dims),
             Opening::Dims => self.with(self.in_lanes, true),
-            Opening::IfActive
-            | Opening::IfLast
-            | Opening::NeedElem
-            | Opening::NeedClose => self.with(self.in_lanes, self.in_dims),
+            Opening::IfActive | Opening::IfLast | Opening::NeedElem | Opening::NeedClose =>
+                self.with(self.in_lanes, self.in_dims),
         }
     }
 
@@ -159,13 +157,7 @@ impl SoFar {
     }
 
     /// Goes on to another stage where the line is this text, so far to the right.
-    fn pass(
-        &mut self,
-        line: &[u8],
-        indent: usize,
-        wanted: &[u8],
-        next: Stage,
-    ) -> Result<(), Fault>
+    fn pass(&mut self, line: &[u8], indent: usize, wanted: &[u8], next: Stage) -> Result<(), Fault>
         ensures { Gives refusal_in (λ _. progress_of self.new) result (spec.where_line (spec.at indent wanted.now) line.now (spec.then_comes (progress_of self.old) next)) }
     {
         if !is_at(line, indent, wanted) {
@@ -256,10 +248,10 @@ impl SoFar {
     /// Ends a statement with these statements before it.
     fn go_back(&mut self, inner: Begun) -> Result<(), Memory>
         ensures { OnOk result (progress_of self.new ≡ record {
-            stage = stages.Free;
-            around = around_of inner.nest;
-            earlier = map plain inner.stmts ++ spec.made inner.opening (statements_of (map plain self.old.stmts)) ∷ [];
-            begun = all_begun self.old.begun;
+          stage = stages.Free;
+          around = around_of inner.nest;
+          earlier = map plain inner.stmts ++ spec.made inner.opening (statements_of (map plain self.old.stmts)) ∷ [];
+          begun = all_begun self.old.begun;
         }) }
     {
         let body = mem::replace(&mut self.stmts, inner.stmts);

@@ -1,6 +1,6 @@
 //! The tables of a monitor, read line by line.
 
-ghost use Rattle.std.specs.Prelude.{◌≡◌, [], IfOk, None, Some, decimal, option_map};
+ghost use Rattle.std.specs.Prelude.{◌≡◌, [], IfOk, None, Some, if◌then◌else◌, option_map};
 ghost use Rattle.std.specs.Char.{is_ascii_digit};
 ghost use Rattle.std.specs.List.{list_all};
 ghost use Rattle.tydi_base.specs.Decimal as decimals;
@@ -44,7 +44,11 @@ fn table_of(alloc: Global, shape: &Shape, lines: &mut Lines<'_>) -> Result<List<
     let Some(line) = lines.first() else {
         return Err(Fault::Refused);
     };
-    let Some(last) = last_of(shape.type_front.as_slice(), shape.type_back.as_slice(), line) else {
+    let Some(last) = last_of(
+        shape.type_front.as_slice(),
+        shape.type_back.as_slice(),
+        line,
+    ) else {
         return Err(Fault::Refused);
     };
     lines.skip();
@@ -192,12 +196,7 @@ fn item_of(alloc: Global, shape: &Shape, text: &[u8]) -> Result<Option<Entry>, M
 
 /// A word of so many digits, behind one text and before the end of an item's line.
 #[tactic(auto, unfolding(crate::specs::Reading::word_in))]
-fn word_in(
-    alloc: Global,
-    front: &[u8],
-    width: usize,
-    text: &[u8],
-) -> Result<Option<Bits>, Memory>
+fn word_in(alloc: Global, front: &[u8], width: usize, text: &[u8]) -> Result<Option<Bits>, Memory>
     ensures { IfOk result (λ found. found ≡ spec.word_in front.now width text.now) }
 {
     let Some(rest) = without_front(front, text) else {
@@ -213,10 +212,18 @@ fn word_in(
 fn close_in(dims: u8, bits: Option<Bits>) -> Option<Entry>
     ensures { result ≡ spec.close_in dims bits }
 {
-    let number = bits?.number()?;
-    if number < u128::from(dims) {
-        Some(Entry::Item(Item::Close(number as u8)))
-    } else {
-        None
+    match bits {
+        Some(bits) => close_of(dims, &bits),
+        None => None,
+    }
+}
+
+/// The end of a sequence, where the dimension that these bits spell is in range.
+fn close_of(dims: u8, bits: &Bits) -> Option<Entry>
+    ensures { result ≡ spec.close_in dims (Some bits.now) }
+{
+    match bits.number() {
+        Some(number) if number < u128::from(dims) => Some(Entry::Item(Item::Close(number as u8))),
+        _ => None,
     }
 }
