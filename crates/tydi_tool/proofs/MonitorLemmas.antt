@@ -1,6 +1,6 @@
 -- The monitor of a port for a value is well formed, and the lines that say that all is seen are shorter than its text.
 use Rattle.std.proofs.Common.{◌≡◌, ◌∙◌, ◌≢◌, ℕ, zero, suc, ◌+◌, ◌*◌, ◌-◌, ◌^◌, ◌<◌, ◌≤◌, Bool, true, false, not, ◌&&◌, nat_le, List, [], ◌∷◌, ◌++◌, length, map, Option, Some, None, get_or, slice_get, codes, decimal, refl, sym, ap, subst, arith}
-use Rattle.std.specs.List.{All, list_any}
+use Rattle.std.specs.List.{All, list_any, slice_index_or}
 use Rattle.std.specs.Option.{option_map}
 use Rattle.std.specs.Str.{bytes_eq}
 use Rattle.std.proofs.lemmas.Bool.Decides.{nat_tests}
@@ -28,13 +28,13 @@ use Rattle.port_drive.proofs.DriveLemmas.{items-so}
 use Rattle.port_drive.proofs.HeadLemmas.{heads-together}
 use Rattle.port_drive.proofs.RunLemmas.{are-items-on}
 use Rattle.scheduler.specs.Laws.{AreItems}
-use Rattle.testbench.proofs.PieceLemmas.{index-there}
 use Rattle.trace_decode.proofs.RowLemmas.{same_some}
 use Rattle.trace_watch.specs.declared.watched.StreamWatched.{StreamWatched}
 use Rattle.type_split.specs.Streams.{IsPortSplit, PlainSplit}
 use Rattle.type_split.specs.declared.split.Phys.{Phys}
 use Rattle.vhdl_text.specs.WellFormed.{AreApart, AreHeads}
 use Rattle.watch_text.specs.Statements.{PlainWatch, Statements}
+use Rattle.value_views.specs.Series.{series_of_nodes}
 use Rattle.value_views.specs.Views.{Carries, EachPair, SpellsNode}
 use Rattle.watch_text.specs.Text.{back_text, end_digits, end_line, entry_front, front_text, item_line, item_lines, item_width, items_name, table_back, table_front, table_line, table_text, tables_text, type_line, watch_text}
 use Rattle.watch_text.specs.WellFormed.{AreStatements, IsItemOf, IsStream, IsWellFormed, around_process}
@@ -54,6 +54,11 @@ both-true false b is = cc
 no_element : {A : Type 0} (k : ℕ) (x : A) → ◌≡◌ {A = Option A} (slice_get [] k) (Some x) → ⊥
 no_element zero x is = cc
 no_element (suc k) x is = cc
+
+index-there : {A : Type 0} (xs : List A) (i : ℕ) (d : A) → i < length xs → slice_get xs i ≡ Some (slice_index_or xs i d)
+index-there [] i d within = absurd (omega (arith, within))
+index-there (x ∷ xs) zero d within = refl
+index-there (x ∷ xs) (suc i) d within = index-there xs i d (omega (arith, within))
 
 abbrev texts : List Head → List (List ℕ)
 texts heads = map (λ (head : Head). path_text head.path) heads

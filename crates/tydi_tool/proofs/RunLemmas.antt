@@ -16,7 +16,7 @@ use Rattle.tydi_tool.specs.Ask.{AsksFor, AsksSome, Decides, Ends}
 use Rattle.tydi_tool.specs.Commands.{ask_of, Says, compared_ask, dump_ask, expected_ask, outcome_ask, planned_ask, valued_ask}
 use Rattle.tydi_tool.specs.Started.{IsPulledOut, IsGivenOne, NamesStarted, StartsWithin, Leaves}
 use Rattle.tydi_tool.specs.Run.{Runs, AnswersCauses, EndsAsked, EndsUnasked, EndsInAnswer, EndsWith, IsAnswered, IsComplete, IsCaused, ReportsRead, OutFront, OutPart, IsRefusal}
-use Rattle.tydi_tool.specs.Run.{IsLine, ErrFront, LeavesOut, LeavesErr, StartedAtEnd, UsageExactly, WritesReadBack, WritesTrace, WritesValue, WritesCarried, WritesWired, WritesLines, WritesCompared, WritesSampled, WritesJob}
+use Rattle.tydi_tool.specs.Run.{IsLine, ErrFront, LeavesOut, LeavesErr, StartedAtEnd, UsageExactly, WritesReadBack, WritesTrace, WritesValue, WritesCarried, WritesWired, WritesLines, WritesCompared, WritesExpected, WritesSampled, WritesWatched, WritesJob}
 use Rattle.tydi_tool.proofs.CauseLemmas.{exactly, told}
 use Rattle.tydi_tool.proofs.CauseLines.{one_word}
 use Rattle.tydi_tool.proofs.DecodeLemmas.{outcome-for}
@@ -32,7 +32,9 @@ use Rattle.tydi_tool.specs.Jobs.{TellsJob}
 use Rattle.tydi_tool.specs.DriveLaw.{WritesDriven, drive_words}
 use Rattle.tydi_tool.specs.DumpLaw.{WritesShown, WrittenDumpsAreShown, dump_words}
 use Rattle.tydi_tool.specs.WiringLaw.{WritesDesign, WrittenDesignsAreWired}
+use Rattle.tydi_tool.specs.Causes.{IsQuietText}
 use Rattle.tydi_tool.specs.CompareLaw.{SameTracesShowValues, WritesSame, compare_words}
+use Rattle.tydi_tool.specs.WatchLaw.{WritesMonitor, WrittenLinesAreQuiet, WrittenMonitorsReport, expect_words, watch_words}
 use Rattle.tydi_tool.proofs.CommandLemmas.{SaysBy-request}
 use Rattle.tydi_tool.proofs.AskLemmas.{SaysBy-decided}
 use Rattle.tydi_tool.proofs.DeliveryLemmas.{AddsFront-all, AddsFront-part, AddsPart-some}
@@ -493,6 +495,24 @@ WritesCompared-answered same (Some known) (Some (Compare project port value trac
     written_text (Compare project port value trace) known (WritesSame known (compare_words project port value trace)) (λ text says. same known project port value trace text says)
     status out_old out_new err_old err_new a done
 WritesCompared-answered same (Some known) request status out_old out_new err_old err_new a done = tt
+
+-- where a monitor is made, out has its text
+pub WritesExpected-answered : WrittenMonitorsReport → (files : Option Files) (request : Option Request) (status : Status) (out_old out_new err_old err_new : Option (List ℕ)) →
+    IsAnswered files request status out_old out_new err_old err_new → status ≡ statuses.Done → IfSome files (λ known. WritesExpected known request out_old out_new)
+WritesExpected-answered written None request status out_old out_new err_old err_new a done = tt
+WritesExpected-answered written (Some known) (Some (Expect project port value)) status out_old out_new err_old err_new a done =
+    written_text (Expect project port value) known (WritesMonitor known (expect_words project port value)) (λ text says. (written known project port value text says).1)
+    status out_old out_new err_old err_new a done
+WritesExpected-answered written (Some known) request status out_old out_new err_old err_new a done = tt
+
+-- where a monitor runs and no process reports, out has the lines of what each stream has seen
+pub WritesWatched-answered : WrittenLinesAreQuiet → (files : Option Files) (request : Option Request) (status : Status) (out_old out_new err_old err_new : Option (List ℕ)) →
+    IsAnswered files request status out_old out_new err_old err_new → status ≡ statuses.Done → IfSome files (λ known. WritesWatched known request out_old out_new)
+WritesWatched-answered quiet None request status out_old out_new err_old err_new a done = tt
+WritesWatched-answered quiet (Some known) (Some (Watch monitor trace)) status out_old out_new err_old err_new a done =
+    written_text (Watch monitor trace) known (IsQuietText known (watch_words monitor trace)) (λ text says. quiet known monitor trace text says)
+    status out_old out_new err_old err_new a done
+WritesWatched-answered quiet (Some known) request status out_old out_new err_old err_new a done = tt
 
 -- where a dump is sampled, out has the text of the trace that it shows
 pub WritesSampled-answered : WrittenDumpsAreShown → (files : Option Files) (request : Option Request) (status : Status)

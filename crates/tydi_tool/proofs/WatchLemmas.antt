@@ -1,26 +1,31 @@
 -- The text of a monitor is read in one way, and always; and so is the text of a trace beside it. What is said of the streams has a line for each.
 use Rattle.std.proofs.Common.{◌≡◌, ◌∙◌, ℕ, suc, ◌+◌, ◌<◌, ◌≤◌, ◌^◌, ◌-◌, inl, inr, List, [], ◌∷◌, ◌++◌, length, drop, Option, Some, None, Result, Ok, Err, IfOk, refl, sym, ap, subst, arith, slice_get, add-one, append_assoc}
 use Rattle.std.specs.Prelude.{MatchOption}
+use Rattle.std.specs.List.{All}
 use Rattle.std.proofs.lemmas.List.{append-nil}
-use Rattle.tydi_base.proofs.PlaceLemmas.{slice_get-there}
+use Rattle.std.proofs.lemmas.List.Elements.{All-cons, All-head, All-nil, All-tail}
 use Rattle.tydi_io.specs.Store.{Files}
 use Rattle.handshake.proofs.CursorLemmas.{drop-is}
 use Rattle.cycle_trace.specs.Trace.{TraceText, streams_of}
 use Rattle.cycle_trace.specs.TraceText.{trace_of}
 use Rattle.cycle_trace.specs.declared.fault.TraceFault.{TraceFault}
 use Rattle.cycle_trace.specs.declared.fault.TraceFault.TheVariants as reading
+use Rattle.cycle_trace.proofs.StreamLemmas.{length-streams}
 use Rattle.cycle_trace.proofs.TraceFaults.{trace_free}
-use Rattle.trace_decode.specs.Outcome.{DifferFirst}
+use Rattle.physical_stream.specs.declared.item.Item.{Item}
+use Rattle.monitor_bench.specs.Meaning.{processes_of}
+use Rattle.monitor_bench.specs.Standing.{CanWatch}
 use Rattle.trace_decode.proofs.LawLemmas.{not_other, one_place}
 use Rattle.trace_decode.proofs.SomeLemmas.{differ_or_same}
-use Rattle.physical_stream.specs.declared.head.Head.{Head}
 use Rattle.trace_watch.specs.Texts.{IsFed, IsWatchedText, IsWatchingOf, Misspelled, OtherHeader, Watched, Watching, watch_of_watcher}
-use Rattle.trace_watch.specs.Watched.{watched_by_each, watched_of}
+use Rattle.trace_watch.specs.Watched.{watched_of}
 use Rattle.trace_watch.specs.declared.fault.WatchTraceFault.TheVariants as faults
 use Rattle.trace_watch.specs.declared.watched.StreamWatched.{StreamWatched}
-use Rattle.watch_text.specs.Reading.{watch_of}
+use Rattle.watch_text.specs.Lengths.{TablesAreShorterThanTheirText}
+use Rattle.watch_text.specs.Reading.{MonitorsArePrintedAsRead, watch_of}
 use Rattle.watch_text.specs.Reading as watches
 use Rattle.watch_text.specs.Statements.{PlainWatch, plain_watch}
+use Rattle.watch_text.specs.Text.{watch_text}
 use Rattle.watch_text.specs.declared.fault.WatchFault.{WatchFault}
 use Rattle.watch_text.specs.declared.fault.WatchFault.TheVariants as watching
 use Rattle.watch_text.specs.declared.watch.Watch.{Watch}
@@ -33,14 +38,18 @@ use Rattle.tydi_tool.specs.declared.watch_file.Seeing.TheVariants as findings
 use Rattle.tydi_tool.specs.declared.watch_file.WatchFile.{WatchFile}
 use Rattle.tydi_tool.specs.Ask.{IsAsked}
 use Rattle.tydi_tool.specs.Commands.{watched_ask}
+use Rattle.tydi_tool.specs.Files.{IsFound}
 use Rattle.tydi_tool.specs.Laws.{AsksAlways, AsksOnce, HasSome, ReadsOnce}
 use Rattle.tydi_tool.specs.Reading.{IsRefusedBy, ReadsAs, ReadsResult, RefusesBy, Seen}
 use Rattle.tydi_tool.specs.Refusals.{Refusal, refusal_line, refusal_of_trace, refusal_of_watch}
 use Rattle.tydi_tool.specs.Reports.{path_of_stream}
 use Rattle.tydi_tool.specs.Watches.{IsFedSome, IsNewUnder, IsOfEach, ReadsBeside, ReadsWatch, ReadsWatching, TellsWatching, count_of, lines_from, watched_line, watches_after, watching_in}
-use Rattle.tydi_tool.specs.Words.{FileWord}
+use Rattle.tydi_tool.specs.Words.{FileWord, monitor_file}
 use Rattle.tydi_tool.proofs.AnswerLemmas.{RefusesBy-line, not_read}
 use Rattle.tydi_tool.proofs.BenchLemmas.{result-apart, result-lines, result-read, result-same, result-some}
+use Rattle.tydi_tool.proofs.CauseSteps.{found_bytes}
+use Rattle.tydi_tool.proofs.MonitorFaults.{watches_free}
+use Rattle.tydi_tool.proofs.SeenLemmas.{many-processes, many-watched}
 use Rattle.tydi_tool.proofs.SomeLemmas.{RefusesBy-trace}
 use Rattle.tydi_tool.proofs.TextLemmas.{refused-as}
 
@@ -225,14 +234,38 @@ asked-watcher watch word reader told file old new rose (Err reply) is (inr d) =
 
 -- ---- one for each stream
 
-each-watched : (watch : PlainWatch) (t : TraceText) (found : Watching) → IsWatchingOf watch t found → IsOfEach (length watch.heads) found
-each-watched watch t (Misspelled fault) is = tt
-each-watched watch t (OtherHeader place) is = tt
-each-watched watch t (Watched watched) is = ?
+each-watched : (watch : PlainWatch) → CanWatch watch → (t : TraceText) (found : Watching) → IsWatchingOf watch t found → IsOfEach (length watch.heads) found
+each-watched watch can t (Misspelled fault) is = tt
+each-watched watch can t (OtherHeader place) is = tt
+each-watched watch can t (Watched watched) is =
+    let streams : length (streams_of t) ≡ length watch.heads = length-streams t 0 t.heads ∙ ap length is.0 in
+    let processes = many-processes watch.heads watch.want watch.procs can.tables can.processes in
+    ap length is.1 ∙ many-watched (processes_of watch) (streams_of t) (processes ∙ sym streams) ∙ streams
 
-pub each-read : (watch : PlainWatch) (word bytes : List ℕ) (found : Watching) → ReadsWatching watch word bytes (Ok found) → IsOfEach (length watch.heads) found
-each-read watch word bytes found reads = by (trace_of bytes) reads
+pub each-read : (watch : PlainWatch) → CanWatch watch → (word bytes : List ℕ) (found : Watching) → ReadsWatching watch word bytes (Ok found) → IsOfEach (length watch.heads) found
+each-read watch can word bytes found reads = by (trace_of bytes) reads
   where
     by : (read : Result TraceText TraceFault) → ReadsBeside watch word read (Ok found) → IsOfEach (length watch.heads) found
-    by (Ok t) is = each-watched watch t found is
+    by (Ok t) is = each-watched watch can t found is
     by (Err fault) refused = absurd (not_read (refusal_of_trace word fault) found refused)
+
+-- ---- a monitor that is read can run
+
+few-all : (n : ℕ) (wants : List (List Item)) → n ≤ 67108864 → All (λ (want : List Item). length want < n) wants → All (λ (want : List Item). length want < 2 ^ 32 - 1) wants
+few-all n [] most all = All-nil (λ (want : List Item). length want < 2 ^ 32 - 1)
+few-all n (want ∷ wants) most all =
+    let first = All-head (λ (w : List Item). length w < n) want wants all in
+    All-cons (λ (w : List Item). length w < 2 ^ 32 - 1) want wants (omega (arith, most, first)) (few-all n wants most (All-tail (λ (w : List Item). length w < n) want wants all))
+
+found-within : (told : Option Files) (word bytes : List ℕ) → IsFound told (monitor_file word) (Ok bytes) → length bytes ≤ 67108864
+found-within None word bytes found = found
+found-within (Some known) word bytes found = (found_bytes 67108864 (known word) bytes found).1
+
+pub asked-monitor : MonitorsArePrintedAsRead → TablesAreShorterThanTheirText → (told : Option Files) (word : List ℕ) (old new : Option (List ℕ × ℕ)) (rose : Type 0) (result : Result Watch Reply)
+    → IsAsked told (monitor_file word) (λ bytes. Seen plain_watch (ReadsWatch word bytes)) old new rose result → IfOk result (λ read. CanWatch (plain_watch read))
+asked-monitor printed shorter told word old new rose (Err reply) asked = tt
+asked-monitor printed shorter told word old new rose (Ok read) asked =
+    let watch = plain_watch read in
+    let is = printed asked.0 watch (watch-read word asked.0 watch asked.1.1.0) in
+    let within : length (watch_text watch) ≤ 67108864 = subst (λ (l : List ℕ). length l ≤ 67108864) is.1 (found-within told word asked.0 asked.1.0) in
+    record { tables = is.0.tables; processes = is.0.processes; few = few-all (length (watch_text watch)) watch.want within (shorter watch is.0) }
