@@ -59,14 +59,14 @@ $ compare p n::s.p v t
 < 1 1 d=02 l=1 b=1
 > same
 = 0 failing 4 2
-# expect, whose pushes are those of the front, the table, the begin of the architecture, the process and its end
+# expect, whose five pieces have 387, 132, 6, 444 and 18 bytes
 $ expect p n::s.p v
-~ namespace n { streamlet s = (p: in Stream(data: Bits(2), complexity: 1)); }
+~ namespace n { streamlet s = (p: in Stream(data: Bits(8), complexity: 1)); }
 @ p
-~ root - = 2;
+~ root - = ;
 @ v
 > -- tydi-watch 1
-> -- stream - lanes 1 dims 0 level 1 element 2 user 0 forward
+> -- stream - lanes 1 dims 0 level 1 element 8 user 0 forward
 > library ieee;
 > use ieee.std_logic_1164.all;
 > use ieee.numeric_std.all;
@@ -75,15 +75,14 @@ $ expect p n::s.p v
 >     clk : in std_logic;
 >     \\-.ready\\ : in std_logic;
 >     \\-.valid\\ : in std_logic;
->     \\-.data\\ : in std_logic_vector(1 downto 0);
+>     \\-.data\\ : in std_logic_vector(7 downto 0);
 >     \\-.fault\\ : out std_logic := '0'
 >   );
 > end entity;
 > architecture check of watch is
->   type \\-.items\\ is array (0 to 1) of std_logic_vector(7 downto 0);
+>   type \\-.items\\ is array (0 to 0) of std_logic_vector(9 downto 0);
 >   constant \\-.want\\ : \\-.items\\ := (
->     0 => \"10000010\",
->     1 => \"00000000\"
+>     0 => \"0000000000\"
 >   );
 > begin
 >   process
@@ -93,7 +92,7 @@ $ expect p n::s.p v
 >       wait until rising_edge(clk) and \\-.valid\\ = '1' and \\-.ready\\ = '1';
 >       for lane in 0 to 0 loop
 >         if true then
->           if \\-.want\\(place) = \"10\" & \"0000\" & \\-.data\\(lane * 2 + 1 downto lane * 2) then
+>           if \\-.want\\(place) = \"10\" & \\-.data\\(lane * 8 + 7 downto lane * 8) then
 >             place := place + 1;
 >           else
 >             \\-.fault\\ <= '1';
@@ -104,7 +103,7 @@ $ expect p n::s.p v
 >     end loop;
 >   end process;
 > end architecture;
-= 0 failing 16 20
+= 0 failing 3 330
 # watch
 $ watch m t
 < -- tydi-watch 1
