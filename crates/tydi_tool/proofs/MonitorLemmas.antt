@@ -100,8 +100,7 @@ all-items p (items.Close dim ∷ more) are = All-cons (IsItemOf p) (items.Close 
 can-run : (dims : ℕ) → AreStatements dims around_process (statements_for dims)
 can-run zero = ((refl, (omega arith, (tt, ((refl, (omega arith, (tt, (refl, tt)))), tt)))), tt)
 can-run (suc less) =
-    let some : 1 ≤ suc less = omega arith in
-    (
+    let some : 1 ≤ suc less = omega arith in (
       (refl, (omega arith, (tt, ((refl, (omega arith, (tt, (refl, tt)))), ((refl, (some, (omega arith, (tt, ((refl, (refl, (omega arith, (tt, (refl, tt))))), tt))))), tt))))),
       tt,
     )
@@ -129,8 +128,12 @@ item-bytes p number (item ∷ more) =
 
 table-bytes : (head : Head) (want : List Item) → length want ≤ length (table_text head want)
 table-bytes head want =
-    omega (arith, item-bytes head.params 0 want, length-append (table_front head (length want)) (item_lines head.params 0 want ++ table_back head (length want)),
-    length-append (item_lines head.params 0 want) (table_back head (length want)))
+    omega (
+      arith,
+      item-bytes head.params 0 want,
+      length-append (table_front head (length want)) (item_lines head.params 0 want ++ table_back head (length want)),
+      length-append (item_lines head.params 0 want) (table_back head (length want)),
+    )
 
 tables-bytes : (heads : List Head) (wants : List (List Item)) (i : ℕ) (head : Head) (want : List Item) → slice_get heads i ≡ Some head → slice_get wants i ≡ Some want → length want ≤ length (tables_text heads wants)
 tables-bytes [] wants i head want there wanted = absurd (no_element i head there)
@@ -143,8 +146,12 @@ tables-bytes (one ∷ heads) (first ∷ wants) (suc i) head want there wanted =
 
 pub text-bytes : (watch : PlainWatch) (i : ℕ) (head : Head) (want : List Item) → slice_get watch.heads i ≡ Some head → slice_get watch.want i ≡ Some want → length want ≤ length (watch_text watch)
 text-bytes watch i head want there wanted =
-    omega (arith, tables-bytes watch.heads watch.want i head want there wanted, length-append (front_text watch.heads) (tables_text watch.heads watch.want ++ back_text watch),
-    length-append (tables_text watch.heads watch.want) (back_text watch))
+    omega (
+      arith,
+      tables-bytes watch.heads watch.want i head want there wanted,
+      length-append (front_text watch.heads) (tables_text watch.heads watch.want ++ back_text watch),
+      length-append (tables_text watch.heads watch.want) (back_text watch),
+    )
 
 -- ---- the monitor of a port
 
@@ -205,8 +212,15 @@ module _ (split : PlainSplit) (value : PortValue) (port : IsPortSplit split) (fi
 line-length : (stream path seen place of count : List ℕ) (end : List ℕ) → length (stream ++ (path ++ (seen ++ (place ++ (of ++ (count ++ end))))))
     ≡ length stream + (length path + (length seen + (length place + (length of + (length count + length end)))))
 line-length stream path seen place of count end =
-    omega (arith, length-append stream (path ++ (seen ++ (place ++ (of ++ (count ++ end))))), length-append path (seen ++ (place ++ (of ++ (count ++ end)))),
-    length-append seen (place ++ (of ++ (count ++ end))), length-append place (of ++ (count ++ end)), length-append of (count ++ end), length-append count end)
+    omega (
+      arith,
+      length-append stream (path ++ (seen ++ (place ++ (of ++ (count ++ end))))),
+      length-append path (seen ++ (place ++ (of ++ (count ++ end)))),
+      length-append seen (place ++ (of ++ (count ++ end))),
+      length-append place (of ++ (count ++ end)),
+      length-append of (count ++ end),
+      length-append count end,
+    )
 
 seen-line : (path : List (List ℕ)) (count : ℕ) → length (watched_line path count (record { place = count; report = None })) ≡ 18 + (length (path_text path) + (length (decimal count) + length (decimal count)))
 seen-line path count =
@@ -244,13 +258,25 @@ front-length head last = omega (arith, length-append (type_line head last) (code
 back-length : (head : Head) (last : ℕ) → length (decimal last) ≤ length (table_back head last)
 back-length head last =
     let rest = codes " => \"" in
-    omega (arith, length-append (codes "    ") (decimal last ++ rest), length-append (decimal last) rest, length-append (entry_front last) (end_digits head.params ++ codes "\""),
-    length-append (end_line head.params last) (codes "\n  );\n"))
+    omega (
+      arith,
+      length-append (codes "    ") (decimal last ++ rest),
+      length-append (decimal last) rest,
+      length-append (entry_front last) (end_digits head.params ++ codes "\""),
+      length-append (end_line head.params last) (codes "\n  );\n"),
+    )
 
 table-length : (head : Head) (want : List Item) → length (watched_line head.path (length want) (record { place = length want; report = None })) ≤ length (table_text head want)
 table-length head want =
-    omega (arith, seen-line head.path (length want), type-length head (length want), front-length head (length want), back-length head (length want),
-    length-append (table_front head (length want)) (item_lines head.params 0 want ++ table_back head (length want)), length-append (item_lines head.params 0 want) (table_back head (length want)))
+    omega (
+      arith,
+      seen-line head.path (length want),
+      type-length head (length want),
+      front-length head (length want),
+      back-length head (length want),
+      length-append (table_front head (length want)) (item_lines head.params 0 want ++ table_back head (length want)),
+      length-append (item_lines head.params 0 want) (table_back head (length want)),
+    )
 
 module _ (watch : PlainWatch) where
   lines-length : (number : ℕ) (heads : List Head) (wants : List (List Item)) → length wants ≡ length heads
@@ -266,8 +292,14 @@ module _ (watch : PlainWatch) where
       let line : watched_line (path_of_stream watch.heads number) (count_of watch number) seen ≡ watched_line head.path (length want) seen =
       ap (λ (p : List (List ℕ)). watched_line p (count_of watch number) seen) path ∙ ap (λ (n : ℕ). watched_line head.path n seen) count in
       let more = lines-length (suc number) heads wants (omega (arith, many)) (λ i k one is there. paths (suc i) k one (omega (arith, is)) there) (λ i k one is there. counts (suc i) k one (omega (arith, is)) there) in
-      omega (arith, more, ap length line, table-length head want, length-append (table_text head want) (tables_text heads wants),
-      length-append (watched_line (path_of_stream watch.heads number) (count_of watch number) seen) (lines_from watch (suc number) (all_seen wants)))
+      omega (
+        arith,
+        more,
+        ap length line,
+        table-length head want,
+        length-append (table_text head want) (tables_text heads wants),
+        length-append (watched_line (path_of_stream watch.heads number) (count_of watch number) seen) (lines_from watch (suc number) (all_seen wants)),
+      )
 
   path-there : (k : ℕ) (head : Head) → slice_get watch.heads k ≡ Some head → path_of_stream watch.heads k ≡ head.path
   path-there k head there =

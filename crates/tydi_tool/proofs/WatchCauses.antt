@@ -173,8 +173,7 @@ module _ (known : Files) (words : WatchWords) where
           → t.heads ≡ watch.heads → (some : Bool) → list_any reports (watched_of watch (streams_of t)) ≡ some
           → a ≡ answer_of_lines some (watched_lines watch (watched_of watch (streams_of t))) → Told known request a
       tells_streams t all text same true some said =
-          let found = some_report (watched_of watch (streams_of t)) some in
-          (
+          let found = some_report (watched_of watch (streams_of t)) some in (
             rows.AReport,
             record {
               words = words;

@@ -79,12 +79,7 @@ fn expect_named<S: Store>(
 }
 
 /// The same, with the split of the port.
-fn expect_carried<S: Store>(
-    alloc: Global,
-    split: &Split<'_>,
-    value: &Text,
-    store: &mut S,
-) -> Reply
+fn expect_carried<S: Store>(alloc: Global, split: &Split<'_>, value: &Text, store: &mut S) -> Reply
     requires port { IsPortSplit (plain_split split.now) }
     requires value { IsTrue (S.allowed store.old value.now) }
     ensures decided { Decides (S.files store.old) (S.started store.old) (S.started store.new) (Rose (S.faults store.old) (S.faults store.new))
@@ -122,11 +117,7 @@ fn expected(alloc: Global, split: &Split<'_>, value: PortValue) -> Reply
 }
 
 /// The monitor of a port for a value, of which only the items are kept.
-fn monitor_of_value(
-    alloc: Global,
-    split: &Split<'_>,
-    value: PortValue,
-) -> Result<Watch, Memory>
+fn monitor_of_value(alloc: Global, split: &Split<'_>, value: PortValue) -> Result<Watch, Memory>
     requires port { IsPortSplit (plain_split split.now) }
     requires fits { fits_split (plain_split split.now) (plain_port value) ≡ true }
     ensures { IfOk result (λ watch. plain_watch watch ≡ monitor_of (plain_split split.now) (items_of_value (plain_split split.now) value)) }
