@@ -11,7 +11,7 @@ use Rattle.logical_value.specs.declared.value.PortValue.{PortValue}
 use Rattle.trace_watch.specs.Texts.{IsWatchingOf, Misspelled, OtherHeader, Watched, Watching}
 use Rattle.trace_watch.specs.Watched.{watched_of}
 use Rattle.trace_watch.specs.declared.watched.StreamWatched.{StreamWatched}
-use Rattle.trace_decode.proofs.RowLemmas.{all-at}
+use Rattle.trace_decode.proofs.RowLemmas.{all-at, same_some}
 use Rattle.type_split.specs.Streams.{PlainSplit}
 use Rattle.watch_text.specs.Reading.{watch_of}
 use Rattle.watch_text.specs.Statements.{PlainWatch}
@@ -78,10 +78,7 @@ no_report (first ∷ more) is = by first.report refl is (no_report more)
 reported : (watched : List StreamWatched) (stream : ℕ) (one : StreamWatched) (edge : ℕ) → slice_get watched stream ≡ Some one → one.report ≡ Some edge → list_any reports watched ≡ true
 reported [] stream one edge there is = absurd cc
 reported (first ∷ more) zero one edge there is =
-    let same : first ≡ one = same_one there in ap (λ (o : StreamWatched). is_some o.report || list_any reports more) same ∙ ap (λ (report : Option ℕ). is_some report || list_any reports more) is
-  where
-    same_one : {x y : StreamWatched} → ◌≡◌ {A = Option StreamWatched} (Some x) (Some y) → x ≡ y
-    same_one e = cc
+    ap (λ (o : StreamWatched). is_some o.report || list_any reports more) (same_some there) ∙ ap (λ (report : Option ℕ). is_some report || list_any reports more) is
 reported (first ∷ more) (suc stream) one edge there is = by (reports first) (reported more stream one edge there is)
   where
     by : (here : Bool) → list_any reports more ≡ true → (here || list_any reports more) ≡ true
