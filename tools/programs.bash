@@ -1,8 +1,8 @@
 # What the launcher and the tools know of the programs: what each is made from, and which of them runs. A script reads this file
 # after it has set `top`, the folder of the repository. It needs bash and the GNU coreutils.
 
-# The kit that proves and builds the program: what `rt version` prints.
-kit='rattle-kit-13f logic dac8208d650f15bf'
+# The kits that prove and build the program, by what `rt version` prints. Each writes other bytes, so PROGRAM.made names the one that made PROGRAM.
+kits=('rattle-kit-13f logic dac8208d650f15bf' 'rattle-kit-13b logic dac8208d650f15bf')
 
 proved=$top/bin/tydi              # comes with the repository, with what it was made from in tydi.made
 built=$top/crates/tydi/out/tydi   # proved and built here, by tools/build or `rt ci`
@@ -54,16 +54,32 @@ sum_of_sources() (
   done | sort -k 2 | sha256sum
 )
 
-# made_of PROGRAM: prints the lines of PROGRAM.made where PROGRAM is made from the sources as they stand
+# made_of PROGRAM KIT: prints the lines of PROGRAM.made where this kit made PROGRAM from the sources as they stand
 made_of() {
   local of_sources of_program
   of_sources=$(sum_of_sources) && of_program=$(sha256sum <"$1") || return
-  printf 'kit %s\nsources %s\nprogram %s\n' "$kit" "${of_sources%% *}" "${of_program%% *}"
+  printf 'kit %s\nsources %s\nprogram %s\n' "$2" "${of_sources%% *}" "${of_program%% *}"
 }
 
-# fits PROGRAM: PROGRAM.made says what `made_of` says now
+# is_kit NAME: this is one of the kits
+is_kit() {
+  local one
+  for one in "${kits[@]}"; do
+    [ "$1" != "$one" ] || return 0
+  done
+  return 1
+}
+
+# kit_of PROGRAM: prints the kit that PROGRAM.made names
+kit_of() {
+  local word name
+  read -r word name <"$1.made" && printf '%s\n' "$name"
+}
+
+# fits PROGRAM: PROGRAM.made names one of the kits, and says what `made_of` says now
 fits() {
-  [ -x "$1" ] && [ -r "$1.made" ] && [ "$(<"$1.made")" == "$(made_of "$1")" ]
+  local made_by
+  [ -x "$1" ] && [ -r "$1.made" ] && made_by=$(kit_of "$1") && is_kit "$made_by" && [ "$(<"$1.made")" == "$(made_of "$1" "$made_by")" ]
 }
 
 # is_newer PROGRAM: no source has been written since PROGRAM was
@@ -87,14 +103,20 @@ find_program() {
   fi
 }
 
-# need_kit: ends the script with one line where the kit's command is missing or another kit's
+# has_kit: sets `kit` to what the command rt on the PATH says of itself; and this is one of the kits
+has_kit() {
+  kit=$(rt version 2>/dev/null) && is_kit "$kit"
+}
+
+# need_kit: sets `kit` to the kit of the command rt on the PATH, and `kit_folder` to its folder. It ends the script with one line where there is
+# none, or another than those.
 need_kit() {
   if ! command -v rt >/dev/null; then
-    echo "${0##*/}: the command rt of the kit $kit is not on the PATH" >&2
+    echo "${0##*/}: the command rt of the kit ${kits[0]} is not on the PATH" >&2
     exit 127
   fi
-  if [ "$(rt version)" != "$kit" ]; then
-    echo "${0##*/}: the command rt on the PATH is of $(rt version), and not of $kit" >&2
+  if ! has_kit; then
+    echo "${0##*/}: the command rt on the PATH is of $kit, and the program is built by one of these: $(printf '%s; ' "${kits[@]}")" >&2
     exit 127
   fi
   kit_folder=$(dirname "$(dirname "$(readlink -f "$(command -v rt)")")")

@@ -1,15 +1,17 @@
 """Sweeps of the program. All small values of the ports of `values` are driven and decoded as the same text. The traces of the ports of
 `changes` have each bit of each row changed, and what `check` and `decode` say of each is compared with the definitions; so is what `compare`
-says of each beside the value that was driven. All items up to
+says of each beside the value that was driven, and what `watch` says of each under the monitor of that value, which `expect` writes. All items up to
 four on streams of up to three lanes and two dimensions, at each level and by six wishes, are driven and decoded. bench.vhd is run by the texts
-of `runs`, with the edits of `edits`, and cut at each byte.
+of `runs`, with the edits of `edits`, and cut at each byte. Monitors with all processes of up to three statements run over a trace; and the text of one
+is cut at each byte, each of its bytes is changed, and each line is left out, doubled and exchanged with the next.
   tests/sweeps/run PROGRAM
-The answers that are expected come from meanings.py and rules.py, which have none of the program's code.
+The answers that are expected come from meanings.py, rules.py and monitors.py, which have none of the program's code.
 Each part says how many it ran, and the counts are compared. One answer of each part is spoilt, and is seen to fail."""
 import itertools, os, re, subprocess, sys, tempfile
 from concurrent.futures import ThreadPoolExecutor
 
 import meanings
+import monitors
 import rules
 
 HERE = os.path.dirname(os.path.realpath(__file__))
@@ -83,10 +85,24 @@ def blocks_of(name, first):
 PLAN = "tydi-plan 1\ncycles 12\n"
 
 
+def expect_text(project, value):
+    """The answer of `expect` to a value."""
+    file = store(value)
+    said = answer("expect", project, "a::s.p", file)
+    os.unlink(file)
+    return said
+
+
 def comes_back(project, plan, value):
     """Whether the trace that drives a port with a value is decoded as this value."""
     status, trace, _ = drive(project, value, plan)
     return status == 0 and answer_of_text("decode", project, trace) == (0, value, "")
+
+
+def is_expected(project, plan, value):
+    """Whether the monitor of a value is written as it should be, by the trace that drives the port with the value."""
+    status, trace, _ = drive(project, value, plan)
+    return status == 0 and expect_text(project, value) == (0, monitors.text_of(monitors.monitor_of(trace)), "")
 
 
 def sweep_values(pool):
@@ -97,11 +113,12 @@ def sweep_values(pool):
         values = meanings.all_spelled(block["rule"])
         expect(f"the values of {port}", int(block["values"][0]), len(values))
         count += len(values)
-        backs = pool.map(lambda value: comes_back(project, plan, value), values)
+        backs = pool.map(lambda value: comes_back(project, plan, value) and is_expected(project, plan, value), values)
         for value, is_back in zip(values, backs):
             if not is_back:
                 fail(f"{port} {value}")
     expect("a spoilt value comes back", False, comes_back(project, plan, values[-1].replace("1", "2")))
+    expect("a spoilt value is expected", False, is_expected(project, plan, values[-1].replace("1", "2")))
     return count
 
 
@@ -133,10 +150,27 @@ def is_compared(port, project, value, trace, text):
     return said == meanings.compared(port, trace, text)
 
 
+def watch(monitor, trace):
+    """The answer of `watch` to a monitor and a trace, without the names of the files."""
+    files = store(monitor), store(trace)
+    status, out, err = answer("watch", *files)
+    for file in files:
+        err = err.replace(f" {file}", "")
+        os.unlink(file)
+    return status, out, err
+
+
+def is_watched(trace, text):
+    """Whether `watch` says of a trace, under the monitor that expects what another carries, what its items alone and each statement of the monitor say."""
+    monitor = monitors.monitor_of(trace)
+    said = watch(monitors.text_of(monitor), text)
+    return said == monitors.expected(monitor, text) == monitors.watched(monitors.text_of(monitor), text)
+
+
 def sweep_comparisons(pool, port, project, driven):
-    """Compares each driven trace and each of its changes with the value."""
+    """Compares each driven trace and each of its changes with the value, and has the monitor of the value watch it."""
     cases = [(value, trace, text) for value, trace, changed in driven for text in [trace, *changed]]
-    for (value, _, text), is_right in zip(cases, pool.map(lambda case: is_compared(port, project, *case), cases)):
+    for (value, _, text), is_right in zip(cases, pool.map(lambda case: is_compared(port, project, *case) and is_watched(*case[1:]), cases)):
         if not is_right:
             fail(f"{value}\n{text}")
     value, trace, changed = driven[-1]
@@ -284,6 +318,85 @@ def sweep_benches(pool):
     return len(cases)
 
 
+# ---- monitors
+
+WATCHED = """tydi-trace 1
+cycles 4
+stream a lanes 2 dims 2 level 8 element 3 user 0 forward
+stream b.c lanes 1 dims 0 level 1 element 6 user 0 reverse
+1 1 d=25 l=0 s=0 e=1 b=3
+1 0 d=01
+1 0 d=06 l=5 s=0 e=1 b=2
+1 1 d=01
+1 1 d=06 l=5 s=0 e=1 b=2
+1 1 d=2a
+1 1 d=00 l=8 s=0 e=1 b=0
+0 1 -
+"""
+
+
+def statements_of(count):
+    """All lists of so many statements, those inside others among them."""
+    if count == 0:
+        yield []
+    for inner in range(count):
+        for first, rest in itertools.product(statements_of(inner), statements_of(count - 1 - inner)):
+            kinds = monitors.LOOPS + monitors.TESTS
+            yield from ([(kind, first), *rest] for kind in kinds)
+            yield from ([(kind,), *rest] for kind in (monitors.NEEDS if inner == 0 else ()))
+
+
+def processes():
+    """All processes of up to three statements, alone and in a loop in each order, and tests that are nested deeper and deeper."""
+    for statements in itertools.chain(*map(statements_of, range(4))):
+        yield statements
+        yield [("lanes", [("dims", statements)])]
+        yield [("dims", [("lanes", statements)])]
+    statements = [("element",)]
+    for _ in range(8):
+        yield [("lanes", statements)]
+        statements = [("active", statements)]
+
+
+def changed_texts(text):
+    """A text cut at each byte, with each byte left out or changed, and with each line left out, doubled or exchanged with the next."""
+    for place, byte in enumerate(text):
+        rest = text[place + 1:]
+        yield from (text[:place], text[:place] + rest, text[:place] + {"0": "1", "1": "0", "x": "y"}.get(byte, "x") + rest)
+    lines = text.splitlines(True)
+    for number, line in enumerate(lines):
+        before, behind = lines[:number], lines[number + 1:]
+        yield from ("".join(before + other) for other in (behind, [line, line, *behind], [*behind[:1], line, *behind[1:]]))
+    yield from (text + more for more in ("\n", "x", lines[-1]))
+
+
+def wants_of(head, statements):
+    """The items that a process asks for in the trace, and these without the last, the first and the middle one."""
+    items = [item for item, _ in monitors.asked(head, statements, monitors.rows_of_each(WATCHED)[0])]
+    middle = len(items) // 2
+    return items, items[:-1], items[1:], items[:middle] + items[middle + 1:]
+
+
+def texts_of_monitors():
+    monitor = monitors.monitor_of(WATCHED)
+    for statements in processes():
+        text = monitors.text_of(monitor._replace(processes=[statements, monitor.processes[1]]))
+        yield text
+        if monitors.is_monitor(text):
+            for want in wants_of(monitor.heads[0], statements):
+                yield monitors.text_of(monitors.Monitor(monitor.heads, [want, monitor.want[1]], [statements, monitor.processes[1]]))
+    yield from changed_texts(monitors.text_of(monitor))
+
+
+def sweep_monitors(pool):
+    texts = list(texts_of_monitors())
+    for text, said in zip(texts, pool.map(lambda text: watch(text, WATCHED), texts)):
+        expect(text, monitors.watched(text, WATCHED), said)
+    accepted = sum(monitors.watched(text, WATCHED)[0] != 1 for text in texts)
+    expect("a spoilt monitor is one", False, watch(texts[-1], WATCHED)[0] == 0)
+    return len(texts), accepted
+
+
 def main():
     with ThreadPoolExecutor(os.cpu_count()) as pool:
         values = sweep_values(pool)
@@ -294,7 +407,10 @@ def main():
         expect("how many runs there are", (14952, 456), (runs, refused))
         benches = sweep_benches(pool)
         expect("how many testbenches there are", 2110, benches)
-    print(f"sweeps: {values} values, {changed} changed traces, {compared} comparisons, {runs} runs of items, {refused} refused, {benches} testbenches, {len(failures)} failed")
+        texts, accepted = sweep_monitors(pool)
+        expect("how many monitors there are", (10919, 610), (texts, accepted))
+    print(f"sweeps: {values} values, {changed} changed traces, {compared} comparisons, {runs} runs of items, {refused} refused, {benches} testbenches, "
+          f"{texts} texts of monitors, {len(failures)} failed")
     return 1 if failures else 0
 
 

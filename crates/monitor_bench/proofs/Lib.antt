@@ -1,4 +1,4 @@
 mod EdgeLemmas
-pub mod PlainLemmas
-mod ProcessLemmas
+mod LawLemmas
+pub mod ProcessLemmas
 mod RunLemmas

@@ -1,14 +1,12 @@
 -- The processes of a monitor: before their first edges, and one edge more of one of them.
-use Rattle.std.proofs.Common.{◌≡◌, ◌∙◌, ◌⊎◌, inl, inr, ℕ, zero, suc, ◌+◌, ◌-◌, ◌^◌, ◌<◌, ◌≤◌, Bool, true, false, List, [], ◌∷◌, ◌++◌, length, map, take, get_or, Option, Some, None, IfSome, slice_get, refl, sym, ap, subst, arith}
+use Rattle.std.proofs.Common.{◌≡◌, ◌∙◌, ◌⊎◌, inl, inr, ℕ, zero, suc, ◌+◌, ◌-◌, ◌^◌, ◌<◌, ◌≤◌, Bool, true, false, List, [], ◌∷◌, ◌++◌, length, map, get_or, Some, IfSome, slice_get, refl, sym, ap, subst, arith}
 use Rattle.std.specs.Prelude.{◌==◌, if◌then◌else◌, option_map}
-use Rattle.std.specs.List.{All}
 use Rattle.std.specs.Vec.{with_item}
 use Rattle.std.proofs.lemmas.Bool.Decides.{nat_tests}
 use Rattle.std.proofs.lemmas.List.{length-map, length_push}
 use Rattle.std.proofs.lemmas.Option.{slice_get-map, slice_get_read, slice_get_within, same_Some}
 use Rattle.tydi_base.proofs.PlaceLemmas.{same_or_other, slice_get-front, slice_get-next, slice_get-set_other, slice_get-set_same}
 use Rattle.physical_stream.specs.Cycles.{Cycle}
-use Rattle.physical_stream.specs.Params.{Parameters}
 use Rattle.physical_stream.specs.Signals.{Fits}
 use Rattle.physical_stream.specs.declared.head.Head.{Head}
 use Rattle.physical_stream.specs.declared.item.Item.{Item}
@@ -41,6 +39,24 @@ process_head (h ∷ heads) [] procs stream process is = absurd cc
 process_head (h ∷ heads) (w ∷ wants) [] stream process is = absurd cc
 process_head (h ∷ heads) (w ∷ wants) (p ∷ procs) zero process is = (h, (refl, ap (λ (q : Process). q.params) (sym (same_Some _ _ is))))
 process_head (h ∷ heads) (w ∷ wants) (p ∷ procs) (suc stream) process is = process_head heads wants procs stream process is
+
+pub length-processes : (heads : List Head) (wants : List (List Item)) (procs : List Statements) → length wants ≡ length heads → length procs ≡ length heads
+    → length (processes_from heads wants procs) ≡ length heads
+length-processes [] wants procs a b = refl
+length-processes (h ∷ heads) [] procs a b = absurd (omega (arith, a))
+length-processes (h ∷ heads) (w ∷ wants) [] a b = absurd (omega (arith, b))
+length-processes (h ∷ heads) (w ∷ wants) (p ∷ procs) a b = let more = length-processes heads wants procs (omega (arith, a)) (omega (arith, b)) in omega arith
+
+-- the same cycles of each stream, told otherwise
+pub are_after-same : (watch : PlainWatch) (cycles others : ℕ → List Cycle) (sims : Processes) → ((stream : ℕ) → stream < length watch.heads → cycles stream ≡ others stream)
+    → AreAfter watch cycles sims → AreAfter watch others sims
+are_after-same watch cycles others sims same after = record {
+  watch_can = after.watch_can;
+  many = after.many;
+  are = λ stream process sim is there.
+      let head = process_head watch.heads watch.want watch.procs stream process is in
+      subst (λ (l : List Cycle). IsAfter process l sim) (same stream (slice_get_within watch.heads stream head.0 head.1.0)) (after.are stream process sim is there);
+}
 
 -- ---- before the first edge
 
@@ -85,14 +101,21 @@ fresh_after watch sims heads count can same all fresh = record {
 
 -- ---- one edge more
 
--- the same cycles, for the stream itself and for another one
-with_cycle-same : (test : Bool) (one : List Cycle) (row : Cycle) → test ≡ true → one ++ row ∷ [] ≡ (if test then one ++ row ∷ [] else one)
-with_cycle-same true one row so = refl
-with_cycle-same false one row so = absurd cc
+-- the cycles with one more, for the stream itself and for another one
+chosen : {A : Type 0} (test : Bool) (one other : A) → test ≡ true → (if test then one else other) ≡ one
+chosen true one other so = refl
+chosen false one other so = absurd cc
 
-with_cycle-other : (test : Bool) (one : List Cycle) (row : Cycle) → test ≡ false → one ≡ (if test then one ++ row ∷ [] else one)
-with_cycle-other true one row so = absurd cc
-with_cycle-other false one row so = refl
+not_chosen : {A : Type 0} (test : Bool) (one other : A) → test ≡ false → (if test then one else other) ≡ other
+not_chosen true one other so = absurd cc
+not_chosen false one other so = refl
+
+pub with_cycle-same : (stream : ℕ) (row : Cycle) (cycles : ℕ → List Cycle) (other : ℕ) → other ≡ stream → with_cycle stream row cycles other ≡ cycles stream ++ row ∷ []
+with_cycle-same stream row cycles other same =
+    chosen (other == stream) (cycles other ++ row ∷ []) (cycles other) (let so = same in grind (arith, nat_tests)) ∙ ap (λ (n : ℕ). cycles n ++ row ∷ []) same
+
+pub with_cycle-other : (stream : ℕ) (row : Cycle) (cycles : ℕ → List Cycle) (other : ℕ) → (other ≡ stream → ⊥) → with_cycle stream row cycles other ≡ cycles other
+with_cycle-other stream row cycles other apart = not_chosen (other == stream) (cycles other ++ row ∷ []) (cycles other) (let so = apart in grind (arith, nat_tests))
 
 module _ (w : Watch) (cycles : ℕ → List Cycle) (sims : Processes) (after : AreAfter (plain_watch w) cycles sims) (stream : ℕ) (row : Cycle) (can : CanTakeEdge (plain_watch w) cycles stream row)
     (heads : List Head) (head : Head) (wants : List (List Item)) (list want : List Item) (procs : List (List WStmt)) (body process : List WStmt) (sim : ProcessSim)
@@ -133,13 +156,11 @@ module _ (watch : PlainWatch) (cycles : ℕ → List Cycle) (sims : Processes) (
       let is_process : process ≡ other = same_Some _ _ (sym here ∙ ap (slice_get (processes_of watch)) (sym same) ∙ is) in
       let inside = slice_get_within sims.each.items stream sim sim_there in
       let is_next : next ≡ found = same_Some _ _ (sym (slice_get-set_same sims.each.items stream next inside) ∙ ap (slice_get (with_item sims.each stream next).items) (sym same) ∙ there) in
-      let longer : cycles stream ++ row ∷ [] ≡ with_cycle stream row cycles i =
-      ap (λ (n : ℕ). cycles n ++ row ∷ []) (sym same) ∙ with_cycle-same (i == stream) (cycles i) row (let so = same in grind (arith, nat_tests)) in
-      subst (λ (l : List Cycle). IsAfter other l found) longer
+      subst (λ (l : List Cycle). IsAfter other l found) (sym (with_cycle-same stream row cycles i same))
       (subst (λ (s : ProcessSim). IsAfter other (cycles stream ++ row ∷ []) s) is_next
       (subst (λ (p : Process). IsAfter p (cycles stream ++ row ∷ []) next) is_process (more (cycles stream) (after.are stream process sim here sim_there))))
   after_each i other found is there (inr apart) =
-      subst (λ (l : List Cycle). IsAfter other l found) (with_cycle-other (i == stream) (cycles i) row (let so = apart in grind (arith, nat_tests)))
+      subst (λ (l : List Cycle). IsAfter other l found) (sym (with_cycle-other stream row cycles i apart))
       (after.are i other found is (sym (slice_get-set_other sims.each.items stream i next (λ e. apart (sym e))) ∙ there))
 
   pub are_after-more : AreAfter watch (with_cycle stream row cycles) (record { each = with_item sims.each stream next })

@@ -1,10 +1,9 @@
 -- One edge of a process, as it runs (this project's own). It serves the code, and no public clause.
 use Rattle.std.specs.Prelude.{◌≡◌, ℕ, suc, ◌<◌, ◌≤◌, ◌-◌, ◌^◌, Bool, true, false, if◌then◌else◌, List, length, Option, Some, None}
-use Rattle.physical_stream.specs.Cycles.{Cycle}
 use Rattle.physical_stream.specs.Params.{Parameters}
 use Rattle.physical_stream.specs.Signals.{Fits}
 use Rattle.physical_stream.specs.declared.item.Item.{Item}
-use Rattle.watch_text.specs.Statements.{Statements, plain_statements}
+use Rattle.watch_text.specs.Statements.{plain_statements}
 use Rattle.watch_text.specs.declared.watch.WStmt.{WStmt}
 use Rattle.monitor_bench.specs.Meaning.{Process, State, going, stopped}
 use Rattle.monitor_bench.specs.declared.running.Edge.{Edge}

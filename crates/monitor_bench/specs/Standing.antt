@@ -1,10 +1,8 @@
 -- The cycles that the processes of a monitor stand for (this project's own).
-use Rattle.std.specs.Prelude.{◌≡◌, ℕ, ◌<◌, ◌-◌, ◌^◌, ◌==◌, if◌then◌else◌, List, [], ◌∷◌, ◌++◌, length, Option, Some, IfSome, slice_get}
+use Rattle.std.specs.Prelude.{◌≡◌, ℕ, ◌<◌, ◌-◌, ◌^◌, ◌==◌, if◌then◌else◌, List, [], ◌∷◌, ◌++◌, length, Some, IfSome, slice_get}
 use Rattle.std.specs.List.{All}
 use Rattle.physical_stream.specs.Cycles.{Cycle}
 use Rattle.physical_stream.specs.Signals.{Fits}
-use Rattle.physical_stream.specs.declared.head.Head.{Head}
-use Rattle.physical_stream.specs.declared.item.Item.{Item}
 use Rattle.watch_text.specs.Statements.{PlainWatch, plain_watch}
 use Rattle.monitor_bench.specs.Meaning.{Process, processes_of, report_of, state_after}
 use Rattle.monitor_bench.specs.Running.{HasRoom, state_of}

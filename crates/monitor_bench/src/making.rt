@@ -1,7 +1,6 @@
 //! The monitor of a port.
 
 ghost use Rattle.std.specs.Prelude.{◌≡◌, [], ◌∷◌, map, IfOk};
-ghost use Rattle.physical_stream.specs.declared.item.Item.{Item};
 ghost use Rattle.type_split.specs.Streams.{plain_split};
 ghost use Rattle.watch_text.specs.Statements as plain;
 ghost use Rattle.watch_text.specs.Statements.{plain_statements, plain_watch};

@@ -1,6 +1,5 @@
 -- The rows that a watcher stands for (this project's own). It serves the watcher, and no public clause.
-use Rattle.std.specs.Prelude.{◌≡◌, ℕ, ◌*◌, ◌≤◌, List, [], length, take, Option, Some, None, slice_get}
-use Rattle.physical_stream.specs.declared.head.Head.{Head}
+use Rattle.std.specs.Prelude.{◌≡◌, ◌*◌, ◌≤◌, [], length, Option, Some, None}
 use Rattle.cycle_trace.specs.Trace.{TraceText, cycles_of_stream, most_cycles}
 use Rattle.trace_decode.specs.Outcome.{DifferFirst}
 use Rattle.watch_text.specs.Statements.{PlainWatch, plain_watch}

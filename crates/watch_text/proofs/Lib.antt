@@ -1,3 +1,7 @@
 mod Examples
-mod LineParts
-mod EntrySpelling
+pub mod PlainLemmas
+mod LoopLemmas
+mod ItemLemmas
+mod PrintingLemmas
+mod PieceLemmas
+mod TableLengths

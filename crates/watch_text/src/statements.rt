@@ -1,10 +1,11 @@
 //! The statements of processes.
 
-ghost use Rattle.std.specs.Prelude.{◌≡◌, ◌+◌, ◌++◌, ℕ, length, min, OnErr, OnOk};
+ghost use Rattle.std.specs.Prelude.{◌≡◌, ◌++◌, ℕ, length, min, OnErr, OnOk};
 ghost use Rattle.tydi_base.specs.Lengths.{most_bytes};
 ghost use Rattle.tydi_base.specs.Writing.{StandsInFront};
 ghost use Rattle.watch_text.specs.Statements.{plain, plain_statements};
-ghost use Rattle.watch_text.specs.Text as spec;
+ghost use Rattle.watch_text.specs.Blocks as spec;
+ghost use Rattle.watch_text.specs.Blocks.{block_text, first_line};
 ghost use Rattle.watch_text.specs.Text.{fault_line, if_line, loop_line, need_text, statement_text, statements_text};
 
 use crate::conditions::{ActiveTest, CloseTest, ElemTest, LastTest};
@@ -61,43 +62,32 @@ fn write_statement(
     ensures err { OnErr result (StandsInFront out.old out.new) }
 {
     match statement {
-        WStmt::Lanes(body) => {
-            emit!(out; Line(indent, LoopLine("lane", lanes_of(head))))?;
-            write_body(head, indent, body.as_slice(), "end loop;", out)
-        }
-        WStmt::Dims(body) => {
-            emit!(out; Line(indent, LoopLine("dim", dims_of(head))))?;
-            write_body(head, indent, body.as_slice(), "end loop;", out)
-        }
-        WStmt::IfActive(body) => {
-            emit!(out; Line(indent, IfLine(ActiveTest(head))))?;
-            write_body(head, indent, body.as_slice(), "end if;", out)
-        }
-        WStmt::IfLast(body) => {
-            emit!(out; Line(indent, IfLine(LastTest(head))))?;
-            write_body(head, indent, body.as_slice(), "end if;", out)
-        }
+        WStmt::Lanes(body) => write_block(head, indent, Block::Lanes, body.as_slice(), out),
+        WStmt::Dims(body) => write_block(head, indent, Block::Dims, body.as_slice(), out),
+        WStmt::IfActive(body) => write_block(head, indent, Block::IfActive, body.as_slice(), out),
+        WStmt::IfLast(body) => write_block(head, indent, Block::IfLast, body.as_slice(), out),
         WStmt::NeedElem => write_need(head, indent, ElemTest(head), out),
         WStmt::NeedClose => write_need(head, indent, CloseTest(head), out),
     }
 }
 
-/// Adds the lines of the statements inside one that is so far to the right, and the line that ends it. `Memory` also comes where the
-/// statements inside are farther to the right than a number can say.
+/// Adds the lines of a statement that is so far to the right, with others inside. After `Memory` a front of them may stand there. `Memory`
+/// also comes where those inside are farther to the right than a number can say.
 #[cycle(writing)]
-fn write_body(
+fn write_block(
     head: &Head,
     indent: usize,
+    block: Block,
     body: &[WStmt],
-    last: &'static str,
     out: &mut List<u8>,
 ) -> Result<(), Memory>
-    ensures ok { OnOk result (out.new ≡ out.old ++ (statements_text head.now (indent + 2) (plain_statements body.now) ++ spec.line indent last.now)) }
+    ensures ok { OnOk result (out.new ≡ out.old ++ block_text head.now indent block (plain_statements body.now)) }
     ensures err { OnErr result (StandsInFront out.old out.new) }
 {
     let inside = indent.checked_add(2).ok_or(Memory)?;
+    emit!(out; Line(indent, FirstLine(head, block)))?;
     write_statements(head, inside, body, out)?;
-    emit!(out; Line(indent, last))
+    emit!(out; Line(indent, last_line(block)))
 }
 
 /// Adds the lines of a need that is so far to the right. After `Memory` a front of them may stand there.
@@ -136,37 +126,25 @@ fn count_statement(head: &Head, indent: usize, statement: &WStmt) -> u64
     ensures { (right : ℕ) → indent ≡ min right most_bytes → result ≡ min (length (statement_text head.now right (plain statement.now))) most_bytes }
 {
     match statement {
-        WStmt::Lanes(body) => {
-            let first = Line(indent, LoopLine("lane", lanes_of(head))).count();
-            first.saturating_add(count_body(head, indent, body.as_slice(), "end loop;"))
-        }
-        WStmt::Dims(body) => {
-            let first = Line(indent, LoopLine("dim", dims_of(head))).count();
-            first.saturating_add(count_body(head, indent, body.as_slice(), "end loop;"))
-        }
-        WStmt::IfActive(body) => {
-            let first = Line(indent, IfLine(ActiveTest(head))).count();
-            first.saturating_add(count_body(head, indent, body.as_slice(), "end if;"))
-        }
-        WStmt::IfLast(body) => {
-            let first = Line(indent, IfLine(LastTest(head))).count();
-            first.saturating_add(count_body(head, indent, body.as_slice(), "end if;"))
-        }
+        WStmt::Lanes(body) => count_block(head, indent, Block::Lanes, body.as_slice()),
+        WStmt::Dims(body) => count_block(head, indent, Block::Dims, body.as_slice()),
+        WStmt::IfActive(body) => count_block(head, indent, Block::IfActive, body.as_slice()),
+        WStmt::IfLast(body) => count_block(head, indent, Block::IfLast, body.as_slice()),
         WStmt::NeedElem => count_need(head, indent, ElemTest(head)),
         WStmt::NeedClose => count_need(head, indent, CloseTest(head)),
     }
 }
 
-/// The bytes of the lines of the statements inside one that is so far to the right, and of the line that ends it; `u64::MAX` where they
-/// are more, which no memory holds.
+/// The bytes of the lines of a statement that is so far to the right, with others inside; `u64::MAX` where they are more, which no memory
+/// holds.
 #[cycle(counting)]
-fn count_body(head: &Head, indent: usize, body: &[WStmt], last: &'static str) -> u64
-    ensures { (right : ℕ) → indent ≡ min right most_bytes
-        → result ≡ min (length (statements_text head.now (right + 2) (plain_statements body.now) ++ spec.line right last.now)) most_bytes }
+fn count_block(head: &Head, indent: usize, block: Block, body: &[WStmt]) -> u64
+    ensures { (right : ℕ) → indent ≡ min right most_bytes → result ≡ min (length (block_text head.now right block (plain_statements body.now))) most_bytes }
 {
-    count_statements(head, indent.saturating_add(2), body).saturating_add(Line(
-        indent, last,
-    ).count())
+    let first = Line(indent, FirstLine(head, block)).count();
+    let inside = count_statements(head, indent.saturating_add(2), body);
+    let last = Line(indent, last_line(block)).count();
+    first.saturating_add(inside).saturating_add(last)
 }
 
 /// The bytes of the lines of a need that is so far to the right; `u64::MAX` where they are more, which no memory holds.
@@ -185,18 +163,55 @@ fn count_need<T: Counted + Copy>(head: &Head, indent: usize, test: T) -> u64
     .count()
 }
 
-/// The lanes of a stream.
-fn lanes_of(head: &Head) -> u32
-    ensures { result ≡ head.now.params.lanes }
-{
-    u32::from(head.params.lanes)
+/// A kind of statement with others inside.
+#[derive(Clone, Copy)]
+pub(crate) enum Block {
+    Lanes,
+    Dims,
+    IfActive,
+    IfLast,
 }
 
-/// The dimensions of a stream.
-fn dims_of(head: &Head) -> u32
-    ensures { result ≡ head.now.params.dims }
+/// The line that begins such a statement.
+#[derive(Clone, Copy)]
+struct FirstLine<'a>(&'a Head, Block);
+
+impl Written for FirstLine<'_> {
+    ghost text = { λ line. first_line line.0.now line.1 };
+
+    fn write_to(&self, out: &mut List<u8>) -> Result<(), Memory> {
+        let params = &self.0.params;
+        match self.1 {
+            Block::Lanes => emit!(out; LoopLine("lane", u32::from(params.lanes))),
+            Block::Dims => emit!(out; LoopLine("dim", u32::from(params.dims))),
+            Block::IfActive => emit!(out; IfLine(ActiveTest(self.0))),
+            Block::IfLast => emit!(out; IfLine(LastTest(self.0))),
+        }
+    }
+}
+
+impl Counted for FirstLine<'_> {
+    fn count(&self) -> u64 {
+        let params = &self.0.params;
+        match self.1 {
+            Block::Lanes => LoopLine("lane", u32::from(params.lanes)).count(),
+            Block::Dims => LoopLine("dim", u32::from(params.dims)).count(),
+            Block::IfActive => IfLine(ActiveTest(self.0)).count(),
+            Block::IfLast => IfLine(LastTest(self.0)).count(),
+        }
+    }
+}
+
+/// The line that ends such a statement.
+fn last_line(block: Block) -> &'static str
+    ensures { result.now ≡ spec.last_line block }
 {
-    u32::from(head.params.dims)
+    match block {
+        Block::Lanes => "end loop;",
+        Block::Dims => "end loop;",
+        Block::IfActive => "end if;",
+        Block::IfLast => "end if;",
+    }
 }
 
 /// The line that begins a loop of this variable through so many values.

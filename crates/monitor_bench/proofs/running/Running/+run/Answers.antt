@@ -1,6 +1,6 @@
 use Rattle.std.proofs.Common.{◌∙◌, ap}
 use Rattle.watch_text.specs.Statements.{dims, if_active, if_last, lanes, plain}
-use Rattle.monitor_bench.proofs.PlainLemmas.{plain-Dims, plain-IfActive, plain-IfLast, plain-Lanes}
+use Rattle.watch_text.proofs.PlainLemmas.{plain-Dims, plain-IfActive, plain-IfLast, plain-Lanes}
 use Rattle.monitor_bench.proofs.RunLemmas.{steps-active, steps-form, steps-last}
 use Rattle.monitor_bench.proofs.running.Running.+run.Goals as goal
 

@@ -1,6 +1,6 @@
-use Rattle.std.proofs.Common.{ℕ, List, ◌∙◌, sym, subst}
+use Rattle.std.proofs.Common.{sym, subst}
 use Rattle.physical_stream.specs.Cycles.{cycle_in}
-use Rattle.watch_text.specs.Statements.{PlainWatch, plain_watch}
+use Rattle.watch_text.specs.Statements.{PlainWatch}
 use Rattle.monitor_bench.specs.Standing.{AreAfter, with_cycle}
 use Rattle.monitor_bench.proofs.watch_sim.WatchSim.edge.Goals as goal
 
@@ -8,5 +8,5 @@ pub returns : goal.returns
 returns c watch cycles stands = (
   stands.0,
   subst (λ (w : PlainWatch). AreAfter w (with_cycle c.args.stream (cycle_in c.args.row) cycles) c.edge.new.self) stands.0
-  (c.edge.ensures cycles (subst (λ (w : PlainWatch). AreAfter w cycles c.args.self.now.processes) (sym stands.0) stands.1))
+      (c.edge.ensures cycles (subst (λ (w : PlainWatch). AreAfter w cycles c.args.self.now.processes) (sym stands.0) stands.1)),
 )

@@ -1,0 +1,3 @@
+mod LawLemmas
+mod RunLemmas
+mod TextLemmas

@@ -1,0 +1,4 @@
+use Rattle.watch_text.proofs.conditions.CloseTestWritten.write_to.Goals as goal
+
+pub returns-clause-ok : goal.returns-clause-ok
+returns-clause-ok c = rw (← c.item_width-width.ensures.width) c.emit.ensures.ok
