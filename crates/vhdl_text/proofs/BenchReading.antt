@@ -33,16 +33,16 @@ use Rattle.vhdl_text.proofs.ProcessSpelling.{lines_text-append}
 
 -- ---- steps
 
-took-same : {T A : Type 0} (x y : A) (l m : List T) → ◌≡◌ {A = Outcome Refusal T A} (took x l) (took y m) → (x ≡ y) × (l ≡ m)
+pub took-same : {T A : Type 0} (x y : A) (l m : List T) → ◌≡◌ {A = Outcome Refusal T A} (took x l) (took y m) → (x ≡ y) × (l ≡ m)
 took-same x y l m e = (cc, cc)
 
 -- one step, and then another
-and_then-some : {T A B : Type 0} (first : Outcome Refusal T A) (more : A → Reader Refusal T B) (y : B) (rest : List T) → and_then first more ≡ took y rest
+pub and_then-some : {T A B : Type 0} (first : Outcome Refusal T A) (more : A → Reader Refusal T B) (y : B) (rest : List T) → and_then first more ≡ took y rest
     → (x : A) × (mid : List T) × (first ≡ took x mid) × (more x mid ≡ took y rest)
 and_then-some (took x mid) more y rest e = (x, mid, refl, e)
 and_then-some (stopped fault mid) more y rest e = absurd cc
 
-mark-some : (line : List ℕ) (lines rest : List (List ℕ)) (x : Unit {0}) → ◌≡◌ {A = Outcome Refusal (List ℕ) (Unit {0})} (mark (λ next. bytes_eq next line) lines) (took x rest) → lines ≡ line ∷ rest
+pub mark-some : (line : List ℕ) (lines rest : List (List ℕ)) (x : Unit {0}) → ◌≡◌ {A = Outcome Refusal (List ℕ) (Unit {0})} (mark (λ next. bytes_eq next line) lines) (took x rest) → lines ≡ line ∷ rest
 unfolding mark
 mark-some line [] rest x e = absurd cc
 mark-some line (next ∷ lines) rest x e = by_test (bytes_eq next line) refl e

@@ -57,7 +57,7 @@ less a b e = omega arith
 none_before : (a : ℕ) → ◌≡◌ {A = ℕ} (suc a) 0 → ⊥
 none_before a e = omega arith
 
-MayFollow-rest : (paths : List (List ℕ)) (head : Head) (heads : List Head) → MayFollow paths (head ∷ heads) → MayFollow (path_text head.path ∷ paths) heads
+pub MayFollow-rest : (paths : List (List ℕ)) (head : Head) (heads : List Head) → MayFollow paths (head ∷ heads) → MayFollow (path_text head.path ∷ paths) heads
 MayFollow-rest paths head heads may =
     let room = may.room in
     record {
@@ -160,10 +160,10 @@ bench_lines-text bench =
 
 -- ---- the lines lack LF
 
-comment_line-line : (head : Head) → IsHead head → is_line (comment_line head) ≡ true
+pub comment_line-line : (head : Head) → IsHead head → is_line (comment_line head) ≡ true
 comment_line-line head h = words-line (head_words head) (head_words-plain head h)
 
-comments-line : (heads : List Head) → All IsHead heads → list_all is_line (map comment_line heads) ≡ true
+pub comments-line : (heads : List Head) → All IsHead heads → list_all is_line (map comment_line heads) ≡ true
 comments-line [] each = refl
 comments-line (head ∷ heads) each =
     both (is_line (comment_line head)) (list_all is_line (map comment_line heads)) (comment_line-line head (All-head IsHead head heads each)) (comments-line heads (All-tail IsHead head heads each))
@@ -198,7 +198,7 @@ stmt_lines-line heads (stmts.Await stream) each is = await_lines-line heads (sli
 stmt_lines-line heads (stmts.Pause edges) each is = both (is_line (pause_line edges)) true (pause_line-line edges is.1) refl
 stmt_lines-line heads stmts.Stop each is = refl
 
-lines-append : (front rest : List (List ℕ)) → list_all is_line front ≡ true → list_all is_line rest ≡ true → list_all is_line (front ++ rest) ≡ true
+pub lines-append : (front rest : List (List ℕ)) → list_all is_line front ≡ true → list_all is_line rest ≡ true → list_all is_line (front ++ rest) ≡ true
 lines-append front rest e f = list_all-append is_line front rest ∙ both (list_all is_line front) (list_all is_line rest) e f
 
 stmts_lines-line : (heads : List Head) (process : List Stmt) → All IsHead heads → All (IsStmt heads) process → list_all is_line (flat_map (stmt_lines heads) process) ≡ true

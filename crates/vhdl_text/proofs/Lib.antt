@@ -1,10 +1,10 @@
 mod Examples
 mod PrintingLemmas
-mod CutLemmas
-mod LineLemmas
+pub mod CutLemmas
+pub mod LineLemmas
 mod StmtLemmas
-mod ProcessSpelling
-mod BenchSpelling
+pub mod ProcessSpelling
+pub mod BenchSpelling
 mod ProcessReading
 mod LineReading
 pub mod BenchReading
@@ -12,8 +12,8 @@ mod CodeLemmas
 mod StreamLemmas
 mod DriverLemmas
 mod StatementLemmas
-mod TakingLemmas
-mod WholeLemmas
+pub mod TakingLemmas
+pub mod WholeLemmas
 pub mod BenchFaults
 pub mod PartLemmas
 pub mod VerilogLemmas

@@ -1,5 +1,5 @@
 -- Which monitors are well formed (this project's own).
-use Rattle.std.specs.Prelude.{◌≡◌, ℕ, ◌≤◌, ◌<◌, ◌-◌, Bool, true, false, List, length, slice_get, Some}
+use Rattle.std.specs.Prelude.{◌^◌, ◌≡◌, ℕ, ◌≤◌, ◌<◌, ◌-◌, Bool, true, false, List, length, slice_get, Some}
 use Rattle.std.specs.List.{All}
 use Rattle.physical_stream.specs.Params.{Parameters}
 use Rattle.physical_stream.specs.declared.head.Head.{Head}
@@ -60,6 +60,8 @@ abbrev mutual
 
 -- a stream of a monitor: the items that it expects and the statements of its process
 pub record IsStream (head : Head) (want : List Item) (process : Statements) : Type 0 where
+  -- the number of each entry has a decimal text
+  pub few : length want < 2 ^ 64
   pub items : All (IsItemOf head.params) want
   pub statements : AreStatements head.params.dims around_process process
 

@@ -5,16 +5,30 @@
 //! benches. What a monitor means is said in `monitor_bench`.
 #![tactic(auto)]
 
+mod begun;
 mod conditions;
 mod entity;
+mod entry;
 mod fault;
+mod forms;
 mod items;
 mod laws;
+mod line_parts;
 mod marks;
+mod nest;
+mod opening;
 mod pieces;
 mod printing;
 mod processes;
+mod reading;
+mod reading_laws;
+mod shape;
+mod shaping;
+mod so_far;
+mod stage;
+mod statement_reading;
 mod statements;
+mod table_reading;
 mod tables;
 mod watch;
 
@@ -22,4 +36,6 @@ pub use fault::WatchFault;
 pub use laws::tables_are_shorter_than_their_text;
 pub use pieces::WatchPieces;
 pub use printing::{print_watch, watch_length};
+pub use reading::read_watch;
+pub use reading_laws::monitors_are_read_as_printed;
 pub use watch::{WStmt, Watch};
