@@ -1,10 +1,8 @@
 -- No text is without a thing that is said of it.
-use Rattle.std.proofs.Common.{◌≡◌, ◌∙◌, Result, Ok, Err, refl, sym, ap, subst}
+use Rattle.std.proofs.Common.{◌≡◌, Result, Ok, Err, refl}
 use Rattle.cycle_trace.specs.Trace.{TraceText, streams_of}
 use Rattle.cycle_trace.specs.TraceText.{trace_of}
 use Rattle.cycle_trace.specs.declared.fault.TraceFault.{TraceFault}
-use Rattle.trace_decode.specs.Outcome.{DifferFirst}
-use Rattle.trace_decode.proofs.LawLemmas.{not_other, one_place}
 use Rattle.trace_decode.proofs.SomeLemmas.{differ_or_same}
 use Rattle.trace_watch.specs.Laws.{SomeWatching}
 use Rattle.trace_watch.specs.Texts.{Misspelled, OtherHeader, Watched}
