@@ -1,5 +1,5 @@
 -- Entries of tables: what is spelled is read.
-use Rattle.std.proofs.Common.{◌≡◌, ℕ, zero, suc, ◌+◌, ◌-◌, ◌<◌, ◌≤◌, ◌^◌, Bool, true, false, nat_lt, cond, List, [], ◌∷◌, ◌++◌, append_assoc, length, Option, Some, None, option_and_then, refl, sym, ap, ◌∙◌, codes, decimal, arith}
+use Rattle.std.proofs.Common.{◌≡◌, ℕ, zero, suc, ◌+◌, ◌-◌, ◌<◌, ◌≤◌, ◌^◌, Bool, true, false, nat_lt, cond, ◌==◌, List, [], ◌∷◌, ◌++◌, append_assoc, length, Option, Some, None, option_and_then, refl, sym, ap, ◌∙◌, codes, decimal, slice_index, arith}
 use Rattle.std.specs.Str.{bytes_eq}
 use Rattle.std.proofs.lemmas.Bool.Decides.{nat_tests}
 use Rattle.std.proofs.lemmas.Fmt.{decimal_injective}
@@ -20,6 +20,14 @@ use Rattle.watch_text.specs.Reading.{behind_number, close_in, cut_before, elem_o
 use Rattle.watch_text.specs.Text.{end_digits, end_line, entry_front, item_digits, item_line, item_width, zeros}
 use Rattle.watch_text.specs.WellFormed.{IsItemOf}
 use Rattle.watch_text.proofs.LineParts.{cut_before-append, other-text, same-front, same-text, without_front-append, without_front-none}
+
+-- ---- bytes that differ
+
+first-clash : (a b : ℕ) (one other : List ℕ) → (a ≡ b → ⊥) → ◌≡◌ {A = List ℕ} (a ∷ one) (b ∷ other) → ⊥
+first-clash a b one other differ same = differ (ap (λ (l : List ℕ). slice_index l 0) same)
+
+second-clash : (first a b : ℕ) (one other : List ℕ) → (a ≡ b → ⊥) → ◌≡◌ {A = List ℕ} (first ∷ a ∷ one) (first ∷ b ∷ other) → ⊥
+second-clash first a b one other differ same = differ (ap (λ (l : List ℕ). slice_index l 1) same)
 
 -- ---- words
 
@@ -48,7 +56,7 @@ module _ (head : Head) (h : IsHead head) where
   -- an end of a sequence is no element
   no-elem : (front rest text : List ℕ) (width : ℕ) → word_in (codes "10" ++ front) width (48 ∷ text) ≡ None
   unfolding word_in
-  no-elem front rest text width = rw (without_front-none (codes "10" ++ front) (48 ∷ text) (λ rest same. absurd cc)) refl
+  no-elem front rest text width = rw (without_front-none (codes "10" ++ front) (48 ∷ text) (λ rest same. first-clash 48 49 text (48 ∷ (front ++ rest)) (λ e. omega (arith, e)) same)) refl
 
   close-spelled : (dim : ℕ) → dim < p.dims → item_of (shape_of head) (item_digits p (items.Close dim) ++ codes "\",") ≡ Some (entries.Item (items.Close dim))
   unfolding item_of shape_of
@@ -67,10 +75,16 @@ module _ (head : Head) (h : IsHead head) where
   item-spelled (items.Elem word) is = elem-spelled word is
   item-spelled (items.Close dim) is = close-spelled dim is
 
+  -- the end begins with two zeros
+  ends_so : end_digits p ++ codes "\"" ≡ 48 ∷ 48 ∷ (zeros (item_width p) ++ codes "\"")
+  ends_so = let two : item_width p + 2 ≡ suc (suc (item_width p)) = omega arith in ap (λ (n : ℕ). zeros n ++ codes "\"") two
+
   -- an item is no end
   no-end : (item : Item) → bytes_eq (item_digits p item ++ codes "\",") (end_digits p ++ codes "\"") ≡ false
-  no-end (items.Elem word) = other-text _ _ (λ same. absurd cc)
-  no-end (items.Close dim) = other-text _ _ (λ same. absurd cc)
+  no-end (items.Elem word) = other-text (item_digits p (items.Elem word) ++ codes "\",") (end_digits p ++ codes "\"") 
+      (λ same. first-clash 49 48 (48 ∷ ((zeros (item_width p - p.element) ++ binary_of word) ++ codes "\",")) (48 ∷ (zeros (item_width p) ++ codes "\"")) (λ e. omega (arith, e)) (same ∙ ends_so))
+  no-end (items.Close dim) = other-text (item_digits p (items.Close dim) ++ codes "\",") (end_digits p ++ codes "\"") 
+      (λ same. second-clash 48 49 48 ((zeros (item_width p - 6) ++ binary_of (bits_of 6 dim)) ++ codes "\",") (zeros (item_width p) ++ codes "\"") (λ e. omega (arith, e)) (same ∙ ends_so))
 
   -- ---- lines
 

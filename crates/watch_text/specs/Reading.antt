@@ -9,6 +9,7 @@ use Rattle.tydi_base.specs.Pieces.{pieces_of}
 use Rattle.tydi_reading.specs.declared.fault.Fault.{Fault}
 use Rattle.tydi_reading.specs.declared.fault.Fault.TheVariants as refusals
 use Rattle.tydi_reading.specs.Reading.{Outcome, took, stopped, Reader, and_then, pure, ◌>>=◌, ◌>>◌, ◌<$>◌}
+use Rattle.tydi_reading.specs.Lists.{mark}
 use Rattle.tydi_reading.specs.Tables.{entry_of}
 use Rattle.physical_stream.specs.declared.head.Head.{Head}
 use Rattle.physical_stream.specs.declared.item.Item.{Item}
@@ -28,7 +29,7 @@ use Rattle.watch_text.specs.declared.entry.Entry.TheVariants as entries
 use Rattle.watch_text.specs.declared.shape.Shape.{Shape}
 use Rattle.watch_text.specs.declared.forms.Forms.{Forms}
 use Rattle.watch_text.specs.Statements.{PlainWatch, Statement, Statements, dims, if_active, if_last, lanes, need_close, need_elem, no_statements, statements_of}
-use Rattle.watch_text.specs.Text.{active_test, close_test, elem_test, end_digits, entity_text, fault_name, if_line, item_width, items_name, last_test, loop_line, process_front, table_line, wait_line, watch_text, zeros}
+use Rattle.watch_text.specs.Text.{active_test, close_test, elem_test, end_digits, entity_text, fault_line, if_line, item_width, items_name, last_test, loop_line, table_line, wait_line, watch_text, zeros}
 use Rattle.watch_text.specs.WellFormed.{Around, IsWellFormed, around_process, in_dim_loop, in_lane_loop, in_test}
 
 -- ---- parts of lines
@@ -39,7 +40,13 @@ without_front front text = if starts_with nat_eq text front then Some (drop (len
 
 -- so many bytes before this text: None where another text, or none, follows them
 unfoldable pub cut_before : ℕ → List ℕ → List ℕ → Option (List ℕ)
-cut_before count back text = if bytes_eq (drop count text) back then Some (take count text) else None
+cut_before count back text = if nat_le count (length text) && bytes_eq (drop count text) back then Some (take count text) else None
+
+-- ---- lines that are given
+
+-- just this line
+abbrev pub a_line : List ℕ → Reader Refusal (List ℕ) (Unit {0})
+a_line wanted = mark (λ next. bytes_eq next wanted)
 
 -- ---- tables
 
@@ -57,7 +64,7 @@ abbrev pub type_front : Head → List ℕ
 type_front head = codes "  type " ⁀ items_name head ⁀ codes " is array (0 to "
 
 abbrev pub type_back : Head → List ℕ
-type_back head = codes ") of std_logic_vector(" ⁀ decimal (suc (item_width head.params)) ⁀ codes " downto 0);"
+type_back head = codes ") of std_logic_vector(" ⁀ decimal (item_width head.params + 1) ⁀ codes " downto 0);"
 
 -- the texts of a table's lines that are the same in all of them, for a stream with these parameters
 unfoldable pub shape_of : Head → Shape
@@ -118,7 +125,7 @@ entries_from shape last found (line ∷ lines) =
 
 -- a table behind the line of its type
 unfoldable pub table_after : Shape → List ℕ → Reader Refusal (List ℕ) (List Item)
-table_after shape last = the_lines (pieces_of 10 shape.table_line) >> entries_from shape last [] >>= (λ want. (λ _. want) <$> the_lines (codes "  );" ∷ []))
+table_after shape last = the_lines (pieces_of 10 shape.table_line) >> entries_from shape last [] >>= (λ want. (λ _. want) <$> a_line (codes "  );"))
 
 -- a table behind the number in the line of its type, or the stop before that line
 abbrev pub with_last : Shape → List (List ℕ) → List (List ℕ) → Option (List ℕ) → Outcome Refusal (List ℕ) (List Item)
@@ -137,6 +144,10 @@ tables_from (head ∷ heads) found = λ lines. and_then (table_of (shape_of head
 
 -- ---- statements
 
+-- the lines of a process before its statements, the last without its LF
+abbrev pub wait_text : Head → List ℕ
+wait_text head = codes "  process\n    variable place : natural := 0;\n  begin\n    loop\n" ⁀ wait_line head
+
 -- the texts of the lines of statements, for a stream
 unfoldable pub forms_of : Head → Forms
 forms_of head = record {
@@ -147,8 +158,8 @@ forms_of head = record {
   last_line = if_line (last_test head);
   elem_line = if_line (elem_test head);
   close_line = if_line (close_test head);
-  fault_line = fault_name head ⁀ codes " <= '1';";
-  wait_text = codes "  process\n    variable place : natural := 0;\n  begin\n    loop\n" ⁀ wait_line head;
+  fault_line = fault_line head;
+  wait_text = wait_text head;
 }
 
 -- the first line of a statement
@@ -332,7 +343,7 @@ no_progress = record { stage = stages.Free; around = around_process; earlier = [
 
 -- the process of a stream
 unfoldable pub process_of : Forms → Reader Refusal (List ℕ) Statements
-process_of forms = the_lines (pieces_of 10 forms.wait_text) >> statements_from forms no_progress >>= (λ process. (λ _. process) <$> the_lines (codes "  end process;" ∷ []))
+process_of forms = the_lines (pieces_of 10 forms.wait_text) >> statements_from forms no_progress >>= (λ process. (λ _. process) <$> a_line (codes "  end process;"))
 
 -- the processes of these streams, behind those of others
 abbrev pub processes_from : List Head → List Statements → Reader Refusal (List ℕ) (List Statements)
@@ -343,11 +354,11 @@ processes_from (head ∷ heads) found = λ lines. and_then (process_of (forms_of
 
 -- the end of a monitor
 unfoldable pub closed : List Head → List (List Item) → List Statements → Reader Refusal (List ℕ) PlainWatch
-closed heads want procs = (λ _. record { heads = heads; want = want; procs = procs }) <$> the_lines (codes "end architecture;" ∷ [])
+closed heads want procs = (λ _. record { heads = heads; want = want; procs = procs }) <$> a_line (codes "end architecture;")
 
 -- a monitor behind its tables
 unfoldable pub processes_of : List Head → List (List Item) → Reader Refusal (List ℕ) PlainWatch
-processes_of heads want = the_lines (codes "begin" ∷ []) >> processes_from heads [] >>= closed heads want
+processes_of heads want = a_line (codes "begin") >> processes_from heads [] >>= closed heads want
 
 -- a monitor of these streams, behind their comments
 unfoldable pub body_of : List Head → Reader Refusal (List ℕ) PlainWatch
@@ -355,7 +366,7 @@ body_of heads = the_lines (pieces_of 10 (entity_text heads)) >> tables_from head
 
 -- the monitor that lines begin with
 unfoldable pub watch_from : Reader Refusal (List ℕ) PlainWatch
-watch_from = the_lines (codes "-- tydi-watch 1" ∷ []) >> heads_from [] >>= body_of
+watch_from = a_line (codes "-- tydi-watch 1") >> heads_from [] >>= body_of
 
 -- a refusal of the line that begins there
 abbrev pub told_at : ℕ → Fault Refusal → WatchFault

@@ -53,7 +53,7 @@ impl Counted for Comments<'_> {
 
 /// The lines after those of the streams, up to the begin of the architecture, the last without its LF.
 #[derive(Clone, Copy)]
-struct Entity<'a>(&'a [Head]);
+pub(crate) struct Entity<'a>(pub(crate) &'a [Head]);
 
 impl Written for Entity<'_> {
     ghost text = { λ entity. entity_text entity.0.now };

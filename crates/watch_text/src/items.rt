@@ -152,14 +152,14 @@ impl Counted for ItemDigits<'_> {
 }
 
 /// The zeros before an element.
-fn element_zeros(params: &Params) -> usize
+pub(crate) fn element_zeros(params: &Params) -> usize
     ensures { result ≡ spec.item_width params.now - params.now.element }
 {
     item_width(params).saturating_sub(params.element as usize)
 }
 
 /// The zeros before the dimension of an end.
-fn close_zeros(params: &Params) -> usize
+pub(crate) fn close_zeros(params: &Params) -> usize
     ensures { result ≡ spec.item_width params.now - 6 }
 {
     item_width(params).saturating_sub(6)

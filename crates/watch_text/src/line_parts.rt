@@ -1,6 +1,6 @@
 //! Parts of lines.
 
-ghost use Rattle.std.specs.Prelude.{◌≡◌, ◌==◌, ◌<◌, length, option_map, replicate};
+ghost use Rattle.std.specs.Prelude.{◌≡◌, ◌==◌, option_map, replicate};
 ghost use Rattle.std.specs.List.{list_all};
 ghost use Rattle.std.specs.Str.{bytes_eq};
 ghost use Rattle.watch_text.specs.Reading as spec;
@@ -22,16 +22,13 @@ pub(crate) fn without_front<'a>(front: &[u8], text: &'a [u8]) -> Option<&'a [u8]
 /// So many bytes before this text. None exactly where another text, or none, follows them.
 #[tactic(auto, unfolding(crate::specs::Reading::cut_before))]
 pub(crate) fn cut_before<'a>(count: usize, back: &[u8], text: &'a [u8]) -> Option<&'a [u8]>
-    requires { 0 < length back.now }
     ensures { option_map (λ front. front.now) result ≡ spec.cut_before count back.now text.now }
 {
-    if text.len() < count {
-        return None;
+    if count <= text.len() && is_same(&text[count..], back) {
+        Some(&text[..count])
+    } else {
+        None
     }
-    if !is_same(&text[count..], back) {
-        return None;
-    }
-    Some(&text[..count])
 }
 
 /// The text of a line that stands so far to the right. None exactly where the line has fewer spaces at its begin.
@@ -41,10 +38,10 @@ pub(crate) fn text_at(line: &[u8], indent: usize) -> Option<&[u8]>
     if line.len() < indent {
         return None;
     }
-    if !are_spaces(&line[..indent]) {
-        return None;
+    if are_spaces(&line[..indent]) {
+        return Some(&line[indent..]);
     }
-    Some(&line[indent..])
+    None
 }
 
 /// Whether each of these bytes is a space.

@@ -88,7 +88,7 @@ impl Counted for ProcessFront<'_> {
 
 /// The line that waits for a transfer.
 #[derive(Clone, Copy)]
-struct WaitLine<'a>(&'a Head);
+pub(crate) struct WaitLine<'a>(pub(crate) &'a Head);
 
 impl Written for WaitLine<'_> {
     ghost text = { λ line. wait_line line.0.now };

@@ -13,6 +13,7 @@ ghost use Rattle.watch_text.specs.Statements.{plain_statements, plain_watch};
 
 use crate::fault::WatchFault;
 use crate::forms::Forms;
+use crate::shaping::entity_of;
 use crate::statement_reading::process_of;
 use crate::table_reading::read_tables;
 use crate::watch::{WStmt, Watch};
@@ -131,5 +132,6 @@ fn read_processes(
 fn expect_entity(alloc: Global, heads: &[Head], lines: &mut Lines<'_>) -> Result<(), Fault>
     ensures { Reads (the_lines (pieces_of 10 (entity_text heads.now)) lines.old) result lines.new }
 {
-    Err(Fault::Memory)
+    let entity = entity_of(alloc, heads)?;
+    expect_lines(lines, entity.as_slice())
 }

@@ -1,6 +1,7 @@
 //! The processes of a monitor, read line by line.
 
-ghost use Rattle.std.specs.Prelude.{◌≡◌, ◌∷◌, ◌++◌, ◌-◌, [], OnOk, codes, map};
+ghost use Rattle.std.specs.Prelude.{◌≡◌, ◌&&◌, not, ◌∷◌, ◌++◌, ◌-◌, [], OnOk, codes, map};
+ghost use Rattle.std.specs.Str.{bytes_eq};
 ghost use Rattle.tydi_base.specs.Reading.{Gives};
 ghost use Rattle.vhdl_text.specs.Lines.{refusal_in};
 ghost use Rattle.watch_text.specs.declared.stage.Stage.TheVariants as stages;
@@ -238,11 +239,25 @@ impl SoFar {
         let Some(inner) = self.begun.pop() else {
             return Err(Fault::Refused);
         };
-        if self.stmts.is_empty() || !is_at(line, inner.nest.indent(), end_of(inner.opening)) {
+        if !self.may_end(&inner, line) {
             return Err(Fault::Refused);
         }
         self.go_back(inner)?;
         Ok(())
+    }
+
+    /// Whether a statement holds one at least, and the line is its last one.
+    fn may_end(&self, inner: &Begun, line: &[u8]) -> bool
+        ensures { result ≡ (not (spec.is_none_of (map plain self.now.stmts)) && bytes_eq line.now (spec.at (spec.indent_of (around_of inner.now.nest)) (spec.end_of inner.now.opening))) }
+    {
+        !self.has_none() && is_at(line, inner.nest.indent(), end_of(inner.opening))
+    }
+
+    /// Whether the innermost list is empty.
+    fn has_none(&self) -> bool
+        ensures { result ≡ spec.is_none_of (map plain self.now.stmts) }
+    {
+        self.stmts.is_empty()
     }
 
     /// Ends a statement with these statements before it.

@@ -174,7 +174,7 @@ pub(crate) enum Block {
 
 /// The line that begins such a statement.
 #[derive(Clone, Copy)]
-struct FirstLine<'a>(&'a Head, Block);
+pub(crate) struct FirstLine<'a>(pub(crate) &'a Head, pub(crate) Block);
 
 impl Written for FirstLine<'_> {
     ghost text = { λ line. first_line line.0.now line.1 };
@@ -234,7 +234,7 @@ impl Counted for LoopLine {
 
 /// The line that begins a test.
 #[derive(Clone, Copy)]
-struct IfLine<T>(T);
+pub(crate) struct IfLine<T>(pub(crate) T);
 
 impl<T: Written + Copy> Written for IfLine<T> {
     ghost text = { λ line. if_line (T.text line.0) };
@@ -252,7 +252,7 @@ impl<T: Counted + Copy> Counted for IfLine<T> {
 
 /// The line that raises the fault of a stream.
 #[derive(Clone, Copy)]
-struct FaultLine<'a>(&'a Head);
+pub(crate) struct FaultLine<'a>(pub(crate) &'a Head);
 
 impl Written for FaultLine<'_> {
     ghost text = { λ line. fault_line line.0.now };

@@ -1,6 +1,6 @@
 //! The tables of a monitor, read line by line.
 
-ghost use Rattle.std.specs.Prelude.{◌≡◌, [], IfOk, None, Some, if◌then◌else◌, option_map};
+ghost use Rattle.std.specs.Prelude.{◌≡◌, [], IfOk, None, Some, if◌then◌else◌, nat_lt, option_map};
 ghost use Rattle.std.specs.Char.{is_ascii_digit};
 ghost use Rattle.std.specs.List.{list_all};
 ghost use Rattle.tydi_base.specs.Decimal as decimals;
@@ -8,6 +8,7 @@ ghost use Rattle.tydi_base.specs.Reading.{Gives, or_fault};
 ghost use Rattle.tydi_reading.specs.declared.fault.Fault.TheVariants as refusals;
 ghost use Rattle.tydi_reading.specs.Reading.{Reads};
 ghost use Rattle.vhdl_text.specs.Lines.{refusal_in};
+ghost use Rattle.physical_stream.specs.declared.item.Item.TheVariants as items;
 ghost use Rattle.watch_text.specs.declared.entry.Entry.TheVariants as entries;
 ghost use Rattle.watch_text.specs.Reading as spec;
 
@@ -223,7 +224,18 @@ fn close_of(dims: u8, bits: &Bits) -> Option<Entry>
     ensures { result ≡ spec.close_in dims (Some bits.now) }
 {
     match bits.number() {
-        Some(number) if number < u128::from(dims) => Some(Entry::Item(Item::Close(number as u8))),
-        _ => None,
+        Some(number) => close_at(dims, number),
+        None => None,
+    }
+}
+
+/// The end of a sequence, where its dimension is in range.
+fn close_at(dims: u8, number: u128) -> Option<Entry>
+    ensures { result ≡ (if nat_lt number dims then Some (entries.Item (items.Close number)) else None) }
+{
+    if number < u128::from(dims) {
+        Some(Entry::Item(Item::Close(number as u8)))
+    } else {
+        None
     }
 }

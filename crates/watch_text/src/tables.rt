@@ -129,7 +129,7 @@ impl Counted for TypeLine<'_> {
 
 /// The line before the entries of a table.
 #[derive(Clone, Copy)]
-struct TableLine<'a>(&'a Head);
+pub(crate) struct TableLine<'a>(pub(crate) &'a Head);
 
 impl Written for TableLine<'_> {
     ghost text = { λ line. table_line line.0.now };
