@@ -11,7 +11,6 @@ pub mod CommandLemmas
 pub mod CompareCauses
 pub mod CompareLemmas
 pub mod CompareLawLemmas
-pub mod MonitorFaults
 pub mod MonitorLemmas
 pub mod SeenLemmas
 pub mod WatchCauses

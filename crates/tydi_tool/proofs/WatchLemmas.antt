@@ -1,10 +1,15 @@
 -- The text of a monitor is read in one way, and always; and so is the text of a trace beside it. What is said of the streams has a line for each.
-use Rattle.std.proofs.Common.{◌≡◌, ◌∙◌, ℕ, suc, ◌+◌, ◌<◌, ◌≤◌, ◌^◌, ◌-◌, inl, inr, List, [], ◌∷◌, ◌++◌, length, drop, Option, Some, None, Result, Ok, Err, IfOk, refl, sym, ap, subst, arith, slice_get, add-one, append_assoc}
+use Rattle.std.proofs.Common.{◌≡◌, ◌∙◌, ℕ, suc, ◌+◌, ◌<◌, ◌≤◌, ◌^◌, ◌-◌, ◌==◌, inl, inr, Bool, true, false, if◌then◌else◌, List, [], ◌∷◌, ◌++◌, length, drop, Option, Some, None, Result, Ok, Err, IfOk, refl, sym, ap, subst, arith, slice_get, add-one, append_assoc}
 use Rattle.std.specs.Prelude.{MatchOption}
 use Rattle.std.specs.List.{All}
 use Rattle.std.proofs.lemmas.List.{append-nil}
 use Rattle.std.proofs.lemmas.List.Elements.{All-cons, All-head, All-nil, All-tail}
+use Rattle.tydi_base.specs.Pieces.{pieces_of}
 use Rattle.tydi_io.specs.Store.{Files}
+use Rattle.tydi_reading.specs.Reading.{Outcome, stopped, took}
+use Rattle.vhdl_text.specs.Lines.{Cut, cut_last}
+use Rattle.vhdl_text.specs.Reading.{offset_of}
+use Rattle.vhdl_text.specs.declared.refusal.Refusal.{Refusal as Refused}
 use Rattle.handshake.proofs.CursorLemmas.{drop-is}
 use Rattle.cycle_trace.specs.Trace.{TraceText, streams_of}
 use Rattle.cycle_trace.specs.TraceText.{trace_of}
@@ -22,7 +27,7 @@ use Rattle.trace_watch.specs.Watched.{watched_of}
 use Rattle.trace_watch.specs.declared.fault.WatchTraceFault.TheVariants as faults
 use Rattle.trace_watch.specs.declared.watched.StreamWatched.{StreamWatched}
 use Rattle.watch_text.specs.Lengths.{TablesAreShorterThanTheirText}
-use Rattle.watch_text.specs.Reading.{MonitorsArePrintedAsRead, watch_of}
+use Rattle.watch_text.specs.Reading.{MonitorsArePrintedAsRead, watch_from, watch_in, watch_of, whole}
 use Rattle.watch_text.specs.Reading as watches
 use Rattle.watch_text.specs.Statements.{PlainWatch, plain_watch}
 use Rattle.watch_text.specs.Text.{watch_text}
@@ -48,12 +53,35 @@ use Rattle.tydi_tool.specs.Words.{FileWord, monitor_file}
 use Rattle.tydi_tool.proofs.AnswerLemmas.{RefusesBy-line, not_read}
 use Rattle.tydi_tool.proofs.BenchLemmas.{result-apart, result-lines, result-read, result-same, result-some}
 use Rattle.tydi_tool.proofs.CauseSteps.{found_bytes}
-use Rattle.tydi_tool.proofs.MonitorFaults.{watches_free}
 use Rattle.tydi_tool.proofs.SeenLemmas.{many-processes, many-watched}
 use Rattle.tydi_tool.proofs.SomeLemmas.{RefusesBy-trace}
 use Rattle.tydi_tool.proofs.TextLemmas.{refused-as}
 
 -- ---- a monitor
+
+same_error : (one other : WatchFault) → ◌≡◌ {A = Result PlainWatch WatchFault} (Err one) (Err other) → one ≡ other
+same_error one other is = cc
+
+not_memory : (offset : ℕ) → watching.NotForm offset ≡ watching.Memory → ⊥
+not_memory offset is = cc
+
+-- the error of a monitor's text is never want of memory
+whole-free : (end : ℕ) (cut_off : List ℕ) (outcome : Outcome Refused (List ℕ) PlainWatch) → whole end cut_off outcome ≡ Err watching.Memory → ⊥
+whole-free end cut_off (took watch []) is = by (length cut_off == 0) is
+  where
+    by : (test : Bool) → ◌≡◌ {A = Result PlainWatch WatchFault} (if test then Ok watch else Err (watching.NotForm end)) (Err watching.Memory) → ⊥
+    by true is = cc
+    by false is = not_memory end (same_error (watching.NotForm end) watching.Memory is)
+whole-free end cut_off (took watch (line ∷ lines)) is = not_memory (offset_of end (line ∷ lines)) (same_error (watching.NotForm (offset_of end (line ∷ lines))) watching.Memory is)
+whole-free end cut_off (stopped e lines) is = not_memory (offset_of end lines) (same_error (watching.NotForm (offset_of end lines)) watching.Memory is)
+
+watches_free : (text : List ℕ) → watch_of text ≡ Err watching.Memory → ⊥
+unfolding watch_of
+watches_free text is = by (cut_last 10 text) is
+  where
+    by : (cut : Option Cut) → watch_in cut ≡ Err watching.Memory → ⊥
+    by None is = not_memory 0 (same_error (watching.NotForm 0) watching.Memory is)
+    by (Some cut) is = whole-free (length cut.front + 1) cut.back (watch_from (pieces_of 10 cut.front)) is
 
 pub ReadsWatch-once : (word : List ℕ) → ReadsOnce (ReadsWatch word)
 ReadsWatch-once word = record {
