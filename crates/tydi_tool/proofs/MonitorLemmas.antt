@@ -244,13 +244,14 @@ name-length head =
     let three : length (codes "items") ≡ 5 = refl in
     omega (arith, whole, one, two, three)
 
+type-sum : (first name middle digits rest path all : ℕ) → first ≡ 7 → middle ≡ 16 → 8 + path ≡ name → first + (name + (middle + (digits + rest))) ≡ all → 31 + (path + digits) ≤ all
+type-sum first name middle digits rest path all one two three sum = omega (arith, one, two, three, sum)
+
 type-length : (head : Head) (last : ℕ) → 31 + (length (path_text head.path) + length (decimal last)) ≤ length (type_line head last)
 type-length head last =
-    let rest = codes ") of std_logic_vector(" ++ (decimal (suc (item_width head.params)) ++ codes " downto 0);") in
-    let whole = parts-length (codes "  type ") (items_name head) (codes " is array (0 to ") (decimal last) rest in
-    let one : length (codes "  type ") ≡ 7 = refl in
-    let two : length (codes " is array (0 to ") ≡ 16 = refl in
-    omega (arith, whole, one, two, name-length head)
+    let rest = codes ") of std_logic_vector(" ++ (decimal (item_width head.params + 1) ++ codes " downto 0);") in
+    type-sum (length (codes "  type ")) (length (items_name head)) (length (codes " is array (0 to ")) (length (decimal last)) (length rest) (length (path_text head.path)) (length (type_line head last))
+    refl refl (name-length head) (parts-length (codes "  type ") (items_name head) (codes " is array (0 to ") (decimal last) rest)
 
 front-length : (head : Head) (last : ℕ) → length (type_line head last) ≤ length (table_front head last)
 front-length head last = omega (arith, length-append (type_line head last) (codes "\n" ++ (table_line head ++ codes "\n")))
