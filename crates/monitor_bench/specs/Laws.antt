@@ -1,4 +1,4 @@
--- What a monitor reports, by the items that are done alone (this project's own).
+-- The reports of a monitor, by the items that are done alone (this project's own).
 use Rattle.std.specs.Prelude.{◌≡◌, ℕ, suc, ◌<◌, List, length, take, Option, Some, None, slice_get}
 use Rattle.physical_stream.specs.Cycles.{Cycle, items_done}
 use Rattle.physical_stream.specs.Params.{Parameters}
@@ -29,5 +29,6 @@ pub record ReportsFirstOther (process : Process) (cycles : List Cycle) : Type 0 
 
 -- so does each process of the monitor of a port, for all cycles of its stream
 abbrev pub MonitorsReport : Type 0
-MonitorsReport = (split : PlainSplit) (items : List (List Item)) (stream : ℕ) (process : Process) → slice_get (processes_of (monitor_of split items)) stream ≡ Some process
+MonitorsReport = (split : PlainSplit) (items : List (List Item)) (stream : ℕ) (process : Process)
+    → slice_get (processes_of (monitor_of split items)) stream ≡ Some process
     → (cycles : List Cycle) → ReportsFirstOther process cycles

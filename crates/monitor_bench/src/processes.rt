@@ -33,7 +33,8 @@ impl Processes {
 
     /// Makes one edge of the process of this number, at which its stream has this row. The others stay. It takes no memory.
     pub fn edge(&mut self, watch: &Watch, stream: usize, row: Row<'_>)
-        requires { (cycles : ℕ → List Cycle) × (AreAfter (plain_watch watch.now) cycles self.old × CanTakeEdge (plain_watch watch.now) cycles stream (cycle_in row)) }
+        requires { (cycles : ℕ → List Cycle) × (AreAfter (plain_watch watch.now) cycles self.old
+            × CanTakeEdge (plain_watch watch.now) cycles stream (cycle_in row)) }
         ensures { (cycles : ℕ → List Cycle) → AreAfter (plain_watch watch.now) cycles self.old
             → AreAfter (plain_watch watch.now) (with_cycle stream (cycle_in row.entry) cycles) self.new }
     {

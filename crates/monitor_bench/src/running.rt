@@ -25,7 +25,7 @@ pub(crate) struct Running {
     pub(crate) word: Bits,
 }
 
-/// What an edge has for the statements of a process.
+/// The things that the statements of a process look at.
 #[derive(Clone, Copy)]
 pub(crate) struct Edge<'a> {
     /// The parameters of the stream.
@@ -76,7 +76,8 @@ impl Running {
     #[cycle(run)]
     fn run_all(&mut self, edge: &Edge<'_>, lane: u16, dim: u8, statements: &[WStmt])
         requires { CanRun edge.now lane dim self.old }
-        ensures { Steps (meaning.run_all edge.now.params.now edge.now.want.now edge.now.transfer.now lane dim (plain_statements statements.now)) self.old self.new }
+        ensures { Steps (meaning.run_all edge.now.params.now edge.now.want.now edge.now.transfer.now lane dim (plain_statements statements.now))
+            self.old self.new }
     {
         'statements: for statement in statements {
             self.run(edge, lane, dim, statement);
@@ -111,7 +112,8 @@ impl Running {
     #[cycle(run)]
     fn run_lanes(&mut self, edge: &Edge<'_>, dim: u8, body: &[WStmt])
         requires { CanRun edge.now 0 dim self.old }
-        ensures { Steps (for_each (λ lane. meaning.run_all edge.now.params.now edge.now.want.now edge.now.transfer.now lane dim (plain_statements body.now)) edge.now.params.now.lanes) self.old self.new }
+        ensures { Steps (for_each (λ lane. meaning.run_all edge.now.params.now edge.now.want.now edge.now.transfer.now lane dim (plain_statements body.now))
+            edge.now.params.now.lanes) self.old self.new }
     {
         let p = edge.params;
         'lanes: for lane in 0..p.lanes {
@@ -123,7 +125,8 @@ impl Running {
     #[cycle(run)]
     fn run_dims(&mut self, edge: &Edge<'_>, lane: u16, body: &[WStmt])
         requires { CanRun edge.now lane 0 self.old }
-        ensures { Steps (for_each (λ dim. meaning.run_all edge.now.params.now edge.now.want.now edge.now.transfer.now lane dim (plain_statements body.now)) edge.now.params.now.dims) self.old self.new }
+        ensures { Steps (for_each (λ dim. meaning.run_all edge.now.params.now edge.now.want.now edge.now.transfer.now lane dim (plain_statements body.now))
+            edge.now.params.now.dims) self.old self.new }
     {
         let p = edge.params;
         'dims: for dim in 0..p.dims {

@@ -31,7 +31,8 @@ impl WatchSim {
 
     /// Makes one edge of the process of this number, at which its stream has this row. The others stay. It takes no memory.
     pub fn edge(&mut self, stream: usize, row: Row<'_>)
-        requires { (watch : PlainWatch) × ((cycles : ℕ → List Cycle) × (StandsFor self.old watch cycles × CanTakeEdge watch cycles stream (cycle_in row))) }
+        requires { (watch : PlainWatch) × ((cycles : ℕ → List Cycle) × (StandsFor self.old watch cycles
+            × CanTakeEdge watch cycles stream (cycle_in row))) }
         ensures { (watch : PlainWatch) (cycles : ℕ → List Cycle) → StandsFor self.old watch cycles
             → StandsFor self.new watch (with_cycle stream (cycle_in row.entry) cycles) }
     {

@@ -1,4 +1,4 @@
--- What is said of a text that a watcher was fed.
+-- The answer for a text that a watcher was fed.
 use Rattle.std.proofs.Common.{◌≡◌, ℕ, List, Option, Some, None, IfSome, Result, Ok, Err, MatchOption}
 use Rattle.std.specs.Option.{option_map}
 use Rattle.cycle_trace.specs.Beginnings.{IsFault}

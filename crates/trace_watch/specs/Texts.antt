@@ -1,4 +1,4 @@
--- What a monitor says of the text of a trace (this project's own).
+-- The answer of a monitor for the text of a trace (this project's own).
 use Rattle.std.specs.Prelude.{◌≡◌, ℕ, List, Option, Some, None, IfSome, Result, Ok, Err}
 use Rattle.std.specs.Option.{option_map}
 use Rattle.cycle_trace.specs.Faults.{fault_in}
@@ -15,7 +15,7 @@ use Rattle.trace_watch.specs.declared.fault.WatchTraceFault.TheVariants as fault
 use Rattle.trace_watch.specs.declared.text_watcher.TextWatcher.{TextWatcher}
 use Rattle.trace_watch.specs.declared.watched.StreamWatched.{StreamWatched}
 
--- what is said of a text: its first error, the first place at which its heads are not those of the monitor, or what each process says of its stream
+-- the thing that is said of a text: its first error, the first place at which its heads are not those of the monitor, or the answer of each process
 pub data Watching : Type 0 where
   Misspelled : TraceFault → Watching
   OtherHeader : ℕ → Watching

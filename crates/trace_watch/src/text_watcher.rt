@@ -44,7 +44,7 @@ impl<'w> TextWatcher<'w> {
         self.reader.feed(alloc, piece)
     }
 
-    /// What each process of the monitor says of its stream, in the order of the streams. It fails with the first error of the text, and where the
+    /// The answer of each process of the monitor for its stream, in the order of the streams. It fails with the first error of the text, and where the
     /// text is a trace, with the first place at which its heads are not those of the monitor. `Memory` comes where it came before, or where there
     /// is none for the answer.
     pub fn finish(self, alloc: Global) -> Result<List<StreamWatched>, WatchTraceFault>

@@ -48,14 +48,15 @@ impl WatchRun {
         self.rows += 1;
     }
 
-    /// What each process says of its stream. `Memory` comes where there is none for it.
+    /// The answer of each process for its stream. `Memory` comes where there is none for it.
     pub(crate) fn watched(
         &self,
         alloc: Global,
         watch: &Watch,
     ) -> Result<List<StreamWatched>, Memory>
         requires { (t : TraceText) × RunsOver (plain_watch watch.now) t self.now }
-        ensures { (t : TraceText) → RunsOver (plain_watch watch.now) t self.now → IfOk result (λ found. found ≡ watched_of (plain_watch watch.now) (streams_of t)) }
+        ensures { (t : TraceText) → RunsOver (plain_watch watch.now) t self.now
+            → IfOk result (λ found. found ≡ watched_of (plain_watch watch.now) (streams_of t)) }
     {
         let mut found = List::new(alloc);
         'streams: for stream in 0..watch.heads.len() {
@@ -65,7 +66,7 @@ impl WatchRun {
     }
 }
 
-/// What the process of this number says of its stream.
+/// The answer of the process of this number for its stream.
 fn watched_at(processes: &Processes, stream: usize) -> StreamWatched
     requires { stream < length processes.now.each.items }
     ensures { (watch : PlainWatch) (cycles : ℕ → List Cycle) (process : Process) → AreAfter watch cycles processes.now

@@ -1,4 +1,4 @@
-/// What a process of a monitor says of its stream.
+/// The answer of a process of a monitor for its stream.
 #[derive(Clone, Copy, Debug, PartialEq, Eq)]
 pub struct StreamWatched {
     /// How many items were as expected, up to the first that was not.

@@ -80,7 +80,7 @@ impl<'w> Watcher<'w> {
         }
     }
 
-    /// What is said of the rows that it was given. `Memory` comes where there is none for it.
+    /// The answer for the rows that it was given. `Memory` comes where there is none for it.
     pub(crate) fn finish(self, alloc: Global) -> Result<List<StreamWatched>, WatchTraceFault>
         requires { (t : TraceText) × WatcherStands self (Some t) }
         ensures { (t : TraceText) → WatcherStands self.entry (Some t) → IsWatchedTrace (watch_in self.entry) t result }

@@ -27,12 +27,6 @@ plain-IfActive body = ap plain (sym (stmts.rolls-IfActive body)) ∙ fold-roll-W
 pub plain-IfLast : (body : List WStmt) → plain (stmts.IfLast body) ≡ if_last (plain_statements body)
 plain-IfLast body = ap plain (sym (stmts.rolls-IfLast body)) ∙ fold-roll-WStmt Statement plain_layer (WStmt-F.IfLast body) ∙ ap if_last (statements_of-map body)
 
-pub plain-NeedElem : plain stmts.NeedElem ≡ need_elem
-plain-NeedElem = ap plain (sym stmts.rolls-NeedElem) ∙ fold-roll-WStmt Statement plain_layer WStmt-F.NeedElem
-
-pub plain-NeedClose : plain stmts.NeedClose ≡ need_close
-plain-NeedClose = ap plain (sym stmts.rolls-NeedClose) ∙ fold-roll-WStmt Statement plain_layer WStmt-F.NeedClose
-
 -- ---- how large it is
 
 abbrev mutual

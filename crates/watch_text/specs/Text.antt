@@ -95,7 +95,8 @@ end_line p number = entry_front number ⁀ end_digits p ⁀ codes "\""
 
 -- the line of the type of a table whose end has this number
 abbrev pub type_line : Head → ℕ → List ℕ
-type_line head last = codes "  type " ⁀ items_name head ⁀ codes " is array (0 to " ⁀ decimal last ⁀ codes ") of std_logic_vector(" ⁀ decimal (item_width head.params + 1) ⁀ codes " downto 0);"
+type_line head last =
+    codes "  type " ⁀ items_name head ⁀ codes " is array (0 to " ⁀ decimal last ⁀ codes ") of std_logic_vector(" ⁀ decimal (item_width head.params + 1) ⁀ codes " downto 0);"
 
 -- the line before the entries of a table
 abbrev pub table_line : Head → List ℕ
@@ -138,7 +139,7 @@ where_has has test = if has then test ∷ [] else []
 abbrev pub stai_test : Head → List ℕ
 stai_test head = codes "to_integer(unsigned(" ⁀ name_text head signals.Stai ⁀ codes ")) <= lane"
 
--- nor above the last one
+-- the lane is not above the last one that may be active
 abbrev pub endi_test : Head → List ℕ
 endi_test head = codes "lane <= to_integer(unsigned(" ⁀ name_text head signals.Endi ⁀ codes "))"
 
