@@ -17,4 +17,4 @@ pub use making::{monitor, monitor_of};
 pub use process_sim::ProcessSim;
 pub use processes::Processes;
 pub use watch_sim::WatchSim;
-pub use watch_text::{WStmt, Watch, WatchFault, print_watch};
+pub use watch_text::{WStmt, Watch, WatchFault, print_watch, read_watch};

@@ -65,7 +65,7 @@ record HeadRead (paths : List (List ℕ)) (line : List ℕ) (head : Head) : Type
   room : length paths < 65536
   new : list_any (bytes_eq (path_text head.path)) paths ≡ false
 
-not-true : (test : Bool) → not test ≡ true → test ≡ false
+pub not-true : (test : Bool) → not test ≡ true → test ≡ false
 not-true true e = absurd cc
 not-true false e = refl
 

@@ -192,7 +192,7 @@ digits_in-some (Some parts) digits e = by_test (bytes_eq parts.front (codes " <=
         let inside = same_Some parts.inside digits e in
         (parts, refl, parts-are parts.front parts.inside parts.back (codes " <= ") digits (codes ";") front inside back)
 
-sized-some : (width : ℕ) (digits : List ℕ) (bits : List Bool) → binary_word_at width digits ≡ Some bits → (digits ≡ binary_of bits) × (length bits ≡ width)
+pub sized-some : (width : ℕ) (digits : List ℕ) (bits : List Bool) → binary_word_at width digits ≡ Some bits → (digits ≡ binary_of bits) × (length bits ≡ width)
 unfolding binary_word_at
 sized-some width digits bits e = by_test (length digits == width) refl e
   where

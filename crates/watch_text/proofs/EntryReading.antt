@@ -1,18 +1,17 @@
 -- Entries of tables: what is read is spelled so.
-use Rattle.std.proofs.Common.{◌≡◌, ℕ, suc, ◌+◌, ◌-◌, ◌<◌, ◌≤◌, ◌^◌, ◌==◌, Bool, true, false, nat_lt, cond, List, [], ◌∷◌, ◌++◌, append_assoc, append-nil, length, Option, Some, None, option_and_then, refl, sym, ap, ◌∙◌, codes, decimal, arith}
+use Rattle.std.proofs.Common.{◌≡◌, ℕ, ◌-◌, ◌<◌, ◌^◌, Bool, true, false, nat_lt, cond, List, ◌++◌, append_assoc, append-nil, length, Option, Some, None, option_and_then, refl, sym, ap, ◌∙◌, codes, decimal, arith}
 use Rattle.std.specs.Str.{bytes_eq}
-use Rattle.std.proofs.lemmas.Bool.{eqb-true}
 use Rattle.std.proofs.lemmas.Bool.Decides.{nat_tests}
 use Rattle.std.proofs.lemmas.Option.{none-some, same_Some, option_and_then_some}
 use Rattle.std.proofs.lemmas.Slice.Eq.{bytes_eq-Decides}
-use Rattle.tydi_base.specs.Binary.{binary_of, binary_word, binary_word_at}
+use Rattle.tydi_base.specs.Binary.{binary_of, binary_word_at}
 use Rattle.tydi_base.specs.Bits.{bits_of, number_of_bits}
-use Rattle.tydi_base.proofs.BinaryLemmas.{binary_read}
 use Rattle.tydi_base.proofs.BitsLemmas.{bits_of-number_of_bits}
 use Rattle.physical_stream.specs.Params.{Parameters}
 use Rattle.physical_stream.specs.declared.head.Head.{Head}
 use Rattle.physical_stream.specs.declared.item.Item.{Item}
 use Rattle.physical_stream.specs.declared.item.Item.TheVariants as items
+use Rattle.vhdl_text.proofs.LineLemmas.{sized-some}
 use Rattle.watch_text.specs.declared.entry.Entry.{Entry}
 use Rattle.watch_text.specs.declared.entry.Entry.TheVariants as entries
 use Rattle.watch_text.specs.Reading.{behind_number, close_in, cut_before, elem_or, entry_at, entry_of_line, item_of, shape_of, without_front, word_in}
@@ -21,14 +20,6 @@ use Rattle.watch_text.specs.WellFormed.{IsItemOf}
 use Rattle.watch_text.proofs.LineParts.{cut_before-some, without_front-some}
 
 -- ---- words
-
-sized-some : (width : ℕ) (digits : List ℕ) (bits : List Bool) → binary_word_at width digits ≡ Some bits → (digits ≡ binary_of bits) × (length bits ≡ width)
-unfolding binary_word_at
-sized-some width digits bits e = by_test (length digits == width) refl e
-  where
-    by_test : (test : Bool) → (length digits == width) ≡ test → cond test (binary_word digits) None ≡ Some bits → (digits ≡ binary_of bits) × (length bits ≡ width)
-    by_test true is e = let read = binary_read digits bits e in (read.0, read.1 ∙ eqb-true (length digits) width is)
-    by_test false is e = absurd (none-some bits e)
 
 -- a word that was read behind a front
 pub record WordRead (front : List ℕ) (width : ℕ) (text : List ℕ) (bits : List Bool) : Type 0 where
@@ -39,13 +30,13 @@ pub word_in-some : (front : List ℕ) (width : ℕ) (text : List ℕ) (bits : Li
 unfolding word_in
 word_in-some front width text bits e =
     option_and_then_some {A = List ℕ} {B = List Bool} {P = WordRead front width text bits} (binary_word_at width) (option_and_then (cut_before width (codes "\",")) (without_front front text)) bits e (λ digits cut word.
-        option_and_then_some {A = List ℕ} {B = List ℕ} {P = WordRead front width text bits} (cut_before width (codes "\",")) (without_front front text) digits cut (λ rest there before.
-            let read = sized-some width digits bits word in
-            record {
-              spelled = without_front-some front text rest there
-                  ∙ ap (λ (t : List ℕ). front ++ t) (cut_before-some width (codes "\",") rest digits before ∙ ap (λ (t : List ℕ). t ++ codes "\",") read.0);
-              wide = read.1;
-            }))
+    option_and_then_some {A = List ℕ} {B = List ℕ} {P = WordRead front width text bits} (cut_before width (codes "\",")) (without_front front text) digits cut (λ rest there before.
+    let read = sized-some width digits bits word in
+    record {
+      spelled = without_front-some front text rest there
+          ∙ ap (λ (t : List ℕ). front ++ t) (cut_before-some width (codes "\",") rest digits before ∙ ap (λ (t : List ℕ). t ++ codes "\",") read.0);
+      wide = read.1;
+    }))
 
 -- ---- items
 
@@ -112,10 +103,10 @@ module _ (head : Head) where
   unfolding behind_number
   behind_number-some number line rest e =
       option_and_then_some {A = List ℕ} {B = List ℕ} {P = line ≡ entry_front number ++ rest} (without_front (codes " => \"")) (option_and_then (without_front (decimal number)) (without_front (codes "    ") line)) rest e (λ after found last.
-          option_and_then_some {A = List ℕ} {B = List ℕ} {P = line ≡ entry_front number ++ rest} (without_front (decimal number)) (without_front (codes "    ") line) after found (λ spelled there digits.
-              without_front-some (codes "    ") line spelled there
-              ∙ ap (λ (t : List ℕ). codes "    " ++ t) (without_front-some (decimal number) spelled after digits ∙ ap (λ (t : List ℕ). decimal number ++ t) (without_front-some (codes " => \"") after rest last)
-              ∙ sym (append_assoc (decimal number) (codes " => \"") rest))))
+      option_and_then_some {A = List ℕ} {B = List ℕ} {P = line ≡ entry_front number ++ rest} (without_front (decimal number)) (without_front (codes "    ") line) after found (λ spelled there digits.
+      without_front-some (codes "    ") line spelled there
+      ∙ ap (λ (t : List ℕ). codes "    " ++ t) (without_front-some (decimal number) spelled after digits ∙ ap (λ (t : List ℕ). decimal number ++ t) (without_front-some (codes " => \"") after rest last)
+      ∙ sym (append_assoc (decimal number) (codes " => \"") rest))))
 
   -- the line of an item, or that of the end
   pub data LineRead (last : List ℕ) (number : ℕ) (line : List ℕ) (entry : Entry) : Type 0 where
@@ -144,4 +135,4 @@ module _ (head : Head) where
       by_few true is e =
           let few : number < 2 ^ 64 = grind (arith, nat_tests) in
           option_and_then_some {A = List ℕ} {B = Entry} {P = LineRead last number line entry} (entry_at (shape_of head) (bytes_eq (decimal number) last)) (behind_number (decimal number) line) entry e (λ text found entry_is.
-              by_last text few (behind_number-some number line text found) (bytes_eq text (end_digits p ++ codes "\"")) (bytes_eq (decimal number) last) refl refl entry_is)
+          by_last text few (behind_number-some number line text found) (bytes_eq text (end_digits p ++ codes "\"")) (bytes_eq (decimal number) last) refl refl entry_is)

@@ -1,9 +1,8 @@
 -- Entries of tables: what is spelled is read.
-use Rattle.std.proofs.Common.{◌≡◌, ℕ, zero, suc, ◌+◌, ◌-◌, ◌<◌, ◌≤◌, ◌^◌, Bool, true, false, nat_lt, cond, ◌==◌, List, [], ◌∷◌, ◌++◌, append_assoc, length, Option, Some, None, option_and_then, refl, sym, ap, ◌∙◌, codes, decimal, slice_index, arith}
+use Rattle.std.proofs.Common.{◌≡◌, ℕ, suc, ◌+◌, ◌-◌, ◌<◌, ◌^◌, Bool, true, false, nat_lt, ◌==◌, List, [], ◌∷◌, ◌++◌, append_assoc, length, Some, None, refl, sym, ap, ◌∙◌, codes, decimal, slice_index, arith}
 use Rattle.std.specs.Str.{bytes_eq}
 use Rattle.std.proofs.lemmas.Bool.Decides.{nat_tests}
 use Rattle.std.proofs.lemmas.Fmt.{decimal_injective}
-use Rattle.std.proofs.lemmas.Option.{none-some, same_Some}
 use Rattle.tydi_base.specs.Binary.{binary_of, binary_word_at}
 use Rattle.tydi_base.specs.Bits.{bits_of, number_of_bits}
 use Rattle.tydi_base.proofs.BinaryLemmas.{binary_spelled}
@@ -14,12 +13,11 @@ use Rattle.physical_stream.specs.declared.head.Head.{Head}
 use Rattle.physical_stream.specs.declared.item.Item.{Item}
 use Rattle.physical_stream.specs.declared.item.Item.TheVariants as items
 use Rattle.vhdl_text.proofs.LineLemmas.{length-binary}
-use Rattle.watch_text.specs.declared.entry.Entry.{Entry}
 use Rattle.watch_text.specs.declared.entry.Entry.TheVariants as entries
-use Rattle.watch_text.specs.Reading.{behind_number, close_in, cut_before, elem_or, entry_at, entry_of_line, item_of, shape_of, without_front, word_in}
+use Rattle.watch_text.specs.Reading.{behind_number, entry_of_line, item_of, shape_of, word_in}
 use Rattle.watch_text.specs.Text.{end_digits, end_line, entry_front, item_digits, item_line, item_width, zeros}
 use Rattle.watch_text.specs.WellFormed.{IsItemOf}
-use Rattle.watch_text.proofs.LineParts.{cut_before-append, other-text, same-front, same-text, without_front-append, without_front-none}
+use Rattle.watch_text.proofs.LineParts.{cut_before-append, other-text, same-text, without_front-append, without_front-none}
 
 -- ---- bytes that differ
 
@@ -81,9 +79,9 @@ module _ (head : Head) (h : IsHead head) where
 
   -- an item is no end
   no-end : (item : Item) → bytes_eq (item_digits p item ++ codes "\",") (end_digits p ++ codes "\"") ≡ false
-  no-end (items.Elem word) = other-text (item_digits p (items.Elem word) ++ codes "\",") (end_digits p ++ codes "\"") 
+  no-end (items.Elem word) = other-text (item_digits p (items.Elem word) ++ codes "\",") (end_digits p ++ codes "\"")
       (λ same. first-clash 49 48 (48 ∷ ((zeros (item_width p - p.element) ++ binary_of word) ++ codes "\",")) (48 ∷ (zeros (item_width p) ++ codes "\"")) (λ e. omega (arith, e)) (same ∙ ends_so))
-  no-end (items.Close dim) = other-text (item_digits p (items.Close dim) ++ codes "\",") (end_digits p ++ codes "\"") 
+  no-end (items.Close dim) = other-text (item_digits p (items.Close dim) ++ codes "\",") (end_digits p ++ codes "\"")
       (λ same. second-clash 48 49 48 ((zeros (item_width p - 6) ++ binary_of (bits_of 6 dim)) ++ codes "\",") (zeros (item_width p) ++ codes "\"") (λ e. omega (arith, e)) (same ∙ ends_so))
 
   -- ---- lines

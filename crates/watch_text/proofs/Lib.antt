@@ -15,3 +15,6 @@ mod ItemLemmas
 mod PrintingLemmas
 mod PieceLemmas
 mod TableLengths
+mod WatchSpelling
+mod WatchReading
+mod WholeSteps

@@ -1,31 +1,15 @@
 -- Parts of lines: what stands behind a front, and before a back.
-use Rattle.std.proofs.Common.{◌≡◌, ℕ, zero, Bool, true, false, cond, List, [], ◌∷◌, ◌++◌, append_assoc, length, length-append, nat_le, ◌&&◌, take, drop, Option, Some, None, refl, sym, ap, ◌∙◌, nat_eq, suc, ◌<◌, ◌-◌, ◌≤◌, ◌==◌, replicate, arith}
+use Rattle.std.proofs.Common.{◌≡◌, ℕ, zero, Bool, true, false, cond, List, [], ◌∷◌, ◌++◌, length, length-append, nat_le, ◌&&◌, take, drop, Option, Some, None, refl, sym, ap, ◌∙◌, nat_eq, suc, ◌<◌, ◌≤◌, ◌==◌, replicate, arith}
 use Rattle.std.proofs.lemmas.Bool.{eqb-true}
 use Rattle.tydi_base.proofs.PlainWords.{and_parts}
 use Rattle.std.specs.List.{list_all, starts_with}
 use Rattle.std.specs.Str.{bytes_eq}
+use Rattle.std.proofs.Math.Seq.{drop-append_seam, take-append_seam}
 use Rattle.std.proofs.lemmas.Bool.Decides.{Decides-eqb, nat_tests}
+use Rattle.std.proofs.lemmas.List.{append_cancel_left, take-append-drop}
 use Rattle.std.proofs.lemmas.Option.{none-some, same_Some}
 use Rattle.std.proofs.lemmas.Slice.Eq.{bytes_eq-Decides, starts_is}
 use Rattle.watch_text.specs.Reading.{cut_before, without_front}
-
--- ---- lists
-
-pub drop-front : (front rest : List ℕ) → drop (length front) (front ++ rest) ≡ rest
-drop-front [] rest = refl
-drop-front (byte ∷ front) rest = drop-front front rest
-
-pub take-front : (front rest : List ℕ) → take (length front) (front ++ rest) ≡ front
-take-front [] rest = refl
-take-front (byte ∷ front) rest = ap (λ (l : List ℕ). byte ∷ l) (take-front front rest)
-
-pub take-drop : (count : ℕ) (text : List ℕ) → text ≡ take count text ++ drop count text
-take-drop zero text = refl
-take-drop (suc count) [] = refl
-take-drop (suc count) (byte ∷ text) = ap (λ (l : List ℕ). byte ∷ l) (take-drop count text)
-
-pub same-front : (front one other : List ℕ) → front ++ one ≡ front ++ other → one ≡ other
-same-front front one other e = sym (drop-front front one) ∙ ap (drop (length front)) e ∙ drop-front front other
 
 -- ---- tests of texts
 
@@ -53,7 +37,7 @@ pub without_front-append : (front rest : List ℕ) → without_front front (fron
 unfolding without_front
 without_front-append front rest =
     let is = (starts_is Decides-eqb (front ++ rest) front (starts_with nat_eq (front ++ rest) front) refl).1 rest refl in
-    rw is (ap Some (drop-front front rest))
+    rw is (ap Some (drop-append_seam front rest))
 
 pub without_front-none : (front text : List ℕ) → ((rest : List ℕ) → text ≡ front ++ rest → ⊥) → without_front front text ≡ None
 without_front-none front text differ = by (without_front front text) refl
@@ -71,7 +55,7 @@ cut_before-some count back text front e = by (nat_le count (length text) && byte
     by : (test : Bool) → (nat_le count (length text) && bytes_eq (drop count text) back) ≡ test → cond test (Some (take count text)) None ≡ Some front → text ≡ front ++ back
     by true is e =
         let parts = and_parts (nat_le count (length text)) (bytes_eq (drop count text) back) is in
-        take-drop count text ∙ ap (λ (l : List ℕ). take count text ++ l) ((bytes_eq-Decides (drop count text) back).0 parts.1) ∙ ap (λ (l : List ℕ). l ++ back) (same_Some (take count text) front e)
+        sym (take-append-drop count text) ∙ ap (λ (l : List ℕ). take count text ++ l) ((bytes_eq-Decides (drop count text) back).0 parts.1) ∙ ap (λ (l : List ℕ). l ++ back) (same_Some (take count text) front e)
     by false is e = absurd (none-some front e)
 
 length-front : (front back : List ℕ) → length front ≤ length (front ++ back)
@@ -81,7 +65,7 @@ pub cut_before-append : (count : ℕ) (front back : List ℕ) → length front �
 unfolding cut_before
 cut_before-append count front back many =
     let within : nat_le (length front) (length (front ++ back)) ≡ true = grind (arith, nat_tests, length-front front back) in
-    rw (← many, within, drop-front front back, same-text back, take-front front back) refl
+    rw (← many, within, drop-append_seam front back, same-text back, take-append_seam front back) refl
 
 -- ---- spaces
 
@@ -110,20 +94,8 @@ at-other indent line other = sym (without_front-none (replicate indent 32) line 
 
 pub at-some : (indent : ℕ) (line : List ℕ) → indent ≤ length line → list_all (λ byte. byte == 32) (take indent line) ≡ true → Some (drop indent line) ≡ without_front (replicate indent 32) line
 at-some indent line within all =
-    let text : line ≡ replicate indent 32 ++ drop indent line = take-drop indent line ∙ ap (λ (l : List ℕ). l ++ drop indent line) (spaces-are indent line within all) in
+    let text : line ≡ replicate indent 32 ++ drop indent line = sym (take-append-drop indent line) ∙ ap (λ (l : List ℕ). l ++ drop indent line) (spaces-are indent line within all) in
     sym (ap (without_front (replicate indent 32)) text ∙ without_front-append (replicate indent 32) (drop indent line))
-
-take_all : (text : List ℕ) (count : ℕ) → length text ≤ count → take count text ≡ text
-take_all [] zero within = refl
-take_all [] (suc count) within = refl
-take_all (byte ∷ text) zero within = absurd (omega arith)
-take_all (byte ∷ text) (suc count) within = ap (λ (l : List ℕ). byte ∷ l) (take_all text count (omega arith))
-
--- a text from a byte on, as a slice has it
-pub rest-is : (count : ℕ) (text : List ℕ) → take (length text - count) (drop count text) ≡ drop count text
-rest-is zero text = take_all text (length text - zero) (omega arith)
-rest-is (suc count) [] = take_all [] (length {A = ℕ} [] - suc count) (omega arith)
-rest-is (suc count) (byte ∷ text) = ap (λ (n : ℕ). take n (drop count text)) (omega arith) ∙ rest-is count text
 
 -- ---- lines so far to the right
 
@@ -139,7 +111,7 @@ same-tests a b c d there back = by (bytes_eq a b) (bytes_eq c d) refl refl
 pub is_at-some : (indent : ℕ) (line rest text : List ℕ) → Some rest ≡ without_front (replicate indent 32) line → bytes_eq rest text ≡ bytes_eq line (replicate indent 32 ++ text)
 is_at-some indent line rest text found =
     let is = without_front-some (replicate indent 32) line rest (sym found) in
-    same-tests rest text line (replicate indent 32 ++ text) (λ same. is ∙ ap (λ (l : List ℕ). replicate indent 32 ++ l) same) (λ same. same-front (replicate indent 32) rest text (sym is ∙ same))
+    same-tests rest text line (replicate indent 32 ++ text) (λ same. is ∙ ap (λ (l : List ℕ). replicate indent 32 ++ l) same) (λ same. append_cancel_left (replicate indent 32) rest text (sym is ∙ same))
 
 pub is_at-none : (indent : ℕ) (line text : List ℕ) → None ≡ without_front (replicate indent 32) line → false ≡ bytes_eq line (replicate indent 32 ++ text)
 is_at-none indent line text none =

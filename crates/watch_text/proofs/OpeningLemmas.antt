@@ -1,19 +1,18 @@
 -- The first lines of statements: no two kinds have one.
-use Rattle.std.proofs.Common.{◌≡◌, ℕ, zero, suc, ◌+◌, ◌-◌, ◌*◌, ◌<◌, ◌≤◌, Bool, true, false, nat_le, cond, if◌then◌else◌, List, [], ◌∷◌, ◌++◌, append_assoc, append-nil, length, replicate, slice_index, Option, Some, None, refl, sym, ap, ◌∙◌, ◌⊎◌, inl, inr, codes, decimal, arith}
-use Rattle.std.specs.List.{flat_map}
+use Rattle.std.proofs.Common.{◌≡◌, ℕ, zero, suc, ◌-◌, Bool, true, false, nat_le, if◌then◌else◌, List, [], ◌∷◌, ◌++◌, append_assoc, append-nil, slice_index, Some, refl, sym, ap, ◌∙◌, codes, decimal, arith}
 use Rattle.std.specs.Str.{bytes_eq}
 use Rattle.tydi_base.specs.Path.{path_text}
-use Rattle.tydi_reading.specs.Tables.{entry_of}
 use Rattle.physical_stream.specs.Signals.{has_endi, has_stai, has_strb}
 use Rattle.physical_stream.specs.declared.head.Head.{Head}
 use Rattle.signal_layout.specs.declared.signal.Signal.{Signal}
 use Rattle.signal_layout.specs.declared.signal.Signal.TheVariants as signals
-use Rattle.vhdl_text.specs.Text.{name_text, plain_name, signal_word}
+use Rattle.vhdl_text.specs.Text.{name_text, signal_word}
 use Rattle.watch_text.specs.declared.opening.Opening.{Opening}
 use Rattle.watch_text.specs.declared.opening.Opening.TheVariants as openings
 use Rattle.watch_text.specs.Reading.{forms_of, opening_of, opening_text}
 use Rattle.watch_text.specs.Text.{active_test, close_test, elem_test, elem_word, endi_test, if_line, item_width, joined, lane_slice, last_test, loop_line, own_name, stai_test, strb_test, want_name, want_test, where_has, zeros}
-use Rattle.watch_text.proofs.LineParts.{other-text, same-front, same-text}
+use Rattle.std.proofs.lemmas.List.{append_cancel_left}
+use Rattle.watch_text.proofs.LineParts.{other-text, same-text}
 
 -- two texts that differ at a byte
 pub differ-at : (place : ℕ) (one other : List ℕ) → (slice_index one place ≡ slice_index other place → ⊥) → bytes_eq one other ≡ false
@@ -37,7 +36,7 @@ module _ (head : Head) where
 
   names-differ : (a b : ℕ) (one other x y : List ℕ) → (a ≡ b → ⊥) → named (a ∷ one) x ≡ named (b ∷ other) y → ⊥
   names-differ a b one other x y differ same =
-      let rest = same-front (92 ∷ path_text head.path) (46 ∷ ((a ∷ one) ++ 92 ∷ x)) (46 ∷ ((b ∷ other) ++ 92 ∷ y)) same in
+      let rest = append_cancel_left (92 ∷ path_text head.path) (46 ∷ ((a ∷ one) ++ 92 ∷ x)) (46 ∷ ((b ∷ other) ++ 92 ∷ y)) same in
       differ (ap (λ (l : List ℕ). slice_index l 1) rest)
 
   -- how the test of a lane begins: with a word, or with the name of the strobe
@@ -45,7 +44,7 @@ module _ (head : Head) where
     by_byte : (byte : ℕ) (rest : List ℕ) → text ≡ byte ∷ rest → (byte ≡ 92 → ⊥) → Begins text
     by_name : (rest : List ℕ) → text ≡ named (codes "strb") rest → Begins text
 
-  active-begins : (stai endi strb : Bool) → Begins (joined (where_has stai (stai_test head) ++ where_has endi (endi_test head) ++ where_has strb (strb_test head)))
+  active-begins : (stai endi strb : Bool) → Begins (joined (where_has stai (stai_test head) ++ (where_has endi (endi_test head) ++ where_has strb (strb_test head))))
   active-begins true true true = by_byte 116 _ refl (λ e. omega (arith, e))
   active-begins true true false = by_byte 116 _ refl (λ e. omega (arith, e))
   active-begins true false true = by_byte 116 _ refl (λ e. omega (arith, e))
@@ -72,7 +71,7 @@ module _ (head : Head) where
           other (sym (ap (λ (l : List ℕ). slice_index l 3) (sym own ∙ same ∙ ap if_line begins))))
       by (by_name rest begins) = other-text (if_line text) (if_line (active_test head)) (λ same.
           (let both = sym own ∙ same ∙ ap (λ (t : List ℕ). codes "if " ++ (t ++ codes " then")) begins ∙ ap (λ (t : List ℕ). codes "if " ++ t) (named-more (codes "strb") rest (codes " then")) in
-          names-differ a 115 word (codes "trb") (test ++ codes " then") (rest ++ codes " then") differ (same-front (codes "if ") (named (a ∷ word) (test ++ codes " then")) (named (codes "strb") (rest ++ codes " then")) both)))
+          names-differ a 115 word (codes "trb") (test ++ codes " then") (rest ++ codes " then") differ (append_cancel_left (codes "if ") (named (a ∷ word) (test ++ codes " then")) (named (codes "strb") (rest ++ codes " then")) both)))
 
   last-named : last_test head ≡ named (codes "last") (codes "(lane * " ++ (decimal head.params.dims ++ codes " + dim) = '1'"))
   last-named = signal-named signals.Last (codes "(lane * " ++ (decimal head.params.dims ++ codes " + dim) = '1'"))
@@ -84,7 +83,7 @@ module _ (head : Head) where
   last-other : (word : List ℕ) → bytes_eq (if_line (want_test head word)) (if_line (last_test head)) ≡ false
   last-other word = other-text (if_line (want_test head word)) (if_line (last_test head)) (λ same.
       (let last = codes "(lane * " ++ (decimal head.params.dims ++ codes " + dim) = '1'") in
-      let rest = same-front (codes "if ") (want_test head word ++ codes " then") (last_test head ++ codes " then") same in
+      let rest = append_cancel_left (codes "if ") (want_test head word ++ codes " then") (last_test head ++ codes " then") same in
       let both = sym (named-more (codes "want") (codes "(place) = " ++ word) (codes " then")) ∙ ap (λ (t : List ℕ). t ++ codes " then") (sym (want-named word)) ∙ rest ∙ ap (λ (t : List ℕ). t ++ codes " then") last-named
       ∙ named-more (codes "last") last (codes " then") in
       names-differ 119 108 (codes "ant") (codes "ast") ((codes "(place) = " ++ word) ++ codes " then") (last ++ codes " then") (λ e. omega (arith, e)) both))
@@ -102,10 +101,10 @@ module _ (head : Head) where
   elem-other = other-text (if_line (close_test head)) (if_line (elem_test head)) (λ same.
       (let word = elem-begins head.params.element in
       let close = codes "\"01\" & std_logic_vector(to_unsigned(dim, " ++ (decimal (item_width head.params) ++ codes "))") in
-      let rest = same-front (codes "if ") (want_test head close ++ codes " then") (elem_test head ++ codes " then") same in
+      let rest = append_cancel_left (codes "if ") (want_test head close ++ codes " then") (elem_test head ++ codes " then") same in
       let flat = λ (w : List ℕ). append_assoc (want_name head) (codes "(place) = " ++ w) (codes " then") in
       let tests = sym (flat close) ∙ rest ∙ flat (elem_word head head.params.element) in
-      let words = same-front (want_name head) ((codes "(place) = " ++ close) ++ codes " then") ((codes "(place) = " ++ elem_word head head.params.element) ++ codes " then") tests in
+      let words = append_cancel_left (want_name head) ((codes "(place) = " ++ close) ++ codes " then") ((codes "(place) = " ++ elem_word head head.params.element) ++ codes " then") tests in
       let bytes = ap (λ (l : List ℕ). slice_index l 11) words ∙ ap (λ (w : List ℕ). slice_index ((codes "(place) = " ++ w) ++ codes " then") 11) word.1 in
       absurd (omega (arith, bytes))))
 
@@ -121,20 +120,29 @@ module _ (head : Head) where
   opening_of-own openings.IfLast =
       let line = if_line (last_test head) in
       rw (
-        differ-at 0 line (loop_line (codes "lane") head.params.lanes) (λ e. omega (arith, e)), differ-at 0 line (loop_line (codes "dim") head.params.dims) (λ e. omega (arith, e)),
-        active-other 108 (codes "ast") (codes "(lane * " ++ (decimal head.params.dims ++ codes " + dim) = '1'")) (last_test head) (λ e. omega (arith, e)) last-named, same-text line,
+        differ-at 0 line (loop_line (codes "lane") head.params.lanes) (λ e. omega (arith, e)),
+        differ-at 0 line (loop_line (codes "dim") head.params.dims) (λ e. omega (arith, e)),
+        active-other 108 (codes "ast") (codes "(lane * " ++ (decimal head.params.dims ++ codes " + dim) = '1'")) (last_test head) (λ e. omega (arith, e)) last-named,
+        same-text line,
       ) refl
   opening_of-own openings.NeedElem =
       let line = if_line (elem_test head) in
       let word = elem_word head head.params.element in
       rw (
-        differ-at 0 line (loop_line (codes "lane") head.params.lanes) (λ e. omega (arith, e)), differ-at 0 line (loop_line (codes "dim") head.params.dims) (λ e. omega (arith, e)),
-        active-other 119 (codes "ant") (codes "(place) = " ++ word) (elem_test head) (λ e. omega (arith, e)) (want-named word), last-other word, same-text line,
+        differ-at 0 line (loop_line (codes "lane") head.params.lanes) (λ e. omega (arith, e)),
+        differ-at 0 line (loop_line (codes "dim") head.params.dims) (λ e. omega (arith, e)),
+        active-other 119 (codes "ant") (codes "(place) = " ++ word) (elem_test head) (λ e. omega (arith, e)) (want-named word),
+        last-other word,
+        same-text line,
       ) refl
   opening_of-own openings.NeedClose =
       let line = if_line (close_test head) in
       let word = codes "\"01\" & std_logic_vector(to_unsigned(dim, " ++ (decimal (item_width head.params) ++ codes "))") in
       rw (
-        differ-at 0 line (loop_line (codes "lane") head.params.lanes) (λ e. omega (arith, e)), differ-at 0 line (loop_line (codes "dim") head.params.dims) (λ e. omega (arith, e)),
-        active-other 119 (codes "ant") (codes "(place) = " ++ word) (close_test head) (λ e. omega (arith, e)) (want-named word), last-other word, elem-other, same-text line,
+        differ-at 0 line (loop_line (codes "lane") head.params.lanes) (λ e. omega (arith, e)),
+        differ-at 0 line (loop_line (codes "dim") head.params.dims) (λ e. omega (arith, e)),
+        active-other 119 (codes "ant") (codes "(place) = " ++ word) (close_test head) (λ e. omega (arith, e)) (want-named word),
+        last-other word,
+        elem-other,
+        same-text line,
       ) refl

@@ -1,5 +1,5 @@
 -- A process while it is read, as the code keeps it.
-use Rattle.std.proofs.Common.{◌≡◌, ℕ, ◌+◌, ◌<◌, ◌≤◌, ◌^◌, Bool, true, false, not, ◌&&◌, nat_lt, ltb, cond, List, [], ◌∷◌, ◌++◌, map, drop, Option, Some, None, Result, Ok, Err, IsTrue, refl, sym, ap, ◌∙◌, arith}
+use Rattle.std.proofs.Common.{◌≡◌, ℕ, ◌<◌, ◌≤◌, ◌^◌, Bool, true, false, not, ◌&&◌, nat_lt, ltb, cond, List, [], ◌∷◌, ◌++◌, map, drop, Some, None, Ok, Err, IsTrue, refl, sym, ap, ◌∙◌, arith}
 use Rattle.std.specs.Str.{bytes_eq}
 use Rattle.std.proofs.lemmas.Bool.Decides.{nat_tests}
 use Rattle.std.proofs.lemmas.Option.{none-some, same_Some}
@@ -8,9 +8,7 @@ use Rattle.tydi_base.specs.Hex.{no_ones}
 use Rattle.tydi_base.specs.Numbers.{number_below}
 use Rattle.tydi_base.proofs.NumberLemmas.{no_ones-drop}
 use Rattle.tydi_reading.specs.Reading.{took, first, rest_of}
-use Rattle.tydi_reading.specs.declared.fault.Fault.{Fault}
 use Rattle.tydi_reading.specs.declared.fault.Fault.TheVariants as refusals
-use Rattle.vhdl_text.specs.declared.refusal.Refusal.{Refusal}
 use Rattle.physical_stream.specs.declared.item.Item.TheVariants as items
 use Rattle.watch_text.specs.declared.entry.Entry.TheVariants as entries
 use Rattle.watch_text.specs.declared.forms.Forms.{Forms}
@@ -22,7 +20,7 @@ use Rattle.watch_text.specs.declared.stage.Stage.TheVariants as stages
 use Rattle.watch_text.specs.declared.watch.WStmt.{WStmt}
 use Rattle.watch_text.specs.Progress.{all_begun, around_of, opened_of, progress_of}
 use Rattle.watch_text.specs.Reading.{Opened, Progress, around_inside, at, close_in, closes, end_of, ends, statements_from, indent_of, inside, is_none_of, is_outside, made}
-use Rattle.watch_text.specs.Statements.{Statement, plain, plain_statements, statements_of}
+use Rattle.watch_text.specs.Statements.{plain, plain_statements, statements_of}
 use Rattle.watch_text.proofs.PlainLemmas.{statements_of-map}
 
 -- ---- statements that are begun

@@ -1,5 +1,5 @@
 -- Statements: what is read is spelled so.
-use Rattle.std.proofs.Common.{◌≡◌, ℕ, zero, suc, ◌+◌, ◌-◌, ◌*◌, ◌<◌, ◌≤◌, Bool, true, false, not, ◌&&◌, nat_le, cond, List, [], ◌∷◌, ◌++◌, append_assoc, append-nil, length, replicate, Option, Some, None, Result, Ok, Err, refl, sym, ap, ◌∙◌, codes, arith}
+use Rattle.std.proofs.Common.{◌≡◌, ℕ, ◌+◌, ◌≤◌, Bool, true, false, not, ◌&&◌, nat_le, cond, List, [], ◌∷◌, ◌++◌, append_assoc, append-nil, replicate, Option, Some, None, Result, Ok, Err, refl, sym, ap, ◌∙◌, codes, arith}
 use Rattle.std.specs.Str.{bytes_eq}
 use Rattle.std.proofs.lemmas.Bool.Decides.{nat_tests}
 use Rattle.std.proofs.lemmas.Slice.Eq.{bytes_eq-Decides}
@@ -13,7 +13,7 @@ use Rattle.tydi_reading.proofs.TableLemmas.{entry-word}
 use Rattle.physical_stream.specs.declared.head.Head.{Head}
 use Rattle.vhdl_text.specs.declared.refusal.Refusal.{Refusal}
 use Rattle.vhdl_text.specs.Reading.{lines_text, the_lines}
-use Rattle.vhdl_text.proofs.BenchReading.{and_then-some, mark-some, the_lines-some, took-same}
+use Rattle.vhdl_text.proofs.BenchReading.{and_then-some, mark-some, not-true, the_lines-some, took-same}
 use Rattle.vhdl_text.proofs.BenchSpelling.{pieces-text}
 use Rattle.vhdl_text.proofs.ProcessSpelling.{lines_text-append}
 use Rattle.watch_text.specs.declared.forms.Forms.{Forms}
@@ -22,16 +22,16 @@ use Rattle.watch_text.specs.declared.opening.Opening.TheVariants as openings
 use Rattle.watch_text.specs.declared.stage.Stage.{Stage}
 use Rattle.watch_text.specs.declared.stage.Stage.TheVariants as stages
 use Rattle.watch_text.specs.Reading.{Opened, Progress, Next, a_line, after, after_line, all_openings, allows, around_inside, at, begins, by_place, closes, end_of, ends, forms_of, goes_on, indent_of, inside, is_free, is_need, is_none_of, is_outside, made, no_progress, opening_of, opening_text, process_of, statements_from, then_comes, wait_text, where_line, with_need, with_opening, without_front}
-use Rattle.watch_text.specs.Statements.{Statement, Statements, dims, if_active, if_last, lanes, need_close, need_elem, no_statements, statement, statements_of}
-use Rattle.watch_text.specs.Text.{fault_line, line, need_text, process_back, process_front, process_text, statement_text, statements_text}
-use Rattle.watch_text.specs.WellFormed.{Around, AreStatements, IsSome, IsStatement, around_process, in_dim_loop, in_lane_loop, in_test}
+use Rattle.watch_text.specs.Statements.{Statement, Statements, no_statements, statements_of}
+use Rattle.watch_text.specs.Text.{fault_line, line, process_back, process_front, process_text, statement_text, statements_text}
+use Rattle.watch_text.specs.WellFormed.{Around, AreStatements, IsSome, IsStatement, around_process}
 use Rattle.watch_text.proofs.LineParts.{without_front-some}
 use Rattle.watch_text.proofs.StatementSpelling.{indent-inside, room-inside}
 
 -- ---- lines
 
 -- a line so far to the right
-line-at : (indent : ℕ) (text : List ℕ) → at indent text ++ 10 ∷ [] ≡ line indent text
+pub line-at : (indent : ℕ) (text : List ℕ) → at indent text ++ 10 ∷ [] ≡ line indent text
 line-at indent text = append_assoc (replicate indent 32) text (10 ∷ [])
 
 -- ---- one statement more
@@ -188,10 +188,6 @@ module _ (head : Head) where
       grind (arith, nat_tests, room.1)
   has-room around openings.NeedElem may holds = absurd cc
   has-room around openings.NeedClose may holds = absurd cc
-
-  not-true : (test : Bool) → not test ≡ true → test ≡ false
-  not-true true e = absurd cc
-  not-true false e = refl
 
   block-is : (around : Around) (opening : Opening) (body : Statements) → allows count around opening ≡ true → is_need opening ≡ false → IsSome body → AreStatements count (around_inside around opening) body
       → IsStatement count around (made opening body)

@@ -1,24 +1,20 @@
 -- Statements: what is spelled is read.
-use Rattle.std.proofs.Common.{◌≡◌, ℕ, zero, suc, ◌+◌, ◌-◌, ◌*◌, ◌<◌, ◌≤◌, Bool, true, false, not, ◌&&◌, nat_le, cond, List, [], ◌∷◌, ◌++◌, append_assoc, append-nil, length, drop, replicate, slice_index, Option, Some, None, Result, Ok, Err, refl, sym, ap, ◌∙◌, codes, decimal, arith}
+use Rattle.std.proofs.Common.{◌≡◌, ℕ, zero, suc, ◌+◌, ◌-◌, ◌*◌, ◌≤◌, Bool, true, false, ◌&&◌, nat_le, cond, List, [], ◌∷◌, ◌++◌, append_assoc, append-nil, drop, replicate, slice_index, None, Ok, refl, sym, ap, ◌∙◌, codes, arith}
 use Rattle.std.specs.Str.{bytes_eq}
 use Rattle.std.proofs.lemmas.Bool.Decides.{nat_tests}
 use Rattle.tydi_base.specs.Pieces.{pieces_of}
-use Rattle.tydi_reading.specs.Lists.{mark}
 use Rattle.tydi_reading.specs.Reading.{took}
 use Rattle.physical_stream.specs.declared.head.Head.{Head}
-use Rattle.vhdl_text.specs.Reading.{lines_text, the_lines}
 use Rattle.vhdl_text.proofs.BenchSpelling.{the_lines-given}
-use Rattle.vhdl_text.proofs.ProcessSpelling.{lines_text-append}
 use Rattle.watch_text.specs.declared.forms.Forms.{Forms}
 use Rattle.watch_text.specs.declared.opening.Opening.{Opening}
 use Rattle.watch_text.specs.declared.opening.Opening.TheVariants as openings
 use Rattle.watch_text.specs.declared.stage.Stage.{Stage}
 use Rattle.watch_text.specs.declared.stage.Stage.TheVariants as stages
-use Rattle.watch_text.specs.Reading.{Opened, Progress, Next, a_line, after, allows, around_inside, at, begins, by_place, closes, end_of, ends, forms_of, indent_of, inside, is_need, is_none_of, is_outside, made, no_progress, opening_of, opening_text, process_of, statements_from, then_comes, wait_text, where_line, with_need, with_opening, without_front}
+use Rattle.watch_text.specs.Reading.{Opened, Progress, after, allows, around_inside, at, end_of, ends, forms_of, indent_of, inside, is_need, is_none_of, is_outside, made, no_progress, opening_text, process_of, statements_from, then_comes, wait_text, where_line, with_need, without_front}
 use Rattle.watch_text.specs.Statements.{Statement, Statements, dims, if_active, if_last, lanes, need_close, need_elem, no_statements, statement, statements_of}
-use Rattle.watch_text.specs.Text.{fault_line, line, need_text, statement_text, statements_text}
 use Rattle.watch_text.specs.WellFormed.{Around, AreStatements, IsSome, IsStatement, around_process, in_dim_loop, in_lane_loop, in_test}
-use Rattle.watch_text.proofs.LineParts.{other-text, same-text, without_front-append, without_front-none}
+use Rattle.watch_text.proofs.LineParts.{same-text, without_front-append, without_front-none}
 use Rattle.watch_text.proofs.OpeningLemmas.{differ-at, opening_of-own}
 use Rattle.watch_text.proofs.TableSpelling.{a_line-given}
 
@@ -103,7 +99,7 @@ end-less indent more opening far =
     let text = end-begins opening in
     let two : more ≡ suc (suc indent) = omega (arith, far) in
     without_front-none (replicate more 32) (at indent (end_of opening)) (λ rest same.
-        spaces-clash indent text.0 rest (ap (λ (t : List ℕ). at indent t) (sym text.1) ∙ same ∙ ap (λ (n : ℕ). at n rest) two))
+    spaces-clash indent text.0 rest (ap (λ (t : List ℕ). at indent t) (sym text.1) ∙ same ∙ ap (λ (n : ℕ). at n rest) two))
 
 -- ---- steps
 
@@ -188,7 +184,7 @@ module _ (head : Head) where
   block-spelled : (around : Around) (earlier : List Statement) (begun : List Opened) (opening : Opening) (body : Statements) (rest : List (List ℕ)) → 1 ≤ around.room → around.room ≤ 7 → allows count around opening ≡ true
       → is_need opening ≡ false → IsSome body
       → ((opened : List Opened) (rest : List (List ℕ)) → statements_from forms (free (around_inside around opening) [] opened) (statements_lines forms (indent_of (around_inside around opening)) body ++ rest)
-        ≡ statements_from forms (free (around_inside around opening) (list_of body) opened) rest)
+      ≡ statements_from forms (free (around_inside around opening) (list_of body) opened) rest)
       → statements_from forms (free around earlier begun) (block_lines forms (indent_of around) opening (statements_lines forms (indent_of around + 2) body) ++ rest)
       ≡ statements_from forms (free around (earlier ++ made opening body ∷ []) begun) rest
   block-spelled around earlier begun opening body rest some few may no_need is read =

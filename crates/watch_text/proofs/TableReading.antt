@@ -1,10 +1,10 @@
 -- Tables: what is read is spelled so.
-use Rattle.std.proofs.Common.{◌≡◌, ℕ, zero, suc, ◌+◌, ◌-◌, ◌<◌, ◌≤◌, ◌^◌, Bool, true, false, cond, List, [], ◌∷◌, ◌++◌, append_assoc, append-nil, length, length-append, Option, Some, None, option_and_then, All, refl, sym, ap, ◌∙◌, codes, decimal, arith}
+use Rattle.std.proofs.Common.{◌≡◌, ℕ, suc, ◌-◌, ◌<◌, ◌^◌, Bool, true, false, cond, List, [], ◌∷◌, ◌++◌, append_assoc, append-nil, length, length-append, Option, Some, None, All, refl, sym, ap, ◌∙◌, codes, decimal, arith}
 use Rattle.std.proofs.lemmas.List.Elements.{All-cons, All-head, All-nil, All-tail}
 use Rattle.std.proofs.lemmas.Option.{none-some, same_Some, option_and_then_some}
 use Rattle.tydi_base.specs.Decimal.{is_decimal}
 use Rattle.tydi_base.specs.Pieces.{pieces_of}
-use Rattle.tydi_reading.specs.Reading.{Outcome, Reader, took, stopped, and_then, pure}
+use Rattle.tydi_reading.specs.Reading.{Outcome, took, and_then, pure}
 use Rattle.physical_stream.specs.Params.{Parameters}
 use Rattle.physical_stream.specs.StreamLine.{IsHead}
 use Rattle.physical_stream.specs.declared.head.Head.{Head}
@@ -21,7 +21,7 @@ use Rattle.watch_text.specs.Text.{end_line, item_line, item_lines, table_line, t
 use Rattle.watch_text.specs.WellFormed.{IsItemOf}
 use Rattle.watch_text.proofs.EntryReading.{LineRead, item_read, end_read, entry_of_line-some}
 use Rattle.watch_text.proofs.LineParts.{cut_before-some, without_front-some}
-use Rattle.watch_text.proofs.TableSpelling.{AreTables, IsTable, type_line-flat}
+use Rattle.watch_text.proofs.TableSpelling.{AreTables, type_line-flat}
 
 -- ---- the line of the type
 
@@ -29,7 +29,7 @@ last_of-some : (front back line last : List ℕ) → last_of front back line ≡
 unfolding last_of
 last_of-some front back line last e =
     option_and_then_some {A = List ℕ} {B = List ℕ} {P = line ≡ front ++ (last ++ back)} (λ text. number_in (cut_before (length text - length back) back text)) (without_front front line) last e (λ text there number.
-        without_front-some front line text there ∙ ap (λ (t : List ℕ). front ++ t) (by_cut text (cut_before (length text - length back) back text) refl number))
+    without_front-some front line text there ∙ ap (λ (t : List ℕ). front ++ t) (by_cut text (cut_before (length text - length back) back text) refl number))
   where
     by_number : (text digits : List ℕ) → text ≡ digits ++ back → (test : Bool) → cond test (Some digits) None ≡ Some last → text ≡ last ++ back
     by_number text digits is true e = is ∙ ap (λ (d : List ℕ). d ++ back) (same_Some digits last e)

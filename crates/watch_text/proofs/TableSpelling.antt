@@ -1,17 +1,16 @@
 -- Tables: what is spelled is read.
-use Rattle.std.proofs.Common.{◌≡◌, ℕ, zero, suc, ◌+◌, ◌-◌, ◌<◌, ◌≤◌, ◌^◌, Bool, true, false, nat_lt, cond, List, [], ◌∷◌, ◌++◌, append_assoc, append-nil, length, length-append, Option, Some, None, option_and_then, All, refl, sym, ap, ◌∙◌, codes, decimal, arith}
+use Rattle.std.proofs.Common.{◌≡◌, ℕ, suc, ◌+◌, ◌-◌, ◌<◌, ◌^◌, Bool, true, false, cond, List, [], ◌∷◌, ◌++◌, append_assoc, append-nil, length, length-append, Some, None, option_and_then, All, refl, sym, ap, ◌∙◌, codes, decimal, arith}
 use Rattle.std.proofs.lemmas.List.Elements.{All-head, All-tail}
 use Rattle.tydi_base.specs.Decimal.{is_decimal, read_on}
 use Rattle.tydi_base.specs.Pieces.{pieces_of}
 use Rattle.tydi_base.proofs.DecimalLaws.{decimal_of-decimal}
 use Rattle.std.proofs.lemmas.Option.{none-some}
 use Rattle.tydi_reading.specs.Lists.{mark}
-use Rattle.tydi_reading.specs.Reading.{took, and_then}
+use Rattle.tydi_reading.specs.Reading.{took}
 use Rattle.physical_stream.specs.Params.{Parameters}
 use Rattle.physical_stream.specs.StreamLine.{IsHead}
 use Rattle.physical_stream.specs.declared.head.Head.{Head}
 use Rattle.physical_stream.specs.declared.item.Item.{Item}
-use Rattle.vhdl_text.specs.Reading.{the_lines}
 use Rattle.vhdl_text.proofs.BenchSpelling.{the_lines-given}
 use Rattle.watch_text.specs.Reading.{a_line, cut_before, entries_from, last_of, number_in, shape_of, table_after, table_of, tables_from, type_back, type_front, without_front}
 use Rattle.watch_text.specs.Text.{end_line, item_line, items_name, table_line, type_line}

@@ -1,5 +1,5 @@
 -- The lines of a monitor: none of them has an LF.
-use Rattle.std.proofs.Common.{◌≡◌, ℕ, zero, suc, ◌+◌, ◌-◌, ◌<◌, ◌≤◌, ◌^◌, Bool, true, false, nat_le, cond, if◌then◌else◌, List, [], ◌∷◌, ◌++◌, map, length, replicate, All, refl, sym, ap, ◌∙◌, codes, decimal, arith}
+use Rattle.std.proofs.Common.{◌≡◌, ℕ, zero, suc, ◌+◌, ◌-◌, ◌<◌, ◌^◌, Bool, true, false, nat_le, if◌then◌else◌, List, [], ◌∷◌, ◌++◌, map, length, replicate, All, refl, codes, decimal, arith}
 use Rattle.std.specs.List.{flat_map, list_all}
 use Rattle.std.proofs.lemmas.List.Elements.{All-append, All-head, All-nil, All-tail}
 use Rattle.tydi_base.specs.Binary.{binary_of}
@@ -20,14 +20,13 @@ use Rattle.vhdl_text.specs.Text.{name_text, plain_name}
 use Rattle.vhdl_text.proofs.BenchSpelling.{comment_line, comments-line, lines-append}
 use Rattle.vhdl_text.proofs.CutLemmas.{all-append, are_lines-lack, is_line, is_not, path_bytes-not, path_text-bytes, plain-line}
 use Rattle.vhdl_text.proofs.LineLemmas.{binary-all, plain_name-bytes}
-use Rattle.watch_text.specs.declared.forms.Forms.{Forms}
 use Rattle.watch_text.specs.declared.opening.Opening.{Opening}
 use Rattle.watch_text.specs.declared.opening.Opening.TheVariants as openings
-use Rattle.watch_text.specs.Reading.{at, end_of, forms_of, opening_text, type_front, type_back, wait_text}
+use Rattle.watch_text.specs.Reading.{at, end_of, forms_of, opening_text, type_back, wait_text}
 use Rattle.watch_text.specs.Statements.{PlainWatch, Statement, Statements, dims, if_active, if_last, lanes, need_close, need_elem, no_statements, statement}
 use Rattle.watch_text.specs.Text.{active_test, close_test, elem_test, elem_word, end_line, endi_test, entity_text, entry_front, fault_line, fault_name, if_line, item_digits, item_line, item_width, items_name, joined, lane_slice, last_test, loop_line, own_name, stai_test, strb_test, table_line, type_line, want_name, want_test, where_has, zeros}
 use Rattle.watch_text.proofs.StatementSpelling.{block_lines, need_lines, process_lines, statement_lines, statements_lines}
-use Rattle.watch_text.proofs.TableSpelling.{AreTables, IsTable, item_lines_of, table_lines, tables_lines}
+use Rattle.watch_text.proofs.TableSpelling.{AreTables, item_lines_of, table_lines, tables_lines}
 
 -- ---- parts of lines
 
@@ -118,11 +117,10 @@ module _ (head : Head) (h : IsHead head) where
       let stai = where_has (has_stai p) (stai_test head) in
       let endi = where_has (has_endi p) (endi_test head) in
       let strb = where_has (has_strb p) (strb_test head) in
-      joined-line (stai ++ endi ++ strb)
-      (lines-append (stai ++ endi) strb
-      (lines-append stai endi (where-line (has_stai p) (stai_test head) (joins (name_text head signals.Stai) (codes ")) <= lane") (name_text-line signals.Stai) refl))
-      (where-line (has_endi p) (endi_test head) (joins (name_text head signals.Endi) (codes "))") (name_text-line signals.Endi) refl)))
-      (where-line (has_strb p) (strb_test head) (joins (name_text head signals.Strb) (codes "(lane) = '1'") (name_text-line signals.Strb) refl)))
+      joined-line (stai ++ (endi ++ strb))
+      (lines-append stai (endi ++ strb) (where-line (has_stai p) (stai_test head) (joins (name_text head signals.Stai) (codes ")) <= lane") (name_text-line signals.Stai) refl))
+      (lines-append endi strb (where-line (has_endi p) (endi_test head) (joins (name_text head signals.Endi) (codes "))") (name_text-line signals.Endi) refl))
+      (where-line (has_strb p) (strb_test head) (joins (name_text head signals.Strb) (codes "(lane) = '1'") (name_text-line signals.Strb) refl))))
 
   last-line : is_line (last_test head) ≡ true
   last-line =

@@ -1,5 +1,4 @@
-use Rattle.std.proofs.Common.{ap, ◌∙◌}
-use Rattle.watch_text.specs.Reading.{close_in}
+use Rattle.std.proofs.Common.{◌∙◌}
 use Rattle.watch_text.proofs.SoFarLemmas.{close-none, close-some}
 use Rattle.watch_text.proofs.table_reading.close_of.Goals as goal
 

@@ -1,4 +1,3 @@
-use Rattle.std.proofs.Common.{◌∙◌}
 use Rattle.watch_text.specs.Progress.{progress_of}
 use Rattle.watch_text.proofs.SoFarLemmas.{closes-by, closes-not}
 use Rattle.watch_text.proofs.so_far.SoFar.close.Goals as goal
