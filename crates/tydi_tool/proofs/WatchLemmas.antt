@@ -47,8 +47,7 @@ use Rattle.tydi_tool.specs.Files.{IsFound}
 use Rattle.tydi_tool.specs.Laws.{AsksAlways, AsksOnce, HasSome, ReadsOnce}
 use Rattle.tydi_tool.specs.Reading.{IsRefusedBy, ReadsAs, ReadsResult, RefusesBy, Seen}
 use Rattle.tydi_tool.specs.Refusals.{Refusal, refusal_line, refusal_of_trace, refusal_of_watch}
-use Rattle.tydi_tool.specs.Reports.{path_of_stream}
-use Rattle.tydi_tool.specs.Watches.{IsFedSome, IsNewUnder, IsOfEach, ReadsBeside, ReadsWatch, ReadsWatching, TellsWatching, count_of, lines_from, watched_line, watches_after, watching_in}
+use Rattle.tydi_tool.specs.Watches.{IsFedSome, IsNewUnder, IsOfEach, ReadsBeside, ReadsWatch, ReadsWatching, TellsWatching, lines_from, stream_line, watches_after, watching_in}
 use Rattle.tydi_tool.specs.Words.{FileWord, monitor_file}
 use Rattle.tydi_tool.proofs.AnswerLemmas.{RefusesBy-line, not_read}
 use Rattle.tydi_tool.proofs.BenchLemmas.{result-apart, result-lines, result-read, result-same, result-some}
@@ -190,10 +189,10 @@ watched-always trace watch = (λ bytes. watching-some watch trace bytes (trace_o
 
 -- the lines of the streams so far, with that of one stream more
 pub more-lines : (watch : PlainWatch) (watched : List StreamWatched) (number : ℕ) (one : StreamWatched) (all lines next : List ℕ) → slice_get watched number ≡ Some one
-    → next ≡ lines ++ watched_line (path_of_stream watch.heads number) (count_of watch number) one
+    → next ≡ lines ++ stream_line watch number one
     → lines ++ lines_from watch number (drop number watched) ≡ all → next ++ lines_from watch (number + 1) (drop (number + 1) watched) ≡ all
 more-lines watch watched number one all lines next there added so_far =
-    let line = watched_line (path_of_stream watch.heads number) (count_of watch number) one in
+    let line = stream_line watch number one in
     let rest = lines_from watch (number + 1) (drop (number + 1) watched) in
     ap (λ (l : List ℕ). l ++ rest) added ∙ append_assoc lines line rest
     ∙ ap (λ (n : ℕ). lines ++ (line ++ lines_from watch n (drop (number + 1) watched))) (add-one number)

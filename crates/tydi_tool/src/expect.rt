@@ -130,17 +130,17 @@ fn monitor_of_value(alloc: Global, split: &Split<'_>, value: PortValue) -> Resul
 fn monitored(alloc: Global, watch: Watch) -> Reply
     ensures { (result ≡ replies.Says (output_answer (watch_text (plain_watch watch)))) ⊎ (result ≡ replies.Memory) }
 {
-    let length = watch_length(&watch);
-    written(alloc, WatchPieces::new(watch), length)
+    let bytes = watch_length(&watch);
+    written(alloc, WatchPieces::new(watch), bytes)
 }
 
 /// The same, with the length of the text.
-fn written(alloc: Global, pieces: WatchPieces, length: u64) -> Reply
-    requires { length ≡ min (length (text_left pieces)) most_bytes }
+fn written(alloc: Global, pieces: WatchPieces, bytes: u64) -> Reply
+    requires { bytes ≡ min (length (text_left pieces)) most_bytes }
     ensures { (result ≡ replies.Says (output_answer (text_left pieces))) ⊎ (result ≡ replies.Memory) }
 {
-    if length <= OUTPUT_LIMIT {
-        return Reply::Says(Answer::Done(Output::watch(pieces, length)));
+    if bytes <= OUTPUT_LIMIT {
+        return Reply::Says(Answer::Done(Output::watch(pieces, bytes)));
     }
     refused(alloc, "OutputTooLong", &[])
 }
