@@ -1,9 +1,8 @@
 -- The monitor of a port for a value is well formed, and the lines that say that all is seen are shorter than its text.
-use Rattle.std.proofs.Common.{◌≡◌, ◌∙◌, ◌≢◌, ℕ, zero, suc, ◌+◌, ◌*◌, ◌-◌, ◌^◌, ◌<◌, ◌≤◌, Bool, true, false, not, ◌&&◌, nat_le, List, [], ◌∷◌, ◌++◌, length, map, Option, Some, None, get_or, slice_get, codes, decimal, refl, sym, ap, subst, arith}
+use Rattle.std.proofs.Common.{◌≡◌, ◌∙◌, ℕ, zero, suc, ◌+◌, ◌^◌, ◌<◌, ◌≤◌, Bool, true, false, not, ◌&&◌, nat_le, List, [], ◌∷◌, ◌++◌, length, map, Option, Some, None, get_or, slice_get, codes, decimal, refl, sym, ap, subst, arith}
 use Rattle.std.specs.List.{All, list_any, slice_index_or}
 use Rattle.std.specs.Option.{option_map}
 use Rattle.std.specs.Str.{bytes_eq}
-use Rattle.std.proofs.lemmas.Bool.Decides.{nat_tests}
 use Rattle.std.proofs.lemmas.List.{length-append, length-map}
 use Rattle.std.proofs.lemmas.List.Elements.{All-cons, All-nil}
 use Rattle.std.proofs.lemmas.List.Folds.{list_any_at}
@@ -12,7 +11,6 @@ use Rattle.std.proofs.lemmas.Slice.Eq.{bytes_eq-Decides}
 use Rattle.tydi_base.specs.Path.{path_text}
 use Rattle.tydi_base.proofs.PlaceLemmas.{slice_get-there}
 use Rattle.physical_stream.specs.Params.{Parameters}
-use Rattle.physical_stream.specs.StreamLine.{IsHead}
 use Rattle.physical_stream.specs.declared.head.Head.{Head}
 use Rattle.physical_stream.specs.declared.item.Item.{Item}
 use Rattle.physical_stream.specs.declared.item.Item.TheVariants as items
@@ -20,7 +18,7 @@ use Rattle.cycle_trace.specs.Trace.{all_distinct, are_heads}
 use Rattle.logical_value.specs.Fits.{fits_split}
 use Rattle.logical_value.specs.Tree.{Tree, plain_port}
 use Rattle.logical_value.specs.declared.value.PortValue.{PortValue}
-use Rattle.monitor_bench.specs.Monitors.{lane_statements, monitor_of, process_for, statements_for}
+use Rattle.monitor_bench.specs.Monitors.{monitor_of, process_for, statements_for}
 use Rattle.port_drive.specs.Drives.{head_of_stream, heads_of, items_on}
 use Rattle.port_drive.specs.Text.{AreHeadsInForm}
 use Rattle.port_bench.proofs.BytesLemmas.{heads-few}

@@ -1,9 +1,9 @@
 -- What the monitor of a port says of streams, by the items that are done: all is seen exactly where these are the expected ones.
-use Rattle.std.proofs.Common.{◌≡◌, ◌∙◌, ℕ, zero, suc, ◌+◌, ◌<◌, ◌≤◌, ◌⊎◌, inl, inr, List, [], ◌∷◌, ◌++◌, length, map, take, drop, Option, Some, None, slice_get, refl, sym, ap, subst, arith}
+use Rattle.std.proofs.Common.{◌≡◌, ◌∙◌, ℕ, zero, suc, ◌<◌, ◌≤◌, ◌⊎◌, inl, inr, List, [], ◌∷◌, ◌++◌, length, map, take, drop, Option, Some, None, slice_get, refl, sym, ap, subst, arith}
 use Rattle.std.specs.Prelude.{option_map}
 use Rattle.std.proofs.lemmas.Bool.{cases_lt}
 use Rattle.std.proofs.lemmas.Grind.{flat_map-append}
-use Rattle.std.proofs.lemmas.List.{length-append, length-map, take-append-drop, take-append-le, take_all}
+use Rattle.std.proofs.lemmas.List.{length-map, take-append-drop, take-append-le, take_all}
 use Rattle.std.proofs.lemmas.Option.{slice_get-map, slice_get_within}
 use Rattle.tydi_base.proofs.PlaceLemmas.{slice_get-there}
 use Rattle.physical_stream.specs.Cycles.{Cycle, StreamTrace, done_in, done_of, items_done}
@@ -13,7 +13,7 @@ use Rattle.physical_stream.specs.declared.head.Head.{Head}
 use Rattle.physical_stream.specs.declared.item.Item.{Item}
 use Rattle.cycle_trace.specs.Trace.{TraceText, streams_of}
 use Rattle.cycle_trace.proofs.StreamLemmas.{head_at, length-streams}
-use Rattle.monitor_bench.specs.Laws.{IsAsExpected, IsFirstOther, IsFront, MonitorsReport, ReportsFirstOther}
+use Rattle.monitor_bench.specs.Laws.{IsFirstOther, IsFront, MonitorsReport, ReportsFirstOther}
 use Rattle.monitor_bench.specs.Meaning.{Process, place_of, processes_from, processes_of, report_of}
 use Rattle.monitor_bench.specs.Monitors.{monitor_of, process_for}
 use Rattle.port_drive.specs.Drives.{head_of_stream, heads_of}
@@ -23,7 +23,7 @@ use Rattle.trace_decode.proofs.RowLemmas.{same_some}
 use Rattle.trace_watch.specs.Watched.{watched_by, watched_by_each, watched_of}
 use Rattle.trace_watch.specs.declared.watched.StreamWatched.{StreamWatched}
 use Rattle.type_split.specs.Streams.{PlainSplit}
-use Rattle.watch_text.specs.Statements.{PlainWatch, Statements}
+use Rattle.watch_text.specs.Statements.{Statements}
 use Rattle.tydi_tool.specs.WatchLaw.{AreFirstOthers, all_seen}
 
 -- ---- processes and their streams

@@ -1,6 +1,6 @@
 -- The steps of `expect` and of `watch` in both directions: from an answer to its cause, and from a cause to its answer.
 use Rattle.std.proofs.Common.{◌≡◌, ◌||◌, ℕ, zero, suc, inl, inr, Bool, true, false, List, [], ◌∷◌, Option, Some, None, Result, Ok, Err, codes, decimal, refl, sym, ap, ◌∙◌, subst, slice_get}
-use Rattle.std.specs.List.{All, list_any}
+use Rattle.std.specs.List.{list_any}
 use Rattle.std.specs.Option.{is_some}
 use Rattle.std.proofs.lemmas.List.Elements.{All-cons, All-nil}
 use Rattle.tydi_io.specs.Store.{Files}
@@ -29,7 +29,7 @@ use Rattle.tydi_tool.specs.Watches.{IsQuiet, ReadsBeside, ReadsWatch, ReadsWatch
 use Rattle.tydi_tool.specs.Words.{FileWord, Request, monitor_file, trace_file}
 use Rattle.tydi_tool.proofs.AnswerLemmas.{not_read}
 use Rattle.tydi_tool.proofs.CauseLines.{by_line, line_of, monitor_text, trace_text, two_words}
-use Rattle.tydi_tool.proofs.CauseSteps.{Told, gives_text, reaches-read, says-read, says-refused, says-valued, told-file, told-valued, values}
+use Rattle.tydi_tool.proofs.CauseSteps.{Told, reaches-read, says-read, says-refused, says-valued, told-file, told-valued, values}
 use Rattle.tydi_tool.proofs.WatchLemmas.{ReadsWatch-read, watch-read}
 
 -- ---- `expect`

@@ -1,23 +1,21 @@
 -- The monitors that `expect` writes, and what `watch` says with them.
-use Rattle.std.proofs.Common.{◌≡◌, ◌∙◌, ℕ, ◌≤◌, ◌⊎◌, inl, inr, Bool, true, false, cond, nat_lt, List, [], ◌∷◌, length, map, Option, Some, None, Result, Ok, refl, sym, ap, subst, arith}
+use Rattle.std.proofs.Common.{◌≡◌, ◌∙◌, ℕ, ◌≤◌, ◌⊎◌, inl, inr, Bool, true, false, cond, nat_lt, List, [], ◌∷◌, length, Some, Ok, refl, sym, ap, subst, arith}
 use Rattle.std.specs.List.{list_any}
 use Rattle.tydi_io.specs.Store.{Files}
 use Rattle.physical_stream.specs.declared.item.Item.{Item}
 use Rattle.cycle_trace.specs.Trace.{TraceText, streams_of}
-use Rattle.logical_value.specs.Tree.{Tree, plain_port}
+use Rattle.logical_value.specs.Tree.{plain_port}
 use Rattle.logical_value.specs.declared.value.PortValue.{PortValue}
 use Rattle.monitor_bench.specs.Laws.{MonitorsReport}
 use Rattle.port_drive.specs.Drives.{heads_of}
-use Rattle.port_drive.specs.Laws.{done_on, trace_of}
+use Rattle.port_drive.specs.Laws.{trace_of}
 use Rattle.port_drive.specs.Text.{AreHeadsInForm}
 use Rattle.port_drive.proofs.FormLemmas.{types-have-heads}
 use Rattle.trace_watch.specs.Watched.{watched_of}
-use Rattle.trace_watch.specs.declared.watched.StreamWatched.{StreamWatched}
-use Rattle.type_split.specs.Streams.{IsPortSplit, PlainSplit}
+use Rattle.type_split.specs.Streams.{PlainSplit}
 use Rattle.value_text.proofs.FitLemmas.{read_values_fit}
 use Rattle.value_views.specs.Views.{Carries}
 use Rattle.watch_text.specs.Reading.{MonitorsArePrintedAsRead, MonitorsAreReadAsPrinted, watch_of}
-use Rattle.watch_text.specs.Statements.{PlainWatch}
 use Rattle.tydi_tool.specs.declared.answer.Answer.{Answer}
 use Rattle.tydi_tool.specs.declared.answer.Answer.TheVariants as answers
 use Rattle.tydi_tool.specs.Causes as rows
@@ -25,10 +23,9 @@ use Rattle.tydi_tool.specs.Causes.{HasCarried, HasDecode, HasMonitor, HasSplit, 
 use Rattle.tydi_tool.specs.Commands.{Says}
 use Rattle.tydi_tool.specs.CompareLaw.{ShowsValue}
 use Rattle.tydi_tool.specs.Comparisons.{items_of_value}
-use Rattle.tydi_tool.specs.DecodeLaw.{CarriesAlone}
 use Rattle.tydi_tool.specs.Outcome.{output_answer, output_limit, output_too_long_line}
-use Rattle.tydi_tool.specs.WatchLaw.{DrivenTracesAreSeen, IsSeen, OtherItemsAreTold, OtherValuesAreTold, ShownValuesAreSeen, TellsLess, WrittenLinesAreQuiet, WrittenMonitorsReport, WritesMonitor, all_seen, expect_words, monitor_for, seen_lines, watch_words}
-use Rattle.tydi_tool.specs.Watches.{IsQuiet, answer_of_lines, expected_text, reports, watched_answer, watched_lines}
+use Rattle.tydi_tool.specs.WatchLaw.{DrivenTracesAreSeen, OtherItemsAreTold, OtherValuesAreTold, ShownValuesAreSeen, TellsLess, WrittenLinesAreQuiet, WrittenMonitorsReport, WritesMonitor, all_seen, expect_words, monitor_for, seen_lines, watch_words}
+use Rattle.tydi_tool.specs.Watches.{answer_of_lines, expected_text, reports, watched_answer}
 use Rattle.tydi_tool.specs.Words.{Expect, Watch}
 use Rattle.tydi_tool.proofs.CauseLemmas.{exactly, says_text}
 use Rattle.tydi_tool.proofs.CauseSteps.{within_test}
@@ -37,7 +34,6 @@ use Rattle.tydi_tool.proofs.CompareLawLemmas.{driven-shows}
 use Rattle.tydi_tool.proofs.CompareLemmas.{many-items}
 use Rattle.tydi_tool.proofs.DecodeLawLemmas.{formed-at, port-of}
 use Rattle.tydi_tool.proofs.DriveLawLemmas.{written-driven}
-use Rattle.tydi_tool.proofs.FormLemmas.{IsPortFormed}
 use Rattle.tydi_tool.proofs.MonitorLemmas.{items-carry, monitor-well, seen-short}
 use Rattle.tydi_tool.proofs.SeenLemmas.{HasLess, SeesAll, all-seen, first-others, less-or-all, seen-all}
 use Rattle.tydi_tool.proofs.WatchCauses.{of_watch, says-streams}

@@ -1,5 +1,5 @@
 -- The text of a monitor is read in one way, and always; and so is the text of a trace beside it. What is said of the streams has a line for each.
-use Rattle.std.proofs.Common.{◌≡◌, ◌∙◌, ℕ, suc, ◌+◌, ◌<◌, ◌≤◌, ◌^◌, ◌-◌, ◌==◌, inl, inr, Bool, true, false, if◌then◌else◌, List, [], ◌∷◌, ◌++◌, length, drop, Option, Some, None, Result, Ok, Err, IfOk, refl, sym, ap, subst, arith, slice_get, add-one, append_assoc}
+use Rattle.std.proofs.Common.{◌≡◌, ◌∙◌, ℕ, ◌+◌, ◌<◌, ◌≤◌, ◌^◌, ◌-◌, ◌==◌, inl, inr, Bool, true, false, if◌then◌else◌, List, [], ◌∷◌, length, Option, Some, None, Result, Ok, Err, IfOk, refl, sym, ap, subst, arith}
 use Rattle.std.specs.Prelude.{MatchOption}
 use Rattle.std.specs.List.{All}
 use Rattle.std.proofs.lemmas.List.{append-nil}
@@ -10,7 +10,6 @@ use Rattle.tydi_reading.specs.Reading.{Outcome, stopped, took}
 use Rattle.vhdl_text.specs.Lines.{Cut, cut_last}
 use Rattle.vhdl_text.specs.Reading.{offset_of}
 use Rattle.vhdl_text.specs.declared.refusal.Refusal.{Refusal as Refused}
-use Rattle.handshake.proofs.CursorLemmas.{drop-is}
 use Rattle.cycle_trace.specs.Trace.{TraceText, streams_of}
 use Rattle.cycle_trace.specs.TraceText.{trace_of}
 use Rattle.cycle_trace.specs.declared.fault.TraceFault.{TraceFault}
@@ -47,7 +46,7 @@ use Rattle.tydi_tool.specs.Files.{IsFound}
 use Rattle.tydi_tool.specs.Laws.{AsksAlways, AsksOnce, HasSome, ReadsOnce}
 use Rattle.tydi_tool.specs.Reading.{IsRefusedBy, ReadsAs, ReadsResult, RefusesBy, Seen}
 use Rattle.tydi_tool.specs.Refusals.{Refusal, refusal_line, refusal_of_trace, refusal_of_watch}
-use Rattle.tydi_tool.specs.Watches.{IsFedSome, IsNewUnder, IsOfEach, ReadsBeside, ReadsWatch, ReadsWatching, TellsWatching, lines_from, stream_line, watches_after, watching_in}
+use Rattle.tydi_tool.specs.Watches.{IsFedSome, IsNewUnder, IsOfEach, ReadsBeside, ReadsWatch, ReadsWatching, TellsWatching, watches_after, watching_in}
 use Rattle.tydi_tool.specs.Words.{FileWord, monitor_file}
 use Rattle.tydi_tool.proofs.AnswerLemmas.{RefusesBy-line, not_read}
 use Rattle.tydi_tool.proofs.BenchLemmas.{result-apart, result-lines, result-read, result-same, result-some}
@@ -184,19 +183,6 @@ told-some watch word bytes found reads = by (trace_of bytes) reads
 
 pub watched-always : (trace : List ℕ) (watch : PlainWatch) → AsksAlways (watched_ask trace watch)
 watched-always trace watch = (λ bytes. watching-some watch trace bytes (trace_of bytes) refl, λ bytes found reads none. let a = told-some watch trace bytes found reads in none a.0 a.1)
-
--- ---- the lines
-
--- the lines of the streams so far, with that of one stream more
-pub more-lines : (watch : PlainWatch) (watched : List StreamWatched) (number : ℕ) (one : StreamWatched) (all lines next : List ℕ) → slice_get watched number ≡ Some one
-    → next ≡ lines ++ stream_line watch number one
-    → lines ++ lines_from watch number (drop number watched) ≡ all → next ++ lines_from watch (number + 1) (drop (number + 1) watched) ≡ all
-more-lines watch watched number one all lines next there added so_far =
-    let line = stream_line watch number one in
-    let rest = lines_from watch (number + 1) (drop (number + 1) watched) in
-    ap (λ (l : List ℕ). l ++ rest) added ∙ append_assoc lines line rest
-    ∙ ap (λ (n : ℕ). lines ++ (line ++ lines_from watch n (drop (number + 1) watched))) (add-one number)
-    ∙ ap (λ (streams : List StreamWatched). lines ++ lines_from watch number streams) (sym (drop-is watched number one there)) ∙ so_far
 
 -- ---- in code
 

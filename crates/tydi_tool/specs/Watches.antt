@@ -1,9 +1,8 @@
 -- How the text of a monitor is read, what a monitor says of a trace, and the answers of `expect` and of `watch` (this project's own).
-use Rattle.std.specs.Prelude.{◌≡◌, ℕ, suc, ◌++◌, ◌<◌, Bool, true, false, List, [], ◌∷◌, length, Option, Some, None, Result, Ok, Err, codes, decimal}
+use Rattle.std.specs.Prelude.{◌≡◌, ℕ, suc, ◌++◌, Bool, true, false, List, [], ◌∷◌, length, Option, Some, None, Result, Ok, Err, codes, decimal}
 use Rattle.std.specs.List.{All, list_any, slice_index_or}
 use Rattle.std.specs.Option.{is_some}
 use Rattle.tydi_base.specs.Path.{path_text}
-use Rattle.physical_stream.specs.declared.item.Item.{Item}
 use Rattle.cycle_trace.specs.Trace.{TraceText}
 use Rattle.cycle_trace.specs.TraceText.{trace_of}
 use Rattle.cycle_trace.specs.declared.fault.TraceFault.{TraceFault}
@@ -59,14 +58,10 @@ seen_text count place (Some edge) = codes " report " ⁀ decimal edge ⁀ codes 
 abbrev pub watched_line : List (List ℕ) → ℕ → StreamWatched → List ℕ
 watched_line path count one = codes "stream " ⁀ path_text path ⁀ seen_text count one.place one.report
 
--- the line of the stream of this number
-abbrev pub stream_line : PlainWatch → ℕ → StreamWatched → List ℕ
-stream_line watch stream one = watched_line (path_of_stream watch.heads stream) (count_of watch stream) one
-
 -- the lines of these streams of a monitor, the first of which has this number
 abbrev pub lines_from : PlainWatch → ℕ → List StreamWatched → List ℕ
 lines_from watch number [] = []
-lines_from watch number (one ∷ more) = stream_line watch number one ++ lines_from watch (suc number) more
+lines_from watch number (one ∷ more) = watched_line (path_of_stream watch.heads number) (count_of watch number) one ++ lines_from watch (suc number) more
 
 -- the lines of all streams of a monitor
 abbrev pub watched_lines : PlainWatch → List StreamWatched → List ℕ

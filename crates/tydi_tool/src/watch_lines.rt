@@ -1,12 +1,12 @@
 //! The lines of what a monitor says of the streams of a trace.
 
-ghost use Rattle.std.specs.Prelude.{◌≡◌, ◌<◌, ◌++◌, [], length, IfOk, OnOk};
-ghost use Rattle.std.specs.List.{list_any, slice_index_or};
+ghost use Rattle.std.specs.Prelude.{◌≡◌, ◌<◌, ◌++◌, length, IfOk, OnOk};
+ghost use Rattle.std.specs.List.{list_any};
 ghost use Rattle.watch_text.specs.Statements.{plain_watch};
+ghost use Rattle.tydi_tool.specs.Reports.{path_of_stream};
 ghost use Rattle.tydi_tool.specs.Watches as spec;
 
 use crate::reports::path_of;
-use physical_stream::Item;
 use std::alloc::Global;
 use trace_watch::StreamWatched;
 use tydi_base::{List, Memory, Path, Written, emit};
@@ -23,34 +23,17 @@ pub(crate) fn watched_lines(
     ensures { IfOk result (λ lines. lines ≡ spec.watched_lines (plain_watch watch.now) watched.now) }
 {
     let mut lines = List::new(alloc);
+    let heads = watch.heads.as_slice();
+    let want = watch.want.as_slice();
     'streams: for stream in 0..watched.len() {
-        push_stream(watch, stream, &watched[stream], &mut lines)?;
+        push_watched(
+            path_of(heads, stream),
+            want[stream].len(),
+            &watched[stream],
+            &mut lines,
+        )?;
     }
     Ok(lines)
-}
-
-/// Adds the line of the stream of this number.
-fn push_stream(
-    watch: &Watch,
-    stream: usize,
-    one: &StreamWatched,
-    lines: &mut List<u8>,
-) -> Result<(), Memory>
-    requires heads { stream < length watch.now.heads }
-    requires tables { stream < length watch.now.want }
-    ensures { OnOk result (lines.new ≡ lines.old ++ spec.stream_line (plain_watch watch.now) stream one.now) }
-{
-    let path = path_of(watch.heads.as_slice(), stream);
-    let count = count_of(watch.want.as_slice(), stream);
-    push_watched(path, count, one, lines)
-}
-
-/// How many items the stream of this number expects.
-fn count_of(want: &[List<Item>], stream: usize) -> usize
-    requires { stream < length want.now }
-    ensures { result ≡ length (slice_index_or want.now stream []) }
-{
-    want[stream].len()
 }
 
 /// Adds the line of the stream of this path, which expects so many items.
