@@ -59,6 +59,115 @@ $ compare p n::s.p v t
 < 1 1 d=02 l=1 b=1
 > same
 = 0 failing 4 2
+# expect, whose five pieces have 387, 132, 6, 444 and 18 bytes
+$ expect p n::s.p v
+~ namespace n { streamlet s = (p: in Stream(data: Bits(8), complexity: 1)); }
+@ p
+~ root - = ;
+@ v
+> -- tydi-watch 1
+> -- stream - lanes 1 dims 0 level 1 element 8 user 0 forward
+> library ieee;
+> use ieee.std_logic_1164.all;
+> use ieee.numeric_std.all;
+> entity watch is
+>   port (
+>     clk : in std_logic;
+>     \\-.ready\\ : in std_logic;
+>     \\-.valid\\ : in std_logic;
+>     \\-.data\\ : in std_logic_vector(7 downto 0);
+>     \\-.fault\\ : out std_logic := '0'
+>   );
+> end entity;
+> architecture check of watch is
+>   type \\-.items\\ is array (0 to 0) of std_logic_vector(9 downto 0);
+>   constant \\-.want\\ : \\-.items\\ := (
+>     0 => \"0000000000\"
+>   );
+> begin
+>   process
+>     variable place : natural := 0;
+>   begin
+>     loop
+>       wait until rising_edge(clk) and \\-.valid\\ = '1' and \\-.ready\\ = '1';
+>       for lane in 0 to 0 loop
+>         if true then
+>           if \\-.want\\(place) = \"10\" & \\-.data\\(lane * 8 + 7 downto lane * 8) then
+>             place := place + 1;
+>           else
+>             \\-.fault\\ <= '1';
+>             wait;
+>           end if;
+>         end if;
+>       end loop;
+>     end loop;
+>   end process;
+> end architecture;
+= 0 failing 3 330
+# watch
+$ watch m t
+< -- tydi-watch 1
+< -- stream - lanes 1 dims 1 level 1 element 8 user 0 forward
+< library ieee;
+< use ieee.std_logic_1164.all;
+< use ieee.numeric_std.all;
+< entity watch is
+<   port (
+<     clk : in std_logic;
+<     \\-.ready\\ : in std_logic;
+<     \\-.valid\\ : in std_logic;
+<     \\-.data\\ : in std_logic_vector(7 downto 0);
+<     \\-.last\\ : in std_logic_vector(0 downto 0);
+<     \\-.strb\\ : in std_logic_vector(0 downto 0);
+<     \\-.fault\\ : out std_logic := '0'
+<   );
+< end entity;
+< architecture check of watch is
+<   type \\-.items\\ is array (0 to 3) of std_logic_vector(9 downto 0);
+<   constant \\-.want\\ : \\-.items\\ := (
+<     0 => \"1000000001\",
+<     1 => \"1000000010\",
+<     2 => \"0100000000\",
+<     3 => \"0000000000\"
+<   );
+< begin
+<   process
+<     variable place : natural := 0;
+<   begin
+<     loop
+<       wait until rising_edge(clk) and \\-.valid\\ = '1' and \\-.ready\\ = '1';
+<       for lane in 0 to 0 loop
+<         if \\-.strb\\(lane) = '1' then
+<           if \\-.want\\(place) = \"10\" & \\-.data\\(lane * 8 + 7 downto lane * 8) then
+<             place := place + 1;
+<           else
+<             \\-.fault\\ <= '1';
+<             wait;
+<           end if;
+<         end if;
+<         for dim in 0 to 0 loop
+<           if \\-.last\\(lane * 1 + dim) = '1' then
+<             if \\-.want\\(place) = \"01\" & std_logic_vector(to_unsigned(dim, 8)) then
+<               place := place + 1;
+<             else
+<               \\-.fault\\ <= '1';
+<               wait;
+<             end if;
+<           end if;
+<         end loop;
+<       end loop;
+<     end loop;
+<   end process;
+< end architecture;
+@ m
+< tydi-trace 1
+< cycles 2
+< stream - lanes 1 dims 1 level 1 element 8 user 0 forward
+< 1 1 d=01 l=0 b=1
+< 1 1 d=02 l=1 b=1
+@ t
+> stream - seen 3 of 3
+= 0 failing 4 6
 # verilog, whose three pieces have 22, 82 and 22 bytes
 $ verilog p
 < namespace a { streamlet s = (); }

@@ -17,6 +17,8 @@ mod drive_tables;
 #[cfg(test)]
 mod edge;
 #[cfg(test)]
+mod expect_rows;
+#[cfg(test)]
 mod failing_rows;
 #[cfg(test)]
 mod job_tables;
@@ -46,3 +48,5 @@ mod value_rows;
 mod vcd_rows;
 #[cfg(test)]
 mod verilog_rows;
+#[cfg(test)]
+mod watch_rows;

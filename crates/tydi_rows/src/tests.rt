@@ -6,6 +6,7 @@ use crate::compare_rows::{COMPARED, UNCOMPARED};
 use crate::decode_tables::{DECODED, VALUES_OF_TEXTS, VALUES_OF_TRACES};
 use crate::design_rows::{CLASHING, DESIGNED};
 use crate::drive_tables::{DRIVEN, RUNS, UNDRIVEN};
+use crate::expect_rows::{EXPECTED, UNEXPECTED};
 use crate::failing_rows::{FAILING, LARGE, LINE_THAT_FAILS};
 use crate::job_tables::JOBS;
 use crate::link_rows::{DESIGNS, LINKED, TYPES};
@@ -20,11 +21,12 @@ use crate::trace_tables::{KINDS, LONG, ONE_STREAM, PIECES, SEVERAL_STREAMS, SURV
 use crate::value_rows::{FORMLESS, MANY, RAW, READ_BACK, UNFIT};
 use crate::vcd_rows::{AGAINST_PROFILE, DUMP_WORDS, SAMPLED, UNSAMPLED};
 use crate::verilog_rows::VERILOG;
+use crate::watch_rows::{FORMLESS_MONITORS, UNWATCHED, WATCHED};
 use std::alloc::Global;
 use tydi_base::{List, Memory, Text};
 use tydi_tool::{
     answers_are_one, benches_drive_ports, causes_are_told, drives_are_legal, dumps_are_sampled,
-    traces_are_compared, written_designs_are_wired,
+    monitors_are_watched, traces_are_compared, written_designs_are_wired,
 };
 
 /// One less than the most bytes that a call takes or gives, where files and texts come whole.
@@ -83,6 +85,19 @@ fn decoded(rt: HostRuntime) {
 fn compared(rt: HostRuntime) {
     check_table(&rt, COMPARED, 22, CUT_SMALL);
     check_table(&rt, UNCOMPARED, 16, WHOLE);
+}
+
+#[test]
+fn expected(rt: HostRuntime) {
+    check_table(&rt, EXPECTED, 14, CUT);
+    check_table(&rt, UNEXPECTED, 14, WHOLE);
+}
+
+#[test]
+fn watched(rt: HostRuntime) {
+    check_table(&rt, WATCHED, 22, CUT_SMALL);
+    check_table(&rt, FORMLESS_MONITORS, 54, WHOLE);
+    check_table(&rt, UNWATCHED, 13, WHOLE);
 }
 
 #[test]
@@ -151,7 +166,7 @@ fn generated(rt: HostRuntime) {
 
 #[test]
 fn calls_that_fail(rt: HostRuntime) {
-    check_table(&rt, FAILING, 9, WHOLE);
+    check_table(&rt, FAILING, 11, WHOLE);
     check_table(&rt, LINE_THAT_FAILS, 1, WHOLE);
 }
 
@@ -207,6 +222,7 @@ fn laws() {
     drives_are_legal();
     benches_drive_ports();
     dumps_are_sampled();
+    monitors_are_watched();
     traces_are_compared();
     written_designs_are_wired();
 }

@@ -26,7 +26,7 @@ use Rattle.tydi_tool.specs.Outcome.{output_answer}
 use Rattle.tydi_tool.specs.Projects.{ReadsProject}
 use Rattle.tydi_tool.specs.Reading.{ReadsResult}
 use Rattle.tydi_tool.specs.Refusals.{refusal_line, refusal_of_trace}
-use Rattle.tydi_tool.specs.Words.{Request, Carry, Check, Decode, Drive, Link, Read, Sim, Split, Design, Bench, Testbench, project_file, trace_file, Vcd, Gen, Compare}
+use Rattle.tydi_tool.specs.Words.{Request, Carry, Check, Decode, Drive, Link, Read, Sim, Split, Design, Bench, Testbench, project_file, trace_file, Vcd, Gen, Compare, Expect, Watch}
 use Rattle.tydi_tool.proofs.ArrivalLemmas.{cycles-read, read-cycles}
 use Rattle.tydi_tool.proofs.CauseLines.{by_line, line_of, link_text, one_word, trace_text, two_words}
 use Rattle.tydi_tool.proofs.CauseSteps.{Told, gives_text, reaches-read, refuses_project, says-read, says-refused, told-file}
@@ -192,6 +192,8 @@ from_carried_words known (Testbench project test) words a named said = absurd cc
 from_carried_words known (Vcd project port scope file) words a named said = absurd cc
 from_carried_words known (Gen project port seed count) words a named said = absurd cc
 from_carried_words known (Compare project port value trace) words a named said = absurd cc
+from_carried_words known (Expect project port value) words a named said = absurd cc
+from_carried_words known (Watch monitor trace) words a named said = absurd cc
 from_carried_words known (Carry project top from to trace) words a named said =
     subst (λ (w : CarryWords). SaysBy (Some known) (carry_ask w.design w.trace) a) (sym
     (same_carry (of_carry (of_design project top from to) trace) words named)) said

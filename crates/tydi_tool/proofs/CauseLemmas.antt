@@ -39,9 +39,9 @@ use Rattle.tydi_tool.specs.Causes.{driven_in, port_in, project_of, resolved_of, 
 use Rattle.tydi_tool.specs.Causes.{TooLongCause, NotUtf8Cause, LexerCause, ParserCause, ResolverCause, NoPortCause, NameClashCause, NoCarrierCause}
 use Rattle.tydi_tool.specs.Causes.{TextFaultCause, CountNotMultipleCause, NotFinishedCause, LinkFaultCause, CheckedOffence, CheckedUnfinished, OffenceCause}
 use Rattle.tydi_tool.specs.Causes.{UnfinishedCause, DecodeWords, decoded_in, link_line, ChecksLinks, PortClashes, SourceClashes, DesignClashCause}
-use Rattle.tydi_tool.specs.Causes.{CompareWords, ValueWords, at_port, compared_in, valued_in, IsUndriven, PortUncarried, TestClashes, TestUncarried}
+use Rattle.tydi_tool.specs.Causes.{CompareWords, ValueWords, WatchWords, at_port, compared_in, valued_in, watched_in, IsUndriven, PortUncarried, TestClashes, TestUncarried}
 use Rattle.tydi_tool.specs.Commands.{ask_of, Says, check_ask, dump_ask, outcome_ask, carried_ask, link_ask, planned_ask, port_ask, run_ask, sim_ask, of_design}
-use Rattle.tydi_tool.specs.Commands.{compared_ask, design_ask, plan_ask, valued_ask}
+use Rattle.tydi_tool.specs.Commands.{compared_ask, design_ask, expected_ask, plan_ask, valued_ask}
 use Rattle.tydi_tool.specs.Drives.{TellsBench, TellsDriven, TellsMade, carried, path_of, refusal_of_driving}
 use Rattle.tydi_tool.specs.Files.{NoFile, TooLong}
 use Rattle.tydi_tool.specs.Jobs.{TellsJob}
@@ -79,6 +79,7 @@ use Rattle.tydi_tool.specs.Benches.{ReadsBench, ReadsRun}
 use Rattle.tydi_tool.proofs.BenchLemmas.{ReadsBench-read, ReadsRun-read, bench-read, run-read}
 use Rattle.tydi_tool.proofs.CauseLines.{bench_text, by_line, caused_row, lexer_text, line_of, link_text, one_word, parser_text, resolver_text, run_text, same_some, three_words, trace_text, two_words, value_text}
 use Rattle.tydi_tool.proofs.CompareCauses.{compares, of_compare, says-compared_fault, says-compared_header, says-difference, says-same_text, told-compared}
+use Rattle.tydi_tool.proofs.WatchCauses.{monitors, of_expect, of_watch, runs, says-expected, says-monitor_fault, says-quiet_text, says-report, says-watched_fault, says-watched_header, told-expected, told-watch}
 use Rattle.tydi_tool.proofs.CauseDecodes.{decodes, says-decoded_offence, says-decoded_unfinished, says-disagreement, says-other_header}
 use Rattle.tydi_tool.proofs.CauseDecodes.{says-port_trace_fault, says-value_text, told-decoded}
 use Rattle.tydi_tool.proofs.CauseSteps.{Told, ends_line, plan-refused, over_test, reaches-read, refuses_project, reports_end, refuses_tree, says-found, says-plan}
@@ -270,6 +271,7 @@ port_next (requests.Bench project port value plan) split = goes_on (carried spli
 port_next (requests.Vcd project port scope file) split = dump_ask scope file split
 port_next (requests.Gen project port seed count) split = goes_on (carried split) (λ done. job_next seed count split)
 port_next (requests.Compare project port value trace) split = goes_on (carried split) (λ done. compare_next value trace split)
+port_next (requests.Expect project port value) split = goes_on (carried split) (λ done. expected_ask value split)
 port_next request split = Ends (λ a. ⊥)
 
 -- with the split of a port that is carried
@@ -279,6 +281,7 @@ carried_next (Decode project port trace) split = outcome_ask trace split
 carried_next (requests.Bench project port value plan) split = benched_next value plan split
 carried_next (requests.Gen project port seed count) split = job_next seed count split
 carried_next (requests.Compare project port value trace) split = compare_next value trace split
+carried_next (requests.Expect project port value) split = expected_ask value split
 carried_next request split = Ends (λ a. ⊥)
 
 -- with a value and a plan of its port
@@ -409,6 +412,12 @@ told known (requests.Compare project port value trace) a says =
     told-carried known (of_project project port) (compare_next value trace) (requests.Compare project port value trace) a refl refl refl refl (inl refl)
     (λ split at said. told-compared known (of_compare project port value trace) (requests.Compare project port value trace) a refl refl split at refl
     (λ text is tells. gives_text known (requests.Compare project port value trace) text a is tells) said) says
+told known (requests.Expect project port value) a says =
+    told-carried known (of_project project port) (expected_ask value) (requests.Expect project port value) a refl refl refl refl (inl refl)
+    (λ split at said. told-expected known (of_expect project port value) (requests.Expect project port value) a refl split at refl
+    (λ text is tells. gives_text known (requests.Expect project port value) text a is tells) said) says
+told known (requests.Watch monitor trace) a says =
+    told-watch known (of_watch monitor trace) (requests.Watch monitor trace) a refl refl (λ text is tells. gives_text known (requests.Watch monitor trace) text a is tells) says
 told known (requests.Testbench project test) a says = told_testbench known project test a says
 told known (requests.Vcd project port scope file) a says =
     told-port known (of_project project port) (dump_ask scope file) (requests.Vcd project port scope file) a refl refl refl (inl refl)
@@ -445,6 +454,7 @@ from_port known (Link project) words a named said = absurd cc
 from_port known (Carry project top from to trace) words a named said = absurd cc
 from_port known (Design language project) words a named said = absurd cc
 from_port known (requests.Testbench project test) words a named said = absurd cc
+from_port known (requests.Watch monitor trace) words a named said = absurd cc
 from_port known (Split project port) words a named said =
     subst (λ (w : PortWords). SaysBy (Some known) (port_ask w.project w.port split_end) a) (sym (same_words (of_project project port) words named)) said
 from_port known (requests.Vcd project port scope file) words a named said =
@@ -459,6 +469,8 @@ from_port known (requests.Gen project port seed count) words a named said =
     subst (λ (w : PortWords). SaysBy (Some known) (carried_ask w.project w.port (job_next seed count)) a) (sym (same_words (of_project project port) words named)) said
 from_port known (requests.Compare project port value trace) words a named said =
     subst (λ (w : PortWords). SaysBy (Some known) (carried_ask w.project w.port (compare_next value trace)) a) (sym (same_words (of_project project port) words named)) said
+from_port known (requests.Expect project port value) words a named said =
+    subst (λ (w : PortWords). SaysBy (Some known) (carried_ask w.project w.port (expected_ask value)) a) (sym (same_words (of_project project port) words named)) said
 
 -- the same of a port that has to be carried
 from_carried : (known : Files) (request : Request) (words : PortWords) (a : Answer) → carried_in request ≡ Some words → SaysBy (Some known) (carried_ask words.project words.port (carried_next request)) a
@@ -471,6 +483,7 @@ from_carried known (Carry project top from to trace) words a named said = absurd
 from_carried known (Design language project) words a named said = absurd cc
 from_carried known (requests.Testbench project test) words a named said = absurd cc
 from_carried known (requests.Vcd project port scope file) words a named said = absurd cc
+from_carried known (requests.Watch monitor trace) words a named said = absurd cc
 from_carried known (Split project port) words a named said = absurd cc
 from_carried known (Drive project port value plan) words a named said =
     subst (λ (w : PortWords). SaysBy (Some known) (carried_ask w.project w.port (driven_next value plan)) a) (sym (same_words (of_project project port) words named)) said
@@ -482,6 +495,8 @@ from_carried known (requests.Gen project port seed count) words a named said =
     subst (λ (w : PortWords). SaysBy (Some known) (carried_ask w.project w.port (job_next seed count)) a) (sym (same_words (of_project project port) words named)) said
 from_carried known (requests.Compare project port value trace) words a named said =
     subst (λ (w : PortWords). SaysBy (Some known) (carried_ask w.project w.port (compare_next value trace)) a) (sym (same_words (of_project project port) words named)) said
+from_carried known (requests.Expect project port value) words a named said =
+    subst (λ (w : PortWords). SaysBy (Some known) (carried_ask w.project w.port (expected_ask value)) a) (sym (same_words (of_project project port) words named)) said
 
 -- the same of a port that is driven
 abbrev drives_by : Request → DriveWords → Ask
@@ -498,6 +513,8 @@ from_driven known (requests.Testbench project test) words a named said = absurd 
 from_driven known (requests.Vcd project port scope file) words a named said = absurd cc
 from_driven known (requests.Gen project port seed count) words a named said = absurd cc
 from_driven known (requests.Compare project port value trace) words a named said = absurd cc
+from_driven known (requests.Expect project port value) words a named said = absurd cc
+from_driven known (requests.Watch monitor trace) words a named said = absurd cc
 from_driven known (Split project port) words a named said = absurd cc
 from_driven known (Decode project port trace) words a named said = absurd cc
 from_driven known (Drive project port value plan) words a named said =
@@ -517,6 +534,8 @@ from_decoded known (requests.Testbench project test) words a named said = absurd
 from_decoded known (requests.Vcd project port scope file) words a named said = absurd cc
 from_decoded known (requests.Gen project port seed count) words a named said = absurd cc
 from_decoded known (requests.Compare project port value trace) words a named said = absurd cc
+from_decoded known (requests.Expect project port value) words a named said = absurd cc
+from_decoded known (requests.Watch monitor trace) words a named said = absurd cc
 from_decoded known (Split project port) words a named said = absurd cc
 from_decoded known (Drive project port value plan) words a named said = absurd cc
 from_decoded known (Carry project top from to trace) words a named said = absurd cc
@@ -545,6 +564,7 @@ says_project : (known : Files) (request : Request) (word bytes line : List ℕ) 
 says_project known (Check trace) word bytes line a project refused said = absurd (no_word word project.word_is)
 says_project known (Read name) word bytes line a project refused said = absurd (no_word word project.word_is)
 says_project known (Sim bench run) word bytes line a project refused said = absurd (no_word word project.word_is)
+says_project known (requests.Watch monitor trace) word bytes line a project refused said = absurd (no_word word project.word_is)
 says_project known (Split name port) word bytes line a project refused said =
     let same = same_name name word project.word_is in
     from_port known (Split name port) (of_project name port) a refl
@@ -592,6 +612,11 @@ says_project known (requests.Compare name port value trace) word bytes line a pr
     from_port known (requests.Compare name port value trace) (of_project name port) a refl
     (refused_in_port known (of_project name port) (port_next (requests.Compare name port value trace)) bytes line a
     (subst (λ (w : List ℕ). HasBytes known w 4194304 bytes) (sym same) project.file) (subst (λ (w : List ℕ). ReadsProject w bytes (Err line)) (sym same) refused) said)
+says_project known (requests.Expect name port value) word bytes line a project refused said =
+    let same = same_name name word project.word_is in
+    from_port known (requests.Expect name port value) (of_project name port) a refl
+    (refused_in_port known (of_project name port) (port_next (requests.Expect name port value)) bytes line a
+    (subst (λ (w : List ℕ). HasBytes known w 4194304 bytes) (sym same) project.file) (subst (λ (w : List ℕ). ReadsProject w bytes (Err line)) (sym same) refused) said)
 says_project known (requests.Testbench name test) word bytes line a project refused said =
     let same = same_name name word project.word_is in
     says-refused known (project_file name) (ReadsProject name) (λ read. Ends (TellsTest read test)) a bytes line
@@ -602,6 +627,7 @@ says_tree : (known : Files) (request : Request) (word bytes line : List ℕ) (a 
     → SaysBy (Some known) (ask_of request) a
 says_tree known (Check trace) word bytes line a project refused said = absurd (no_word word project.word_is)
 says_tree known (Sim bench run) word bytes line a project refused said = absurd (no_word word project.word_is)
+says_tree known (requests.Watch monitor trace) word bytes line a project refused said = absurd (no_word word project.word_is)
 says_tree known (Read name) word bytes line a project refused said =
     let same = same_name name word project.word_is in
     says-refused known (project_file name) (ReadsTree name) (λ ast. Ends (λ b. b ≡ output_answer (canonical ast))) a bytes line
@@ -628,6 +654,8 @@ says_tree known (requests.Gen name port seed count) word bytes line a project re
     says_project known (requests.Gen name port seed count) word bytes line a (record { word_is = project.word_is; file = project.file }) (inl refused) said
 says_tree known (requests.Compare name port value trace) word bytes line a project refused said =
     says_project known (requests.Compare name port value trace) word bytes line a (record { word_is = project.word_is; file = project.file }) (inl refused) said
+says_tree known (requests.Expect name port value) word bytes line a project refused said =
+    says_project known (requests.Expect name port value) word bytes line a (record { word_is = project.word_is; file = project.file }) (inl refused) said
 
 says_not_utf8 : (known : Files) (request : Request) (a : Answer) → NotUtf8Cause known request a → SaysBy (Some known) (ask_of request) a
 says_not_utf8 known request a cause =
@@ -711,6 +739,8 @@ says_trace_fault known (requests.Testbench name test) line a has said = absurd (
 says_trace_fault known (requests.Vcd name port scope file) line a has said = absurd (no_word has.word has.trace.word_is)
 says_trace_fault known (requests.Gen name port seed count) line a has said = absurd (no_word has.word has.trace.word_is)
 says_trace_fault known (requests.Compare name port value trace) line a has said = absurd (no_word has.word has.trace.word_is)
+says_trace_fault known (requests.Expect name port value) line a has said = absurd (no_word has.word has.trace.word_is)
+says_trace_fault known (requests.Watch monitor trace) line a has said = absurd (no_word has.word has.trace.word_is)
 says_trace_fault known (Split name port) line a has said = absurd (no_word has.word has.trace.word_is)
 says_trace_fault known (Drive name port value plan) line a has said = absurd (no_word has.word has.trace.word_is)
 says_trace_fault known (Decode name port trace) line a has said = absurd (no_word has.word has.trace.word_is)
@@ -728,6 +758,7 @@ abbrev valued_next : Request → PlainSplit → PortValue → Ask
 valued_next (Drive project port value plan) split read = plan_ask plan split (TellsDriven split read)
 valued_next (requests.Bench project port value plan) split read = plan_ask plan split (TellsBench split read)
 valued_next (requests.Compare project port value trace) split read = compared_ask trace split read
+valued_next (requests.Expect project port value) split read = monitors split read
 valued_next request split read = Ends (λ a. ⊥)
 
 abbrev of_value : (project port value : List ℕ) → ValueWords
@@ -746,6 +777,7 @@ from_valued known (Design language project) words a named said = absurd cc
 from_valued known (requests.Testbench project test) words a named said = absurd cc
 from_valued known (requests.Vcd project port scope file) words a named said = absurd cc
 from_valued known (requests.Gen project port seed count) words a named said = absurd cc
+from_valued known (requests.Watch monitor trace) words a named said = absurd cc
 from_valued known (Split project port) words a named said = absurd cc
 from_valued known (Decode project port trace) words a named said = absurd cc
 from_valued known (Drive project port value plan) words a named said =
@@ -754,6 +786,8 @@ from_valued known (requests.Bench project port value plan) words a named said =
     subst (λ (w : ValueWords). SaysBy (Some known) (values known w (valued_next (requests.Bench project port value plan))) a) (sym (same_valued (of_value project port value) words named)) said
 from_valued known (requests.Compare project port value trace) words a named said =
     subst (λ (w : ValueWords). SaysBy (Some known) (values known w (valued_next (requests.Compare project port value trace))) a) (sym (same_valued (of_value project port value) words named)) said
+from_valued known (requests.Expect project port value) words a named said =
+    subst (λ (w : ValueWords). SaysBy (Some known) (values known w (valued_next (requests.Expect project port value))) a) (sym (same_valued (of_value project port value) words named)) said
 
 says_value_fault : (known : Files) (request : Request) (line : List ℕ) (a : Answer) → HasValueFault known request line → a ≡ answers.Refused line → SaysBy (Some known) (ask_of request) a
 says_value_fault known request line a has said =
@@ -776,11 +810,36 @@ from_compared known (requests.Bench project port value plan) words a named said 
 from_compared known (requests.Testbench project test) words a named said = absurd cc
 from_compared known (requests.Vcd project port scope file) words a named said = absurd cc
 from_compared known (requests.Gen project port seed count) words a named said = absurd cc
+from_compared known (requests.Expect project port value) words a named said = absurd cc
+from_compared known (requests.Watch monitor trace) words a named said = absurd cc
 from_compared known (Split project port) words a named said = absurd cc
 from_compared known (Drive project port value plan) words a named said = absurd cc
 from_compared known (Decode project port trace) words a named said = absurd cc
 from_compared known (requests.Compare project port value trace) words a named said =
     subst (λ (w : CompareWords). SaysBy (Some known) (compares known w) a) (sym (same_compared (of_compare project port value trace) words named)) said
+
+-- a command that runs a monitor over a trace
+same_watched : (one other : WatchWords) → ◌≡◌ {A = Option WatchWords} (Some one) (Some other) → one ≡ other
+same_watched one other e = cc
+
+from_watched : (known : Files) (request : Request) (words : WatchWords) (a : Answer) → watched_in request ≡ Some words → SaysBy (Some known) (runs known words) a → SaysBy (Some known) (ask_of request) a
+from_watched known (Check trace) words a named said = absurd cc
+from_watched known (Read project) words a named said = absurd cc
+from_watched known (Sim bench run) words a named said = absurd cc
+from_watched known (Link project) words a named said = absurd cc
+from_watched known (Carry project top from to trace) words a named said = absurd cc
+from_watched known (Design language project) words a named said = absurd cc
+from_watched known (requests.Bench project port value plan) words a named said = absurd cc
+from_watched known (requests.Testbench project test) words a named said = absurd cc
+from_watched known (requests.Vcd project port scope file) words a named said = absurd cc
+from_watched known (requests.Gen project port seed count) words a named said = absurd cc
+from_watched known (requests.Compare project port value trace) words a named said = absurd cc
+from_watched known (requests.Expect project port value) words a named said = absurd cc
+from_watched known (Split project port) words a named said = absurd cc
+from_watched known (Drive project port value plan) words a named said = absurd cc
+from_watched known (Decode project port trace) words a named said = absurd cc
+from_watched known (requests.Watch monitor trace) words a named said =
+    subst (λ (w : WatchWords). SaysBy (Some known) (runs known w) a) (sym (same_watched (of_watch monitor trace) words named)) said
 
 says_plan_fault : (known : Files) (request : Request) (line : List ℕ) (a : Answer) → HasPlanFault known request line → a ≡ answers.Refused line → SaysBy (Some known) (ask_of request) a
 says_plan_fault known request line a has said =
@@ -806,6 +865,8 @@ from_simulated known (requests.Testbench project test) words a named said = absu
 from_simulated known (requests.Vcd project port scope file) words a named said = absurd cc
 from_simulated known (requests.Gen project port seed count) words a named said = absurd cc
 from_simulated known (requests.Compare project port value trace) words a named said = absurd cc
+from_simulated known (requests.Expect project port value) words a named said = absurd cc
+from_simulated known (requests.Watch monitor trace) words a named said = absurd cc
 from_simulated known (Sim bench run) words a named said =
     subst (λ (w : SimWords). SaysBy (Some known) (sim_ask w.bench w.run) a) (sym (same_simulated (record { bench = bench; run = run }) words named)) said
 
@@ -851,8 +912,12 @@ says_text_fault known request line a (inr (inr (inr (inr (inr (inr (inl has)))))
 says_text_fault known request line a (inr (inr (inr (inr (inr (inr (inr (inl has)))))))) said = says_test_value known request a line has said
 says_text_fault known request line a (inr (inr (inr (inr (inr (inr (inr (inr (inl has))))))))) said = says_test_plan known request a line has said
 says_text_fault known request line a (inr (inr (inr (inr (inr (inr (inr (inr (inr (inl has)))))))))) said = says_dump_fault known request line a has said
-says_text_fault known request line a (inr (inr (inr (inr (inr (inr (inr (inr (inr (inr has)))))))))) said =
+says_text_fault known request line a (inr (inr (inr (inr (inr (inr (inr (inr (inr (inr (inl has))))))))))) said =
     from_compared known request has.words a has.named (says-compared_fault known request line a has said)
+says_text_fault known request line a (inr (inr (inr (inr (inr (inr (inr (inr (inr (inr (inr (inl has)))))))))))) said =
+    from_watched known request has.words a has.named (says-monitor_fault known request line a has said)
+says_text_fault known request line a (inr (inr (inr (inr (inr (inr (inr (inr (inr (inr (inr (inr has)))))))))))) said =
+    from_watched known request has.words a has.named (says-watched_fault known request line a has said)
 
 -- a port that is not driven
 says_file_reason : (known : Files) (request : Request) (split : PlainSplit) (reason : Undriven) (a : Answer) → HasReason known request split reason
@@ -873,6 +938,8 @@ says_file_reason known request split reason a has said =
     ends (requests.Vcd project port scope file) named = absurd cc
     ends (requests.Gen project port seed count) named = absurd cc
     ends (requests.Compare project port value trace) named = absurd cc
+    ends (requests.Expect project port value) named = absurd cc
+    ends (requests.Watch monitor trace) named = absurd cc
     ends (Drive project port value plan) named = tells-unmade split has.value has.plan (trace_by split has.plan) a reason has.is said
     ends (requests.Bench project port value plan) named = tells-unmade split has.value has.plan (bench_by split) a reason has.is said
 
@@ -922,6 +989,8 @@ says_design_clash known (requests.Testbench name test) a cause = absurd (no_word
 says_design_clash known (requests.Vcd name port scope file) a cause = absurd (no_word cause.word cause.named)
 says_design_clash known (requests.Gen name port seed count) a cause = absurd (no_word cause.word cause.named)
 says_design_clash known (requests.Compare name port value trace) a cause = absurd (no_word cause.word cause.named)
+says_design_clash known (requests.Expect name port value) a cause = absurd (no_word cause.word cause.named)
+says_design_clash known (requests.Watch monitor trace) a cause = absurd (no_word cause.word cause.named)
 says_design_clash known (Link name) a cause = absurd (no_word cause.word cause.named)
 says_design_clash known (Decode name port trace) a cause = absurd (no_word cause.word cause.named)
 says_design_clash known (Carry name top from to trace) a cause = absurd (no_word cause.word cause.named)
@@ -946,6 +1015,8 @@ says_link_fault known (requests.Testbench name test) a cause = absurd cause.chec
 says_link_fault known (requests.Vcd name port scope file) a cause = absurd cause.checks
 says_link_fault known (requests.Gen name port seed count) a cause = absurd cause.checks
 says_link_fault known (requests.Compare name port value trace) a cause = absurd cause.checks
+says_link_fault known (requests.Expect name port value) a cause = absurd cause.checks
+says_link_fault known (requests.Watch monitor trace) a cause = absurd cause.checks
 says_link_fault known (Decode name port trace) a cause = absurd cause.checks
 says_link_fault known (Carry name top from to trace) a cause =
     let same = cause.checks.0 in
@@ -992,6 +1063,8 @@ checked_offence known (requests.Vcd name port scope file) a cause = absurd (no_w
 checked_offence known (requests.Testbench name test) a cause = absurd (no_word cause.word cause.trace.word_is)
 checked_offence known (requests.Gen name port seed count) a cause = absurd (no_word cause.word cause.trace.word_is)
 checked_offence known (requests.Compare name port value trace) a cause = absurd (no_word cause.word cause.trace.word_is)
+checked_offence known (requests.Expect name port value) a cause = absurd (no_word cause.word cause.trace.word_is)
+checked_offence known (requests.Watch monitor trace) a cause = absurd (no_word cause.word cause.trace.word_is)
 checked_offence known (Check trace) a cause =
     let t = cause.read in
     says_surveyed known trace cause.bytes t (survey_of (Some cause.first) (first_unfinished 0 (streams_of t)) (counts_of (streams_of t))) a
@@ -1012,6 +1085,8 @@ checked_unfinished known (requests.Vcd name port scope file) a cause = absurd (n
 checked_unfinished known (requests.Testbench name test) a cause = absurd (no_word cause.word cause.trace.word_is)
 checked_unfinished known (requests.Gen name port seed count) a cause = absurd (no_word cause.word cause.trace.word_is)
 checked_unfinished known (requests.Compare name port value trace) a cause = absurd (no_word cause.word cause.trace.word_is)
+checked_unfinished known (requests.Expect name port value) a cause = absurd (no_word cause.word cause.trace.word_is)
+checked_unfinished known (requests.Watch monitor trace) a cause = absurd (no_word cause.word cause.trace.word_is)
 checked_unfinished known (Check trace) a cause =
     let t = cause.read in
     says_surveyed known trace cause.bytes t (survey_of None (Some cause.left) (counts_of (streams_of t))) a
@@ -1054,6 +1129,8 @@ says_text known (requests.Testbench name test) text a is said = says_testbench_t
 says_text known (requests.Vcd name port scope file) text a is said = says-dump_text known (of_dump name port scope file) text a is said
 says_text known (requests.Gen name port seed count) text a is said = says-summary known (of_job name port seed count) text a is said
 says_text known (requests.Compare name port value trace) text a is said = says-same_text known (of_compare name port value trace) text a is said
+says_text known (requests.Expect name port value) text a is said = says-expected known (of_expect name port value) text a is said
+says_text known (requests.Watch monitor trace) text a is said = says-quiet_text known (of_watch monitor trace) text a is said
 
 answer_over : (text : List ℕ) → 67108864 < length text → output_answer text ≡ answers.Refused (codes "tydi: OutputTooLong\n")
 answer_over text long = ap (λ (b : Bool). cond b (answers.Refused output_too_long_line) (answers.Done text)) (over_test output_limit (length text) long)
@@ -1082,12 +1159,14 @@ comes rows.NotFinished known request a cause = says_not_finished known request a
 comes rows.NotLinked known request a cause = says_link_fault known request a cause
 comes rows.NoPath known request a cause = says_no_path known request a cause
 comes rows.OtherHeader known request a (inr (inl cause)) = says_other_header known request a cause
-comes rows.OtherHeader known request a (inr (inr cause)) = from_compared known request cause.words a cause.named (says-compared_header known request a cause)
+comes rows.OtherHeader known request a (inr (inr (inl cause))) = from_compared known request cause.words a cause.named (says-compared_header known request a cause)
+comes rows.OtherHeader known request a (inr (inr (inr cause))) = from_watched known request cause.words a cause.named (says-watched_header known request a cause)
 comes rows.OutputTooLong known request a cause = says_text known request cause.text a cause.is (cause.said ∙ sym (answer_over cause.text cause.long))
 comes rows.AnOffence known request a cause = says_offence known request a cause
 comes rows.AnUnfinished known request a cause = says_unfinished known request a cause
 comes rows.ADisagreement known request a cause = from_decoded known request cause.words a cause.named (says-disagreement known request a cause)
 comes rows.ADifference known request a cause = from_compared known request cause.words a cause.named (says-difference known request a cause)
+comes rows.AReport known request a cause = from_watched known request cause.words a cause.named (says-report known request a cause)
 comes rows.AText known request a cause = says_text known request cause.text a cause.is (cause.said ∙ sym (answer_within cause.text cause.within))
 comes rows.NoTest known request a cause = says_no_test known request a cause
 

@@ -1,5 +1,5 @@
 -- The line of each cause, written out, and its row.
-use Rattle.std.proofs.Common.{◌≡◌, ℕ, inl, inr, ◌++◌, List, [], slice_get, Option, Some, None, option_map, Err, codes, decimal, refl, sym, ap, ◌∙◌, append_assoc}
+use Rattle.std.proofs.Common.{◌≡◌, ℕ, inl, inr, ◌++◌, List, [], ◌∷◌, slice_get, Option, Some, None, option_map, Err, codes, decimal, refl, sym, ap, ◌∙◌, append_assoc}
 use Rattle.std.proofs.lemmas.List.{append-nil}
 use Rattle.tydi_io.specs.Store.{Files}
 use Rattle.physical_stream.specs.declared.end.End.{End}
@@ -27,6 +27,12 @@ use Rattle.type_split.specs.Streams.{PlainSplit}
 use Rattle.vcd_read.specs.declared.fault.VcdFault.{VcdFault}
 use Rattle.vcd_read.specs.declared.fault.VcdFault.TheVariants as dumping
 use Rattle.vhdl_text.specs.Text.{signal_word}
+use Rattle.cycle_trace.specs.Trace.{streams_of}
+use Rattle.trace_watch.specs.Watched.{watched_of}
+use Rattle.trace_watch.specs.declared.watched.StreamWatched.{StreamWatched}
+use Rattle.watch_text.specs.Statements.{PlainWatch}
+use Rattle.watch_text.specs.declared.fault.WatchFault.{WatchFault}
+use Rattle.watch_text.specs.declared.fault.WatchFault.TheVariants as watching
 use Rattle.link_check.specs.declared.difference.Why.{Why}
 use Rattle.link_check.specs.declared.difference.Why.TheVariants as whys
 use Rattle.link_check.specs.declared.fault.LinkFault.{LinkFault}
@@ -37,13 +43,14 @@ use Rattle.tydi_tool.specs.Links.{refusal_of_linking, why_name}
 use Rattle.tydi_tool.specs.declared.answer.Answer.{Answer}
 use Rattle.tydi_tool.specs.declared.answer.Answer.TheVariants as answers
 use Rattle.tydi_tool.specs.Causes as rows
-use Rattle.tydi_tool.specs.Causes.{Row, row_of, at_place, lexer_line, parser_line, type_fault_text, resolver_line, trace_line, value_line, plan_line, bench_line, run_line, dump_line, why_text, link_line, unfinished_line, CausedBy, HasTextFault, job_line}
+use Rattle.tydi_tool.specs.Causes.{Row, row_of, at_place, lexer_line, parser_line, type_fault_text, resolver_line, trace_line, value_line, plan_line, bench_line, monitor_line, run_line, dump_line, why_text, link_line, unfinished_line, CausedBy, HasTextFault, job_line}
 use Rattle.tydi_tool.specs.Drives.{path_of}
 use Rattle.tydi_tool.specs.Dumps.{refusal_of_dump}
 use Rattle.tydi_tool.specs.Reading.{RefusesBy}
-use Rattle.tydi_tool.specs.Refusals.{Refusal, At, of_file_with, refusal_line, refusal_of_bench, refusal_of_lexing, refusal_of_plan, refusal_of_resolving, refusal_of_run, refusal_of_trace, refusal_of_value, type_fault_name}
+use Rattle.tydi_tool.specs.Refusals.{Refusal, At, of_file_with, refusal_line, refusal_of_bench, refusal_of_lexing, refusal_of_plan, refusal_of_resolving, refusal_of_run, refusal_of_trace, refusal_of_value, refusal_of_watch, type_fault_name}
 use Rattle.tydi_tool.specs.Reports.{path_of_stream}
 use Rattle.tydi_tool.specs.Trees.{refusal_of_parsing}
+use Rattle.tydi_tool.specs.Watches.{watched_lines}
 use Rattle.tydi_tool.specs.Words.{Request}
 use Rattle.tydi_tool.proofs.AnswerLemmas.{RefusesBy-line}
 
@@ -159,6 +166,10 @@ bench_text word (benching.NotForm offset) = ap Some (two_words (codes "tydi: ") 
 bench_text word (benching.UnknownSignal offset) = ap Some (two_words (codes "tydi: ") (codes "UnknownSignal") (codes " ") word (decimal offset) (codes "\n"))
 bench_text word (benching.TwoDrivers offset) = ap Some (two_words (codes "tydi: ") (codes "TwoDrivers") (codes " ") word (decimal offset) (codes "\n"))
 bench_text word benching.Memory = refl
+
+pub monitor_text : (word : List ℕ) (fault : WatchFault) → option_map refusal_line (refusal_of_watch word fault) ≡ monitor_line word fault
+monitor_text word (watching.NotForm offset) = ap Some (two_words (codes "tydi: ") (codes "NotForm") (codes " ") word (decimal offset) (codes "\n"))
+monitor_text word watching.Memory = refl
 
 pub run_text : (word : List ℕ) (fault : RunFault) → option_map refusal_line (refusal_of_run word fault) ≡ run_line word fault
 run_text word (running.Syntax place) = ap Some (two_words (codes "tydi: ") (codes "Syntax") (codes " ") word (at_place place) (codes "\n"))
@@ -290,6 +301,10 @@ bench_row word line (benching.UnknownSignal offset) told = row_by rows.TextFault
 bench_row word line (benching.TwoDrivers offset) told = row_by rows.TextFault _ line told refl
 bench_row word line benching.Memory told = absurd cc
 
+monitor_row : (word line : List ℕ) (fault : WatchFault) → monitor_line word fault ≡ Some line → row_of (answers.Refused line) ≡ Some rows.TextFault
+monitor_row word line (watching.NotForm offset) told = row_by rows.TextFault _ line told refl
+monitor_row word line watching.Memory told = absurd cc
+
 run_row : (word line : List ℕ) (fault : RunFault) → run_line word fault ≡ Some line → row_of (answers.Refused line) ≡ Some rows.TextFault
 run_row word line (running.Syntax place) told = row_by rows.TextFault _ line told refl
 run_row word line (running.UnknownStream place) told = row_by rows.TextFault _ line told refl
@@ -321,7 +336,15 @@ text_row known request line (inr (inr (inr (inr (inr (inr (inl trace))))))) = tr
 text_row known request line (inr (inr (inr (inr (inr (inr (inr (inl value)))))))) = value_row (value.words.test ++ codes " value") line value.fault value.told
 text_row known request line (inr (inr (inr (inr (inr (inr (inr (inr (inl plan))))))))) = plan_row (plan.words.test ++ codes " plan") line plan.fault plan.told
 text_row known request line (inr (inr (inr (inr (inr (inr (inr (inr (inr (inl dump)))))))))) = dump_row dump.split dump.words.file line dump.fault dump.told
-text_row known request line (inr (inr (inr (inr (inr (inr (inr (inr (inr (inr trace)))))))))) = trace_row trace.words.trace line trace.fault trace.told
+text_row known request line (inr (inr (inr (inr (inr (inr (inr (inr (inr (inr (inl trace))))))))))) = trace_row trace.words.trace line trace.fault trace.told
+text_row known request line (inr (inr (inr (inr (inr (inr (inr (inr (inr (inr (inr (inl monitor)))))))))))) = monitor_row monitor.words.monitor line monitor.fault monitor.told
+text_row known request line (inr (inr (inr (inr (inr (inr (inr (inr (inr (inr (inr (inr trace)))))))))))) = trace_row trace.words.trace line trace.fault trace.told
+
+-- the lines of streams begin with one, if there is a stream
+report_row : (watch : PlainWatch) (watched : List StreamWatched) (stream : ℕ) (one : StreamWatched) → slice_get watched stream ≡ Some one
+    → row_of (answers.Verdict (watched_lines watch watched)) ≡ Some rows.AReport
+report_row watch [] stream one there = absurd cc
+report_row watch (first ∷ more) stream one there = refl
 
 job_row : (line : List ℕ) (reason : NoJob) → job_line reason ≡ Some line → row_of (answers.Refused line) ≡ Some rows.TextFault
 job_row line TooManyLeaves told = row_by rows.TextFault _ line told refl
@@ -358,7 +381,8 @@ caused_row rows.TextFault known request a (inl cause) = row_as a _ rows.TextFaul
 caused_row rows.TextFault known request a (inr cause) = row_as a _ rows.TextFault cause.said (job_row cause.line cause.reason cause.told)
 caused_row rows.OtherHeader known request a (inl cause) = row_as a _ rows.OtherHeader cause.said refl
 caused_row rows.OtherHeader known request a (inr (inl cause)) = row_as a _ rows.OtherHeader cause.said refl
-caused_row rows.OtherHeader known request a (inr (inr cause)) = row_as a _ rows.OtherHeader cause.said refl
+caused_row rows.OtherHeader known request a (inr (inr (inl cause))) = row_as a _ rows.OtherHeader cause.said refl
+caused_row rows.OtherHeader known request a (inr (inr (inr cause))) = row_as a _ rows.OtherHeader cause.said refl
 caused_row rows.CountNotMultiple known request a (inl cause) = row_as a _ rows.CountNotMultiple cause.said refl
 caused_row rows.CountNotMultiple known request a (inr cause) = row_as a _ rows.CountNotMultiple cause.said refl
 caused_row rows.NotFinished known request a cause = row_as a _ rows.NotFinished cause.said refl
@@ -371,5 +395,6 @@ caused_row rows.AnUnfinished known request a (inl cause) = row_as a _ rows.AnUnf
 caused_row rows.AnUnfinished known request a (inr cause) = row_as a _ rows.AnUnfinished cause.said (unfinished_row (path_of cause.split cause.left.stream) cause.left.end cause.line cause.told)
 caused_row rows.ADisagreement known request a cause = row_as a _ rows.ADisagreement cause.said refl
 caused_row rows.ADifference known request a cause = row_as a _ rows.ADifference cause.said refl
+caused_row rows.AReport known request a cause = row_as a _ rows.AReport cause.said (report_row cause.watch (watched_of cause.watch (streams_of cause.read)) cause.stream cause.one cause.there)
 caused_row rows.AText known request a cause = row_as a _ rows.AText cause.said refl
 caused_row rows.NoTest known request a cause = row_as a _ rows.NoTest cause.said refl

@@ -75,7 +75,7 @@ reports_end path (ends.Unclosed k) line a told said = said ∙ ap answers.Verdic
 
 -- ---- the bytes that are found of a file
 
-found_bytes : (limit : ℕ) (found : Option (List ℕ)) (bytes : List ℕ) → bytes_within limit found ≡ Ok bytes → (found ≡ Some bytes) × (length bytes ≤ limit)
+pub found_bytes : (limit : ℕ) (found : Option (List ℕ)) (bytes : List ℕ) → bytes_within limit found ≡ Ok bytes → (found ≡ Some bytes) × (length bytes ≤ limit)
 found_bytes limit None bytes is = absurd cc
 found_bytes limit (Some all) bytes is = by (nat_lt limit (length all)) refl is
   where

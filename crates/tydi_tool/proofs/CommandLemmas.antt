@@ -7,13 +7,14 @@ use Rattle.link_check.specs.Laws.{AnswersAreOfTheProject}
 use Rattle.til_parser.specs.Canonical.{canonical}
 use Rattle.tydi_tool.specs.declared.answer.Answer.{Answer}
 use Rattle.tydi_tool.specs.Ask.{Ends, SaysBy}
-use Rattle.tydi_tool.specs.Commands.{compared_ask, ask_of, dump_ask, outcome_ask, planned_ask, of_design, valued_ask}
+use Rattle.tydi_tool.specs.Commands.{compared_ask, ask_of, dump_ask, expected_ask, outcome_ask, planned_ask, of_design, valued_ask}
 use Rattle.tydi_tool.specs.Drives.{TellsBench, TellsDriven}
 use Rattle.tydi_tool.specs.Jobs.{TellsJob}
 use Rattle.tydi_tool.specs.Laws.{AsksAlways, AsksOnce, HasSome}
 use Rattle.tydi_tool.specs.Outcome.{output_answer}
 use Rattle.split_text.specs.Text.{split_text}
-use Rattle.tydi_tool.specs.Words.{Request, Check, Decode, Drive, Link, Read, Sim, Split, Carry, Design, Bench, Testbench, Vcd, Gen, Compare}
+use Rattle.tydi_tool.specs.Watches.{expected_text}
+use Rattle.tydi_tool.specs.Words.{Request, Check, Decode, Drive, Link, Read, Sim, Split, Carry, Design, Bench, Testbench, Vcd, Gen, Compare, Expect, Watch}
 use Rattle.bench_run.specs.Traces.{trace_text_of}
 use Rattle.tydi_tool.proofs.BenchLemmas.{ReadsBench-once, ReadsBench-some, ReadsRun-once, ReadsRun-some}
 use Rattle.tydi_tool.proofs.AnswerLemmas.{ReadsTrace-once, ReadsTree-once, Reports-one, SaysBy-one}
@@ -32,6 +33,8 @@ use Rattle.tydi_tool.proofs.ArrivalLemmas.{ReadsCycles-once, ReadsCycles-some, a
 use Rattle.trace_compare.specs.Laws.{SomeComparison}
 use Rattle.trace_compare.proofs.LawLemmas.{one_comparison}
 use Rattle.tydi_tool.proofs.CompareLemmas.{compared-always, compared-once}
+use Rattle.tydi_tool.proofs.TextLemmas.{ReadsValue-once, ReadsValue-some}
+use Rattle.tydi_tool.proofs.WatchLemmas.{ReadsWatch-once, ReadsWatch-some, watched-always, watched-once}
 use Rattle.tydi_tool.proofs.DesignLemmas.{ReadsDesign-once, ReadsDesign-some}
 use Rattle.tydi_tool.proofs.JobLemmas.{job-one, job-some}
 use Rattle.tydi_tool.proofs.LinkLemmas.{linked-one, linked-some}
@@ -62,6 +65,9 @@ asks_once (Bench project port value plan) =
 asks_once (Testbench project test) = (ReadsProject-once project, λ bytes read reads. test-one read test)
 asks_once (Vcd project port scope file) = port-once project port (dump_ask scope file) (λ split is. dump-once scope file split)
 asks_once (Compare project port value trace) = carried-once project port (λ split. valued_ask value split (compared_ask trace split)) (λ split can. compared-once one_comparison value trace split)
+asks_once (Expect project port value) =
+    carried-once project port (expected_ask value) (λ split can. (ReadsValue-once value split, λ bytes read reads a b p q. p ∙ sym q))
+asks_once (Watch monitor trace) = (ReadsWatch-once monitor, λ bytes watch reads. watched-once trace watch)
 asks_once (Gen project port seed count) = carried-once project port (λ split. Ends (TellsJob split seed count)) (λ split can a b p q. job-one split seed count a b p q)
 
 -- one answer
@@ -98,6 +104,9 @@ asks_always checks outcomes chains dumps compares (Testbench project test) = (Re
 asks_always checks outcomes chains dumps compares (Vcd project port scope file) = port-always project port (dump_ask scope file) (λ split is. dump-always dumps scope file split)
 asks_always checks outcomes chains dumps compares (Compare project port value trace) =
     carried-always project port (λ split. valued_ask value split (compared_ask trace split)) (λ split can. compared-always compares value trace split)
+asks_always checks outcomes chains dumps compares (Expect project port value) =
+    carried-always project port (expected_ask value) (λ split can. (ReadsValue-some value split, λ bytes read reads none. none (output_answer (expected_text split read)) refl))
+asks_always checks outcomes chains dumps compares (Watch monitor trace) = (ReadsWatch-some monitor, λ bytes watch reads. watched-always trace watch)
 asks_always checks outcomes chains dumps compares (Gen project port seed count) = carried-always project port (λ split. Ends (TellsJob split seed count)) (λ split can. job-some split seed count)
 
 -- some answer

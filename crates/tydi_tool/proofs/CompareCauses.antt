@@ -52,7 +52,7 @@ module _ (known : Files) (words : CompareWords) where
           rows.TextFault,
           inl (record {
             line = line;
-            faulty = inr (inr (inr (inr (inr (inr (inr (inr (inr (inr (record {
+            faulty = inr (inr (inr (inr (inr (inr (inr (inr (inr (inr (inl (record {
               words = words;
               named = named;
               split = split;
@@ -64,7 +64,7 @@ module _ (known : Files) (words : CompareWords) where
               fault = fault;
               reads = is;
               told = sym (trace_text words.trace fault) ∙ line_of Comparison (refusal_of_trace words.trace fault) line refused;
-            }))))))))));
+            })))))))))));
             said = said;
           }),
         )
@@ -97,7 +97,7 @@ module _ (known : Files) (words : CompareWords) where
     tells_comparison t (Misspelled fault) all text is said = absurd is
     tells_comparison t (OtherHeader place) all text is said = (
       rows.OtherHeader,
-      inr (inr (record {
+      inr (inr (inl (record {
         words = words;
         named = named;
         split = split;
@@ -107,7 +107,7 @@ module _ (known : Files) (words : CompareWords) where
         place = place;
         differ = is;
         said = said ∙ ap answers.Refused (two_words (codes "tydi: ") (codes "OtherHeader") (codes " ") words.trace (decimal place) (codes "\n"));
-      })),
+      }))),
     )
     tells_comparison t (Compared differences) all text is said = tells_differences t differences all text is said
 

@@ -97,7 +97,7 @@ all-items split roots first (stream ∷ streams) (one ∷ done) many each =
     ∙ ap (λ (l : List (List Item)). items_on split roots first stream ∷ l)
     (all-items split roots (suc first) streams done (omega (arith, many)) (λ i k other its is there found. each (suc i) k other its (omega (arith, is)) there found))
 
-driven-shows : (split : PlainSplit) (value : PortValue) (plan : Plan) (text : List ℕ) (driven : IsDrivenText split (plain_port value) plan text) → ShowsValue split value (trace_of split plan.cycles driven.runs)
+pub driven-shows : (split : PlainSplit) (value : PortValue) (plan : Plan) (text : List ℕ) (driven : IsDrivenText split (plain_port value) plan text) → ShowsValue split value (trace_of split plan.cycles driven.runs)
 driven-shows split value plan text driven =
     let t = trace_of split plan.cycles driven.runs in
     let many : length (done_on (streams_of t)) ≡ length split.streams = length-map (streams_of t) done_by ∙ many-heads split t refl in

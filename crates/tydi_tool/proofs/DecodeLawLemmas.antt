@@ -43,11 +43,11 @@ use Rattle.tydi_tool.proofs.FormLemmas.{IsPortFormed, form-names, port-formed}
 -- ---- the port
 
 -- the port of a split is one of a project that its text spells
-formed-at : (known : Files) (words : PortWords) (split : PlainSplit) (has : HasSplit known words split) → IsPortFormed has.ltype
+pub formed-at : (known : Files) (words : PortWords) (split : PlainSplit) (has : HasSplit known words split) → IsPortFormed has.ltype
 formed-at known words split has =
     subst IsPortFormed (sym has.port.type_is) (port-formed words.project has.port.bytes has.port.read words.port has.port.found has.port.reads has.port.named)
 
-port-of : (known : Files) (words : PortWords) (split : PlainSplit) (has : HasSplit known words split) → IsPortSplit split
+pub port-of : (known : Files) (words : PortWords) (split : PlainSplit) (has : HasSplit known words split) → IsPortSplit split
 port-of known words split has =
     let formed = formed-at known words split has in
     record { ltype = has.ltype; port = formed.port; valid = formed.valid.valid; few = formed.valid.few; apart = has.apart; is = has.is }

@@ -15,7 +15,7 @@ use Rattle.tydi_tool.specs.Commands.{ask_of, dump_ask, port_ask}
 use Rattle.tydi_tool.specs.Dumps.{ReadsDump, refusal_of_dump, wanted_of}
 use Rattle.tydi_tool.specs.Outcome.{output_answer}
 use Rattle.tydi_tool.specs.Reading.{ReadsResult}
-use Rattle.tydi_tool.specs.Words.{Request, Check, Decode, Drive, Link, Read, Sim, Split, Carry, Design, Bench, Testbench, Vcd, Gen, Compare, dump_file}
+use Rattle.tydi_tool.specs.Words.{Request, Check, Decode, Drive, Link, Read, Sim, Split, Carry, Design, Bench, Testbench, Vcd, Gen, Compare, Expect, Watch, dump_file}
 use Rattle.tydi_tool.proofs.CauseLines.{by_line, dump_text, line_of}
 use Rattle.tydi_tool.proofs.CauseSteps.{Told, reaches-port, says-port, says-read, says-refused, told-file}
 use Rattle.tydi_tool.proofs.DumpLemmas.{dump-read, read-dump}
@@ -115,6 +115,8 @@ from_sampled known (Bench project port value plan) words a named said = absurd c
 from_sampled known (Testbench project test) words a named said = absurd cc
 from_sampled known (Gen project port seed count) words a named said = absurd cc
 from_sampled known (Compare project port value trace) words a named said = absurd cc
+from_sampled known (Expect project port value) words a named said = absurd cc
+from_sampled known (Watch monitor trace) words a named said = absurd cc
 from_sampled known (Vcd project port scope file) words a named said =
     subst (λ (w : DumpWords). SaysBy (Some known) (samples known w) a) (sym (same_dump (of_dump project port scope file) words named)) said
 

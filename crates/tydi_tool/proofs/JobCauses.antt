@@ -18,7 +18,7 @@ use Rattle.tydi_tool.specs.Drives.{path_of}
 use Rattle.tydi_tool.specs.Jobs.{TellsJob, refusal_of_job, summary_text, text_of_job}
 use Rattle.tydi_tool.specs.Outcome.{output_answer}
 use Rattle.tydi_tool.specs.Refusals.{refusal_line}
-use Rattle.tydi_tool.specs.Words.{Request, Bench, Carry, Check, Decode, Drive, Gen, Link, Read, Sim, Split, Testbench, Vcd, Design, Compare}
+use Rattle.tydi_tool.specs.Words.{Request, Bench, Carry, Check, Decode, Drive, Gen, Link, Read, Sim, Split, Testbench, Vcd, Design, Compare, Expect, Watch}
 use Rattle.tydi_tool.proofs.CauseLines.{same_some, three_words}
 use Rattle.tydi_tool.proofs.CauseSteps.{Told, gives_text, says-carried}
 
@@ -95,6 +95,8 @@ from_generated known (Link project) words a named said = absurd cc
 from_generated known (Carry project top from to trace) words a named said = absurd cc
 from_generated known (Design language project) words a named said = absurd cc
 from_generated known (Compare project port value trace) words a named said = absurd cc
+from_generated known (Expect project port value) words a named said = absurd cc
+from_generated known (Watch monitor trace) words a named said = absurd cc
 from_generated known (Bench project port value plan) words a named said = absurd cc
 from_generated known (Testbench project test) words a named said = absurd cc
 from_generated known (Vcd project port scope file) words a named said = absurd cc

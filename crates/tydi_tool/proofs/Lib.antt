@@ -11,6 +11,11 @@ pub mod CommandLemmas
 pub mod CompareCauses
 pub mod CompareLemmas
 pub mod CompareLawLemmas
+pub mod MonitorLemmas
+pub mod SeenLemmas
+pub mod WatchCauses
+pub mod WatchLemmas
+pub mod WatchLawLemmas
 pub mod DecodeLawLemmas
 pub mod DecodeLemmas
 pub mod DeliveryLemmas

@@ -8,15 +8,15 @@ use Rattle.tydi_tool.specs.declared.answer.Reply.TheVariants as replies
 use Rattle.tydi_tool.specs.declared.status.Status.{Status}
 use Rattle.tydi_tool.specs.declared.status.Status.TheVariants as statuses
 use Rattle.tydi_tool.specs.Drives.{TellsBench, TellsDriven}
-use Rattle.tydi_tool.specs.Words.{Request, Check, Decode, Drive, Link, Read, Sim, Split, FileWord, file_words, text_file, trace_file, Carry, Design, Bench, Testbench, Vcd, dump_file, Gen, Compare}
+use Rattle.tydi_tool.specs.Words.{Request, Check, Decode, Drive, Link, Read, Sim, Split, FileWord, file_words, text_file, trace_file, Carry, Design, Bench, Testbench, Vcd, dump_file, Gen, Compare, Expect, Watch}
 use Rattle.split_text.specs.Text.{split_text}
 use Rattle.tydi_tool.specs.Outcome.{out_of_answer, output_answer, out_of, err_of, status_of, status_of_answer, usage_line, memory_line, write_fault_line}
 use Rattle.tydi_tool.specs.Delivery.{Adds, AddsFront, AddsPart, TakesLine, IsLined, IsCut, IsWritten, OutFails, OutWants, Delivers}
 use Rattle.tydi_tool.specs.Ask.{AsksFor, AsksSome, Decides, Ends}
-use Rattle.tydi_tool.specs.Commands.{ask_of, Says, compared_ask, dump_ask, outcome_ask, planned_ask, valued_ask}
+use Rattle.tydi_tool.specs.Commands.{ask_of, Says, compared_ask, dump_ask, expected_ask, outcome_ask, planned_ask, valued_ask}
 use Rattle.tydi_tool.specs.Started.{IsPulledOut, IsGivenOne, NamesStarted, StartsWithin, Leaves}
 use Rattle.tydi_tool.specs.Run.{Runs, AnswersCauses, EndsAsked, EndsUnasked, EndsInAnswer, EndsWith, IsAnswered, IsComplete, IsCaused, ReportsRead, OutFront, OutPart, IsRefusal}
-use Rattle.tydi_tool.specs.Run.{IsLine, ErrFront, LeavesOut, LeavesErr, StartedAtEnd, UsageExactly, WritesReadBack, WritesTrace, WritesValue, WritesCarried, WritesWired, WritesLines, WritesCompared, WritesSampled, WritesJob}
+use Rattle.tydi_tool.specs.Run.{IsLine, ErrFront, LeavesOut, LeavesErr, StartedAtEnd, UsageExactly, WritesReadBack, WritesTrace, WritesValue, WritesCarried, WritesWired, WritesLines, WritesCompared, WritesExpected, WritesSampled, WritesWatched, WritesJob}
 use Rattle.tydi_tool.proofs.CauseLemmas.{exactly, told}
 use Rattle.tydi_tool.proofs.CauseLines.{one_word}
 use Rattle.tydi_tool.proofs.DecodeLemmas.{outcome-for}
@@ -32,7 +32,9 @@ use Rattle.tydi_tool.specs.Jobs.{TellsJob}
 use Rattle.tydi_tool.specs.DriveLaw.{WritesDriven, drive_words}
 use Rattle.tydi_tool.specs.DumpLaw.{WritesShown, WrittenDumpsAreShown, dump_words}
 use Rattle.tydi_tool.specs.WiringLaw.{WritesDesign, WrittenDesignsAreWired}
+use Rattle.tydi_tool.specs.Causes.{IsQuietText}
 use Rattle.tydi_tool.specs.CompareLaw.{SameTracesShowValues, WritesSame, compare_words}
+use Rattle.tydi_tool.specs.WatchLaw.{WritesMonitor, WrittenLinesAreQuiet, WrittenMonitorsReport, expect_words, watch_words}
 use Rattle.tydi_tool.proofs.CommandLemmas.{SaysBy-request}
 use Rattle.tydi_tool.proofs.AskLemmas.{SaysBy-decided}
 use Rattle.tydi_tool.proofs.DeliveryLemmas.{AddsFront-all, AddsFront-part, AddsPart-some}
@@ -58,6 +60,8 @@ asks_for (Testbench project test) = (refl, λ x. tt)
 asks_for (Vcd project port scope file) = port-for project port (dump_file file ∷ []) (dump_ask scope file) (dump-for scope file)
 asks_for (Compare project port value trace) =
     carried-for project port (text_file value ∷ trace_file trace ∷ []) (λ split. valued_ask value split (compared_ask trace split)) (λ split. (refl, λ read. (refl, λ found. tt)))
+asks_for (Expect project port value) = carried-for project port (text_file value ∷ []) (expected_ask value) (λ split. (refl, λ read. tt))
+asks_for (Watch monitor trace) = (refl, λ watch. (refl, λ found. tt))
 asks_for (Gen project port seed count) = carried-for project port [] (λ split. Ends (TellsJob split seed count)) (λ split. tt)
 
 asks_some : (request : Request) → AsksSome (ask_of request)
@@ -75,6 +79,8 @@ asks_some (Testbench project test) = tt
 asks_some (Vcd project port scope file) = tt
 asks_some (Gen project port seed count) = tt
 asks_some (Compare project port value trace) = tt
+asks_some (Expect project port value) = tt
+asks_some (Watch monitor trace) = tt
 
 -- ---- a run of a command
 
@@ -349,6 +355,8 @@ WritesTrace-answered (Some known) (Some (Testbench project test)) status out_old
 WritesTrace-answered (Some known) (Some (Vcd project port scope file)) status out_old out_new err_old err_new a done = tt
 WritesTrace-answered (Some known) (Some (Gen project port seed count)) status out_old out_new err_old err_new a done = tt
 WritesTrace-answered (Some known) (Some (Compare project port value trace)) status out_old out_new err_old err_new a done = tt
+WritesTrace-answered (Some known) (Some (Expect project port value)) status out_old out_new err_old err_new a done = tt
+WritesTrace-answered (Some known) (Some (Watch monitor trace)) status out_old out_new err_old err_new a done = tt
 WritesTrace-answered (Some known) (Some (Drive project port value plan)) status out_old out_new err_old err_new a done =
     written_text (Drive project port value plan) known (WritesDriven known (drive_words project port value plan)) (λ text says. (written-driven known project port value plan text says).1)
     status out_old out_new err_old err_new a done
@@ -370,6 +378,8 @@ WritesReadBack-answered (Some known) (Some (Testbench project test)) status out_
 WritesReadBack-answered (Some known) (Some (Vcd project port scope file)) status out_old out_new err_old err_new a done = tt
 WritesReadBack-answered (Some known) (Some (Gen project port seed count)) status out_old out_new err_old err_new a done = tt
 WritesReadBack-answered (Some known) (Some (Compare project port value trace)) status out_old out_new err_old err_new a done = tt
+WritesReadBack-answered (Some known) (Some (Expect project port value)) status out_old out_new err_old err_new a done = tt
+WritesReadBack-answered (Some known) (Some (Watch monitor trace)) status out_old out_new err_old err_new a done = tt
 WritesReadBack-answered (Some known) (Some (Carry project top from to trace)) status out_old out_new err_old err_new a done = tt
 WritesReadBack-answered (Some known) (Some (Drive project port value plan)) status out_old out_new err_old err_new a done =
     written_text (Drive project port value plan) known (IsReadBack known (drive_words project port value plan)) (λ text says. driven-read_back known project port value plan text says)
@@ -392,6 +402,8 @@ WritesValue-answered (Some known) (Some (Testbench project test)) status out_old
 WritesValue-answered (Some known) (Some (Vcd project port scope file)) status out_old out_new err_old err_new a done = tt
 WritesValue-answered (Some known) (Some (Gen project port seed count)) status out_old out_new err_old err_new a done = tt
 WritesValue-answered (Some known) (Some (Compare project port value trace)) status out_old out_new err_old err_new a done = tt
+WritesValue-answered (Some known) (Some (Expect project port value)) status out_old out_new err_old err_new a done = tt
+WritesValue-answered (Some known) (Some (Watch monitor trace)) status out_old out_new err_old err_new a done = tt
 WritesValue-answered (Some known) (Some (Carry project top from to trace)) status out_old out_new err_old err_new a done = tt
 WritesValue-answered (Some known) (Some (Decode project port trace)) status out_old out_new err_old err_new a done =
     written_text (Decode project port trace) known (WritesDecoded known (decode_words project port trace)) (λ text says. (written-carried known project port trace text says).1)
@@ -414,6 +426,8 @@ WritesCarried-answered arrive (Some known) (Some (Testbench project test)) statu
 WritesCarried-answered arrive (Some known) (Some (Vcd project port scope file)) status out_old out_new err_old err_new a done = tt
 WritesCarried-answered arrive (Some known) (Some (Gen project port seed count)) status out_old out_new err_old err_new a done = tt
 WritesCarried-answered arrive (Some known) (Some (Compare project port value trace)) status out_old out_new err_old err_new a done = tt
+WritesCarried-answered arrive (Some known) (Some (Expect project port value)) status out_old out_new err_old err_new a done = tt
+WritesCarried-answered arrive (Some known) (Some (Watch monitor trace)) status out_old out_new err_old err_new a done = tt
 WritesCarried-answered arrive (Some known) (Some (Decode project port trace)) status out_old out_new err_old err_new a done = tt
 WritesCarried-answered arrive (Some known) (Some (Sim bench run)) status out_old out_new err_old err_new a done = tt
 WritesCarried-answered arrive (Some known) (Some (Link project)) status out_old out_new err_old err_new a done = tt
@@ -461,6 +475,8 @@ WritesLines-answered bench test (Some known) (Some (Testbench project word)) sta
     status out_old out_new err_old err_new a done
 WritesLines-answered bench test (Some known) (Some (Gen project port seed count)) status out_old out_new err_old err_new a done = tt
 WritesLines-answered bench test (Some known) (Some (Compare project port value trace)) status out_old out_new err_old err_new a done = tt
+WritesLines-answered bench test (Some known) (Some (Expect project port value)) status out_old out_new err_old err_new a done = tt
+WritesLines-answered bench test (Some known) (Some (Watch monitor trace)) status out_old out_new err_old err_new a done = tt
 
 -- where a job of a port is made, out has the text of its summary
 pub WritesJob-answered : WrittenSummariesAreOfJobs → (files : Option Files) (request : Option Request) (status : Status) (out_old out_new err_old err_new : Option (List ℕ)) →
@@ -479,6 +495,24 @@ WritesCompared-answered same (Some known) (Some (Compare project port value trac
     written_text (Compare project port value trace) known (WritesSame known (compare_words project port value trace)) (λ text says. same known project port value trace text says)
     status out_old out_new err_old err_new a done
 WritesCompared-answered same (Some known) request status out_old out_new err_old err_new a done = tt
+
+-- where a monitor is made, out has its text
+pub WritesExpected-answered : WrittenMonitorsReport → (files : Option Files) (request : Option Request) (status : Status) (out_old out_new err_old err_new : Option (List ℕ)) →
+    IsAnswered files request status out_old out_new err_old err_new → status ≡ statuses.Done → IfSome files (λ known. WritesExpected known request out_old out_new)
+WritesExpected-answered written None request status out_old out_new err_old err_new a done = tt
+WritesExpected-answered written (Some known) (Some (Expect project port value)) status out_old out_new err_old err_new a done =
+    written_text (Expect project port value) known (WritesMonitor known (expect_words project port value)) (λ text says. (written known project port value text says).1)
+    status out_old out_new err_old err_new a done
+WritesExpected-answered written (Some known) request status out_old out_new err_old err_new a done = tt
+
+-- where a monitor runs and no process reports, out has the lines of what each stream has seen
+pub WritesWatched-answered : WrittenLinesAreQuiet → (files : Option Files) (request : Option Request) (status : Status) (out_old out_new err_old err_new : Option (List ℕ)) →
+    IsAnswered files request status out_old out_new err_old err_new → status ≡ statuses.Done → IfSome files (λ known. WritesWatched known request out_old out_new)
+WritesWatched-answered quiet None request status out_old out_new err_old err_new a done = tt
+WritesWatched-answered quiet (Some known) (Some (Watch monitor trace)) status out_old out_new err_old err_new a done =
+    written_text (Watch monitor trace) known (IsQuietText known (watch_words monitor trace)) (λ text says. quiet known monitor trace text says)
+    status out_old out_new err_old err_new a done
+WritesWatched-answered quiet (Some known) request status out_old out_new err_old err_new a done = tt
 
 -- where a dump is sampled, out has the text of the trace that it shows
 pub WritesSampled-answered : WrittenDumpsAreShown → (files : Option Files) (request : Option Request) (status : Status)

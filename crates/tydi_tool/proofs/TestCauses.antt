@@ -29,7 +29,7 @@ use Rattle.tydi_tool.specs.Projects.{ReadsProject}
 use Rattle.tydi_tool.specs.Refusals.{Refusal, refusal_line, refusal_of_value}
 use Rattle.tydi_tool.specs.Tests.{TellsFound, TellsPlanned, TellsPort, TellsSplit, TellsTest, TellsTexts, TellsTyped, plan_word, test_named, tested_port, value_word}
 use Rattle.tydi_tool.specs.Texts.{ReadsValue}
-use Rattle.tydi_tool.specs.Words.{Request, Bench, Carry, Check, Decode, Drive, Link, Read, Sim, Split, Testbench, Design, project_file, Vcd, Gen, Compare}
+use Rattle.tydi_tool.specs.Words.{Request, Bench, Carry, Check, Decode, Drive, Link, Read, Sim, Split, Testbench, Design, project_file, Vcd, Gen, Compare, Expect, Watch}
 use Rattle.tydi_tool.proofs.CauseLines.{by_line, line_of, one_word, value_text}
 use Rattle.tydi_tool.proofs.CauseSteps.{Told, plan-fault, plan-refused, refuses_project, says-read, told-file}
 use Rattle.tydi_tool.proofs.MadeCauses.{tells-made, tells-unmade, told-made}
@@ -187,6 +187,8 @@ from_tested known (Bench project port value plan) words a named said = absurd cc
 from_tested known (Vcd project port scope file) words a named said = absurd cc
 from_tested known (Gen project port seed count) words a named said = absurd cc
 from_tested known (Compare project port value trace) words a named said = absurd cc
+from_tested known (Expect project port value) words a named said = absurd cc
+from_tested known (Watch monitor trace) words a named said = absurd cc
 from_tested known (Testbench project test) words a named said =
     subst (λ (w : TestWords). SaysBy (Some known) (testbench_ask w.project w.test) a) (sym (same_tested (of_test project test) words named)) said
 

@@ -51,6 +51,14 @@ use Rattle.port_gen.specs.Summaries.{Summary, summary_of}
 use Rattle.split_text.specs.Text.{split_text}
 use Rattle.trace_compare.specs.Differences.{AreDifferences}
 use Rattle.trace_compare.specs.declared.difference.Difference.{Difference}
+use Rattle.monitor_bench.specs.Monitors.{monitor_of}
+use Rattle.trace_watch.specs.Watched.{watched_of}
+use Rattle.trace_watch.specs.declared.watched.StreamWatched.{StreamWatched}
+use Rattle.watch_text.specs.Reading.{watch_of}
+use Rattle.watch_text.specs.Statements.{PlainWatch}
+use Rattle.watch_text.specs.Text.{watch_text}
+use Rattle.watch_text.specs.declared.fault.WatchFault.{WatchFault}
+use Rattle.watch_text.specs.declared.fault.WatchFault.TheVariants as watching
 use Rattle.value_text.specs.Reading.{IsFaulty, IsValue}
 use Rattle.value_text.specs.declared.fault.ValueFault.{ValueFault}
 use Rattle.value_text.specs.declared.fault.ValueFault.TheVariants as valuing
@@ -74,6 +82,7 @@ use Rattle.tydi_tool.specs.Ports.{port_named}
 use Rattle.tydi_tool.specs.Projects.{ReadsProject}
 use Rattle.tydi_tool.specs.Reports.{path_of_stream}
 use Rattle.tydi_tool.specs.Trees.{IsSpelled, ReadsTree}
+use Rattle.tydi_tool.specs.Watches.{IsQuiet, watched_lines}
 use Rattle.vhdl_text.specs.Reading.{bench_of}
 use Rattle.vhdl_text.specs.declared.bench.Bench.{Bench}
 use Rattle.vhdl_text.specs.declared.language.Language.{Language}
@@ -131,6 +140,7 @@ pub data Row : Type 0 where
   AnUnfinished : Row
   ADisagreement : Row
   ADifference : Row
+  AReport : Row
   AText : Row
   NoTest : Row
 
@@ -163,7 +173,9 @@ rows_of_faults =
 
 -- the row of each word with which a verdict begins
 abbrev pub rows_of_verdicts : List (List ℕ × Row)
-rows_of_verdicts = (codes "offence", AnOffence) ∷ (codes "unfinished", AnUnfinished) ∷ (codes "disagree", ADisagreement) ∷ (codes "differs", ADifference) ∷ []
+rows_of_verdicts =
+    (codes "offence", AnOffence) ∷ (codes "unfinished", AnUnfinished) ∷ (codes "disagree", ADisagreement) ∷ (codes "differs", ADifference)
+    ∷ (codes "stream", AReport) ∷ []
 
 abbrev pub row_in : List (List ℕ × Row) → List ℕ → Option Row
 row_in [] name = None
@@ -211,6 +223,8 @@ project_of (requests.Testbench project test) = Some project
 project_of (requests.Vcd project port scope file) = Some project
 project_of (requests.Gen project port seed count) = Some project
 project_of (requests.Compare project port value trace) = Some project
+project_of (requests.Expect project port value) = Some project
+project_of (requests.Watch monitor trace) = None
 
 -- the project that a command resolves
 abbrev pub resolved_of : Request → Option (List ℕ)
@@ -228,6 +242,8 @@ resolved_of (requests.Testbench project test) = Some project
 resolved_of (requests.Vcd project port scope file) = Some project
 resolved_of (requests.Gen project port seed count) = Some project
 resolved_of (requests.Compare project port value trace) = Some project
+resolved_of (requests.Expect project port value) = Some project
+resolved_of (requests.Watch monitor trace) = None
 
 -- the trace that a command reads before it reads anything else
 abbrev pub trace_in : Request → Option (List ℕ)
@@ -248,6 +264,7 @@ port_in (requests.Bench project port value plan) = Some (record { project = proj
 port_in (requests.Vcd project port scope file) = Some (record { project = project; port = port })
 port_in (requests.Gen project port seed count) = Some (record { project = project; port = port })
 port_in (requests.Compare project port value trace) = Some (record { project = project; port = port })
+port_in (requests.Expect project port value) = Some (record { project = project; port = port })
 port_in request = None
 
 -- the port that a command begins with, each of whose nodes has to be carried
@@ -257,6 +274,7 @@ carried_in (Decode project port trace) = Some (record { project = project; port 
 carried_in (requests.Bench project port value plan) = Some (record { project = project; port = port })
 carried_in (requests.Gen project port seed count) = Some (record { project = project; port = port })
 carried_in (requests.Compare project port value trace) = Some (record { project = project; port = port })
+carried_in (requests.Expect project port value) = Some (record { project = project; port = port })
 carried_in request = None
 
 -- a port of a project, a value of it and a plan of its streams
@@ -281,6 +299,7 @@ abbrev pub valued_in : Request → Option ValueWords
 valued_in (Drive project port value plan) = Some (record { at = record { project = project; port = port }; value = value })
 valued_in (requests.Bench project port value plan) = Some (record { at = record { project = project; port = port }; value = value })
 valued_in (requests.Compare project port value trace) = Some (record { at = record { project = project; port = port }; value = value })
+valued_in (requests.Expect project port value) = Some (record { at = record { project = project; port = port }; value = value })
 valued_in request = None
 
 -- a port of a project, a value of it, and a trace of it
@@ -313,6 +332,16 @@ pub record SimWords : Type 0 where
 abbrev pub simulated_in : Request → Option SimWords
 simulated_in (Sim bench run) = Some (record { bench = bench; run = run })
 simulated_in request = None
+
+-- a monitor, and a trace over which it runs
+pub record WatchWords : Type 0 where
+  pub monitor : List ℕ
+  pub trace : List ℕ
+
+-- the monitor that a command runs
+abbrev pub watched_in : Request → Option WatchWords
+watched_in (requests.Watch monitor trace) = Some (record { monitor = monitor; trace = trace })
+watched_in request = None
 
 -- a design, two leaf ports of it, and a trace at the first
 pub record CarryWords : Type 0 where
@@ -460,6 +489,19 @@ pub record HasBench (known : Files) (word : List ℕ) (bench : Bench) : Type 0 w
   pub file : HasBytes known word 67108864 bytes
   pub reads : bench_of bytes ≡ Ok bench
 
+-- a file of at most 64 MiB has the text of this monitor
+pub record HasMonitor (known : Files) (word : List ℕ) (watch : PlainWatch) : Type 0 where
+  pub bytes : List ℕ
+  pub file : HasBytes known word 67108864 bytes
+  pub reads : watch_of bytes ≡ Ok watch
+
+-- all that a command needs to run a monitor is there: the monitor, and a file of at most 64 MiB with the text of this trace
+pub record HasWatch (known : Files) (words : WatchWords) (watch : PlainWatch) (t : TraceText) : Type 0 where
+  pub monitor_is : HasMonitor known words.monitor watch
+  pub bytes : List ℕ
+  pub file : HasBytes known words.trace 67108864 bytes
+  pub reads : trace_of bytes ≡ Ok t
+
 -- a file of at most 16 MiB has the text of this run of the bench
 pub record HasRun (known : Files) (bench : Bench) (word : List ℕ) (run : SimRun) : Type 0 where
   pub bytes : List ℕ
@@ -602,6 +644,10 @@ bench_line word (benching.NotForm offset) = Some (codes "tydi: NotForm " ++ word
 bench_line word (benching.UnknownSignal offset) = Some (codes "tydi: UnknownSignal " ++ word ++ codes " " ++ decimal offset ++ codes "\n")
 bench_line word (benching.TwoDrivers offset) = Some (codes "tydi: TwoDrivers " ++ word ++ codes " " ++ decimal offset ++ codes "\n")
 bench_line word benching.Memory = None
+
+abbrev pub monitor_line : List ℕ → WatchFault → Option (List ℕ)
+monitor_line word (watching.NotForm offset) = Some (codes "tydi: NotForm " ++ word ++ codes " " ++ decimal offset ++ codes "\n")
+monitor_line word watching.Memory = None
 
 abbrev pub run_line : List ℕ → RunFault → Option (List ℕ)
 run_line word (running.Syntax place) = Some (codes "tydi: Syntax " ++ word ++ codes " " ++ at_place place ++ codes "\n")
@@ -899,6 +945,28 @@ pub record HasComparedFault (known : Files) (request : Request) (line : List ℕ
   pub reads : trace_of bytes ≡ Err fault
   pub told : trace_line words.trace fault ≡ Some line
 
+-- the text of the monitor has no reading, with this line
+pub record HasMonitorFault (known : Files) (request : Request) (line : List ℕ) : Type 0 where
+  pub words : WatchWords
+  pub named : watched_in request ≡ Some words
+  pub bytes : List ℕ
+  pub file : HasBytes known words.monitor 67108864 bytes
+  pub fault : WatchFault
+  pub reads : watch_of bytes ≡ Err fault
+  pub told : monitor_line words.monitor fault ≡ Some line
+
+-- the monitor is read, and the text of the trace has no reading, with this line
+pub record HasWatchedFault (known : Files) (request : Request) (line : List ℕ) : Type 0 where
+  pub words : WatchWords
+  pub named : watched_in request ≡ Some words
+  pub watch : PlainWatch
+  pub monitor_is : HasMonitor known words.monitor watch
+  pub bytes : List ℕ
+  pub file : HasBytes known words.trace 67108864 bytes
+  pub fault : TraceFault
+  pub reads : trace_of bytes ≡ Err fault
+  pub told : trace_line words.trace fault ≡ Some line
+
 -- the heads between the leaf ports are there, and the text of the trace that is carried has no reading, with this line
 pub record HasCarriedFault (known : Files) (request : Request) (line : List ℕ) : Type 0 where
   pub words : CarryWords
@@ -960,9 +1028,11 @@ HasTextFault known request line =
     ⊎ (HasTestValueFault known request line
     ⊎ (HasTestPlanFault known request line
     ⊎ (HasDumpFault known request line
-    ⊎ HasComparedFault known request line)))))))))
+    ⊎ (HasComparedFault known request line
+    ⊎ (HasMonitorFault known request line
+    ⊎ HasWatchedFault known request line)))))))))))
 
--- the text of a trace, a value, a plan, a bench, a run or a dump has no reading, be it a file's or a declared test's
+-- the text of a trace, a value, a plan, a bench, a run, a dump or a monitor has no reading, be it a file's or a declared test's
 pub record TextFaultCause (known : Files) (request : Request) (a : Answer) : Type 0 where
   pub line : List ℕ
   pub faulty : HasTextFault known request line
@@ -1172,9 +1242,24 @@ pub record ComparedOtherHeader (known : Files) (request : Request) (a : Answer) 
   pub differ : DifferFirst read.heads (heads_of split) place
   pub said : a ≡ answers.Refused (codes "tydi: OtherHeader " ++ words.trace ++ codes " " ++ decimal place ++ codes "\n")
 
+-- the heads of the trace differ from those of a monitor, first at this place
+pub record WatchedOtherHeader (known : Files) (request : Request) (a : Answer) : Type 0 where
+  pub words : WatchWords
+  pub named : watched_in request ≡ Some words
+  pub watch : PlainWatch
+  pub read : TraceText
+  pub all : HasWatch known words watch read
+  pub place : ℕ
+  pub differ : DifferFirst read.heads watch.heads place
+  pub said : a ≡ answers.Refused (codes "tydi: OtherHeader " ++ words.trace ++ codes " " ++ decimal place ++ codes "\n")
+
 -- the trace has other heads, first at this place
 abbrev pub OtherHeaderCause : Files → Request → Answer → Type 0
-OtherHeaderCause known request a = DecodedOtherHeader known request a ⊎ (CarriedOtherHeader known request a ⊎ ComparedOtherHeader known request a)
+OtherHeaderCause known request a =
+    DecodedOtherHeader known request a
+    ⊎ (CarriedOtherHeader known request a
+    ⊎ (ComparedOtherHeader known request a
+    ⊎ WatchedOtherHeader known request a))
 
 -- the trace has no offence, and each stream ends whole, but the items done are those of no value, first at this stream and packet
 pub record DisagreeCause (known : Files) (request : Request) (a : Answer) : Type 0 where
@@ -1203,6 +1288,21 @@ pub record DifferenceCause (known : Files) (request : Request) (a : Answer) : Ty
   pub more : List Difference
   pub are : AreDifferences (items_of_value split value) (streams_of read) (first ∷ more)
   pub said : a ≡ answers.Verdict (difference_lines split (first ∷ more))
+
+-- the trace has the heads of the monitor, and the process of this stream sets its fault at this edge. The verdict has a line for each stream.
+pub record ReportCause (known : Files) (request : Request) (a : Answer) : Type 0 where
+  pub words : WatchWords
+  pub named : watched_in request ≡ Some words
+  pub watch : PlainWatch
+  pub read : TraceText
+  pub all : HasWatch known words watch read
+  pub same : read.heads ≡ watch.heads
+  pub stream : ℕ
+  pub one : StreamWatched
+  pub there : slice_get (watched_of watch (streams_of read)) stream ≡ Some one
+  pub edge : ℕ
+  pub reported : one.report ≡ Some edge
+  pub said : a ≡ answers.Verdict (watched_lines watch (watched_of watch (streams_of read)))
 
 -- ---- the text of an answer
 
@@ -1328,6 +1428,23 @@ pub record IsSameText (known : Files) (words : CompareWords) (text : List ℕ) :
   pub none : AreDifferences (items_of_value split value) (streams_of t) []
   pub is : text ≡ codes "same\n"
 
+-- the value of the port is there, and this is the text of the monitor that expects its items
+pub record IsExpectedText (known : Files) (words : ValueWords) (text : List ℕ) : Type 0 where
+  pub split : PlainSplit
+  pub at : HasCarried known words.at split
+  pub value : PortValue
+  pub value_is : HasValue known split words.value value
+  pub is : text ≡ watch_text (monitor_of split (items_of_value split value))
+
+-- the trace has the heads of the monitor, and no process sets its fault: there is a line for each stream
+pub record IsQuietText (known : Files) (words : WatchWords) (text : List ℕ) : Type 0 where
+  pub watch : PlainWatch
+  pub t : TraceText
+  pub all : HasWatch known words watch t
+  pub same : t.heads ≡ watch.heads
+  pub quiet : IsQuiet (watched_of watch (streams_of t))
+  pub is : text ≡ watched_lines watch (watched_of watch (streams_of t))
+
 -- the text that a command makes of the files
 abbrev pub IsTextOf : Files → Request → List ℕ → Type 0
 IsTextOf known (Check trace) text = IsLegalText known trace text
@@ -1347,6 +1464,8 @@ IsTextOf known (requests.Vcd project port scope file) text =
 IsTextOf known (requests.Gen project port seed count) text = IsSummaryText known (record { at = record { project = project; port = port }; seed = seed; count = count }) text
 IsTextOf known (requests.Compare project port value trace) text =
     IsSameText known (record { at = record { project = project; port = port }; value = value; trace = trace }) text
+IsTextOf known (requests.Expect project port value) text = IsExpectedText known (record { at = record { project = project; port = port }; value = value }) text
+IsTextOf known (requests.Watch monitor trace) text = IsQuietText known (record { monitor = monitor; trace = trace }) text
 
 -- the text is over 64 MiB
 pub record OutputTooLongCause (known : Files) (request : Request) (a : Answer) : Type 0 where
@@ -1384,6 +1503,7 @@ CausedBy AnOffence known request a = OffenceCause known request a
 CausedBy AnUnfinished known request a = UnfinishedCause known request a
 CausedBy ADisagreement known request a = DisagreeCause known request a
 CausedBy ADifference known request a = DifferenceCause known request a
+CausedBy AReport known request a = ReportCause known request a
 CausedBy AText known request a = TextCause known request a
 CausedBy NoTest known request a = NoTestCause known request a
 

@@ -28,8 +28,11 @@ use Rattle.tydi_tool.specs.Dumps.{ReadsDump}
 use Rattle.trace_compare.specs.Texts.{Comparison}
 use Rattle.physical_stream.specs.declared.item.Item.{Item}
 use Rattle.tydi_tool.specs.Comparisons.{ReadsComparison, TellsComparison, items_of_value}
+use Rattle.trace_watch.specs.Texts.{Watching}
+use Rattle.watch_text.specs.Statements.{PlainWatch}
+use Rattle.tydi_tool.specs.Watches.{ReadsWatch, ReadsWatching, TellsExpected, TellsWatching}
 use Rattle.tydi_tool.specs.Words as requests
-use Rattle.tydi_tool.specs.Words.{Request, Check, Decode, Drive, Link, Read, Sim, Split, bench_file, trace_file, project_file, text_file, Carry, Design, dump_file}
+use Rattle.tydi_tool.specs.Words.{Request, Check, Decode, Drive, Link, Read, Sim, Split, bench_file, trace_file, project_file, text_file, Carry, Design, dump_file, monitor_file}
 use Rattle.cycle_trace.specs.Trace.{TraceText}
 use Rattle.link_check.specs.declared.end_heads.EndHeads.{EndHeads}
 use Rattle.port_drive.specs.Text.{written_text}
@@ -158,6 +161,22 @@ compared_ask trace split value = against_ask trace split (items_of_value split v
 abbrev pub compare_ask : (project port value trace : List ℕ) → Ask
 compare_ask project port value trace = carried_ask project port (λ split. valued_ask value split (compared_ask trace split))
 
+-- a command that ends with a value of a port: the monitor that expects it
+abbrev pub expected_ask : List ℕ → PlainSplit → Ask
+expected_ask value split = valued_ask value split (λ read. Ends (TellsExpected split read))
+
+-- `expect PROJECT PORT VALUE`: the monitor of the port for the value
+abbrev pub expect_ask : (project port value : List ℕ) → Ask
+expect_ask project port value = carried_ask project port (expected_ask value)
+
+-- a command that ends with a trace: what a monitor says of it
+abbrev pub watched_ask : List ℕ → PlainWatch → Ask
+watched_ask trace watch = Asks (trace_file trace) Watching (ReadsWatching watch trace) (λ found. Ends (TellsWatching watch trace found))
+
+-- `watch MONITOR TRACE`: what a monitor says of each stream of a trace. The monitor is decided before the trace is started.
+abbrev pub watch_ask : (monitor trace : List ℕ) → Ask
+watch_ask monitor trace = Asks (monitor_file monitor) PlainWatch (ReadsWatch monitor) (watched_ask trace)
+
 abbrev pub ask_of : Request → Ask
 ask_of (Check trace) = check_ask trace
 ask_of (Read project) = read_ask project
@@ -173,6 +192,8 @@ ask_of (requests.Testbench project test) = testbench_ask project test
 ask_of (requests.Vcd project port scope file) = vcd_ask project port scope file
 ask_of (requests.Gen project port seed count) = gen_ask project port seed count
 ask_of (requests.Compare project port value trace) = compare_ask project port value trace
+ask_of (requests.Expect project port value) = expect_ask project port value
+ask_of (requests.Watch monitor trace) = watch_ask monitor trace
 
 -- the answer of the tool: none where the words spell no command
 abbrev pub Says : Option Files → Option Request → Answer → Type 0

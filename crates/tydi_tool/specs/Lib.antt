@@ -38,5 +38,7 @@ pub mod Texts
 pub mod Traces
 pub mod Trees
 pub mod WiringLaw
+pub mod Watches
+pub mod WatchLaw
 pub mod Words
 pub mod DriveLaw

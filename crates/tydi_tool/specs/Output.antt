@@ -10,6 +10,7 @@ use Rattle.testbench.specs.declared.bench_pieces.BenchPieces.{BenchPieces}
 use Rattle.vcd_read.specs.Kept.{bytes_of}
 use Rattle.value_text.specs.Pieces as values
 use Rattle.vhdl_writer.specs.Designs as designs
+use Rattle.watch_text.specs.Pieces as monitors
 use Rattle.tydi_tool.specs.declared.source.Source.{Source}
 use Rattle.tydi_tool.specs.declared.source.Source.TheVariants as sources
 
@@ -26,3 +27,4 @@ text_of (sources.Design pieces) = designs.text_left pieces
 text_of (sources.Lines pieces) = lines_left pieces
 text_of (sources.Dump text) = bytes_of text
 text_of (sources.Value pieces) = values.text_left pieces
+text_of (sources.Watch pieces) = monitors.text_left pieces

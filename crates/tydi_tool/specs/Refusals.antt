@@ -19,6 +19,8 @@ use Rattle.vhdl_text.specs.declared.fault.VhdlFault.{VhdlFault}
 use Rattle.vhdl_text.specs.declared.fault.VhdlFault.TheVariants as benching
 use Rattle.vhdl_meaning.specs.declared.run.RunFault.{RunFault}
 use Rattle.vhdl_meaning.specs.declared.run.RunFault.TheVariants as running
+use Rattle.watch_text.specs.declared.fault.WatchFault.{WatchFault}
+use Rattle.watch_text.specs.declared.fault.WatchFault.TheVariants as watching
 use Rattle.tydi_tool.specs.declared.refusal.Detail.{Detail}
 use Rattle.tydi_tool.specs.declared.refusal.Detail.TheVariants as details
 
@@ -161,6 +163,11 @@ refusal_of_bench word (benching.NotForm offset) = Some (of_file_with (codes "Not
 refusal_of_bench word (benching.UnknownSignal offset) = Some (of_file_with (codes "UnknownSignal") word (Number offset))
 refusal_of_bench word (benching.TwoDrivers offset) = Some (of_file_with (codes "TwoDrivers") word (Number offset))
 refusal_of_bench word benching.Memory = None
+
+-- the refusal of a monitor text of this word with this error; want of memory is none
+abbrev pub refusal_of_watch : List ℕ → WatchFault → Option Refusal
+refusal_of_watch word (watching.NotForm offset) = Some (of_file_with (codes "NotForm") word (Number offset))
+refusal_of_watch word watching.Memory = None
 
 -- the refusal of a run text of this word with this error; want of memory is none
 abbrev pub refusal_of_run : List ℕ → RunFault → Option Refusal

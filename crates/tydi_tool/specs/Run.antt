@@ -9,17 +9,18 @@ use Rattle.tydi_tool.specs.declared.status.Status.{Status}
 use Rattle.tydi_tool.specs.declared.status.Status.TheVariants as statuses
 use Rattle.tydi_tool.specs.DecodeLaw.{IsReadBack, WritesDecoded, decode_words}
 use Rattle.tydi_tool.specs.DriveLaw.{WritesDriven, drive_words}
-use Rattle.tydi_tool.specs.Words.{Request, Check, Decode, Drive, Link, Read, Sim, Split, FileWord, file_words, Carry, Design, Bench, Testbench, Vcd, Gen, Compare}
+use Rattle.tydi_tool.specs.Words.{Request, Check, Decode, Drive, Link, Read, Sim, Split, FileWord, file_words, Carry, Design, Bench, Testbench, Vcd, Gen, Compare, Expect, Watch}
 use Rattle.tydi_tool.specs.BenchLaw.{WritesBench, WritesTestbench, test_words}
 use Rattle.tydi_tool.specs.CarryLaw.{WritesArrived, carry_words}
 use Rattle.tydi_tool.specs.CompareLaw.{WritesSame, compare_words}
 use Rattle.tydi_tool.specs.DumpLaw.{WritesShown, dump_words}
 use Rattle.tydi_tool.specs.JobLaw.{WritesSummary, job_words}
+use Rattle.tydi_tool.specs.WatchLaw.{WritesMonitor, expect_words, watch_words}
 use Rattle.tydi_tool.specs.WiringLaw.{WritesDesign}
 use Rattle.tydi_tool.specs.Outcome.{read_fault_line, out_of_answer, err_of_answer, status_of_answer, usage_line, memory_line, write_fault_line}
 use Rattle.tydi_tool.specs.Delivery.{Adds, AddsFront, AddsPart, TakesLine, Delivers}
 use Rattle.tydi_tool.specs.Ask.{Decides}
-use Rattle.tydi_tool.specs.Causes.{Row, CausedBy}
+use Rattle.tydi_tool.specs.Causes.{Row, CausedBy, IsQuietText}
 use Rattle.tydi_tool.specs.Commands.{ask_of, Says}
 use Rattle.tydi_tool.specs.Started.{IsOneOf, IsPulledOut, StartsWithin, NamesStarted}
 
@@ -201,6 +202,8 @@ WritesTrace known (Some (Testbench project test)) out_old out_new = Unit {0}
 WritesTrace known (Some (Vcd project port scope file)) out_old out_new = Unit {0}
 WritesTrace known (Some (Gen project port seed count)) out_old out_new = Unit {0}
 WritesTrace known (Some (Compare project port value trace)) out_old out_new = Unit {0}
+WritesTrace known (Some (Expect project port value)) out_old out_new = Unit {0}
+WritesTrace known (Some (Watch monitor trace)) out_old out_new = Unit {0}
 WritesTrace known (Some (Drive project port value plan)) out_old out_new =
     (text : List ℕ) × (WritesDriven known (drive_words project port value plan) text × Adds out_old out_new text)
 
@@ -248,6 +251,18 @@ abbrev pub WritesCompared : Files → Option Request → (out_old out_new : Opti
 WritesCompared known (Some (Compare project port value trace)) out_old out_new =
     (text : List ℕ) × (WritesSame known (compare_words project port value trace) text × Adds out_old out_new text)
 WritesCompared known request out_old out_new = Unit {0}
+
+-- where the command makes a monitor, out has exactly the text more of the monitor that expects the items of the value
+abbrev pub WritesExpected : Files → Option Request → (out_old out_new : Option (List ℕ)) → Type 0
+WritesExpected known (Some (Expect project port value)) out_old out_new =
+    (text : List ℕ) × (WritesMonitor known (expect_words project port value) text × Adds out_old out_new text)
+WritesExpected known request out_old out_new = Unit {0}
+
+-- where the command runs a monitor and no process reports, out has exactly the lines more of what each stream has seen
+abbrev pub WritesWatched : Files → Option Request → (out_old out_new : Option (List ℕ)) → Type 0
+WritesWatched known (Some (Watch monitor trace)) out_old out_new =
+    (text : List ℕ) × (IsQuietText known (watch_words monitor trace) text × Adds out_old out_new text)
+WritesWatched known request out_old out_new = Unit {0}
 
 -- where the command makes a job of a port, out has exactly the text more of the summary of that job, which drives the port with a value and carries it
 abbrev pub WritesJob : Files → Option Request → (out_old out_new : Option (List ℕ)) → Type 0

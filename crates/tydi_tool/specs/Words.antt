@@ -26,6 +26,8 @@ pub data Request : Type 0 where
   Vcd : List ℕ → List ℕ → List ℕ → List ℕ → Request
   Gen : List ℕ → List ℕ → (seed count : ℕ) → Request
   Compare : List ℕ → List ℕ → List ℕ → List ℕ → Request
+  Expect : List ℕ → List ℕ → List ℕ → Request
+  Watch : List ℕ → List ℕ → Request
 
 abbrev pub request_from : Command → Request
 request_from (commands.Check trace) = Check trace.now
@@ -43,6 +45,8 @@ request_from (commands.Testbench project test) = Testbench project.now test.now
 request_from (commands.Vcd project port scope file) = Vcd project.now port.now scope.now file.now
 request_from (commands.Gen project port seed count) = Gen project.now port.now seed count
 request_from (commands.Compare project port value trace) = Compare project.now port.now value.now trace.now
+request_from (commands.Expect project port value) = Expect project.now port.now value.now
+request_from (commands.Watch monitor trace) = Watch monitor.now trace.now
 
 -- a word that is not empty and does not begin with `-`
 abbrev pub is_word : List ℕ → Bool
@@ -138,6 +142,16 @@ compare_request (project ∷ port ∷ value ∷ trace ∷ []) =
     if (is_word project && is_word port) && (is_word value && is_word trace) then Some (Compare project port value trace) else None
 compare_request words = None
 
+-- `expect PROJECT PORT VALUE`
+abbrev pub expect_request : List (List ℕ) → Option Request
+expect_request (project ∷ port ∷ value ∷ []) = if (is_word project && is_word port) && is_word value then Some (Expect project port value) else None
+expect_request words = None
+
+-- `watch MONITOR TRACE`
+abbrev pub watch_request : List (List ℕ) → Option Request
+watch_request (monitor ∷ trace ∷ []) = if is_word monitor && is_word trace then Some (Watch monitor trace) else None
+watch_request words = None
+
 -- the command that the words spell: the command's own word, and then exactly its words
 abbrev pub request_of : List (List ℕ) → Option Request
 request_of [] = None
@@ -157,7 +171,9 @@ request_of (command ∷ words) =
     else (if bytes_eq command (codes "vcd") then vcd_request words
     else (if bytes_eq command (codes "gen") then gen_request words
     else (if bytes_eq command (codes "compare") then compare_request words
-    else None))))))))))))))
+    else (if bytes_eq command (codes "expect") then expect_request words
+    else (if bytes_eq command (codes "watch") then watch_request words
+    else None))))))))))))))))
 
 -- a file that a command names, and the most bytes that it may have
 pub record FileWord : Type 0 where
@@ -190,6 +206,10 @@ text_file word = record { word = word; limit = text_limit }
 abbrev pub bench_file : List ℕ → FileWord
 bench_file word = record { word = word; limit = trace_limit }
 
+-- a monitor may have as many bytes as a trace
+abbrev pub monitor_file : List ℕ → FileWord
+monitor_file word = record { word = word; limit = trace_limit }
+
 -- a dump may have as many bytes as a trace
 abbrev pub dump_file : List ℕ → FileWord
 dump_file word = record { word = word; limit = trace_limit }
@@ -210,6 +230,8 @@ file_words (Testbench project test) = project_file project ∷ []
 file_words (Vcd project port scope file) = project_file project ∷ dump_file file ∷ []
 file_words (Gen project port seed count) = project_file project ∷ []
 file_words (Compare project port value trace) = project_file project ∷ text_file value ∷ trace_file trace ∷ []
+file_words (Expect project port value) = project_file project ∷ text_file value ∷ []
+file_words (Watch monitor trace) = monitor_file monitor ∷ trace_file trace ∷ []
 
 -- the store may start each file of the command
 abbrev pub Allows : (List ℕ → Bool) → Option Request → Type 0

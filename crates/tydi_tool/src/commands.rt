@@ -27,6 +27,7 @@ use crate::designs::DesignText;
 use crate::drive::{bench, drive};
 use crate::ending::{OUTPUT_LIMIT, answered, answered_front, too_long};
 use crate::entities::design;
+use crate::expect::expect;
 use crate::jobs::generate;
 use crate::link::link;
 use crate::ports::split_of_port;
@@ -36,6 +37,7 @@ use crate::sim::sim;
 use crate::traces::TraceFile;
 use crate::trees::TreeText;
 use crate::vcd::vcd;
+use crate::watch::watch;
 use crate::words::Command;
 use split_text::{split_fits, split_text};
 use std::alloc::Global;
@@ -117,6 +119,12 @@ pub(crate) fn reply_to<S: Store>(alloc: Global, command: Command<'_>, store: &mu
             value,
             trace,
         } => compare(alloc, project, port, value, trace, store),
+        Command::Expect {
+            project,
+            port,
+            value,
+        } => expect(alloc, project, port, value, store),
+        Command::Watch { monitor, trace } => watch(alloc, monitor, trace, store),
     }
 }
 

@@ -138,7 +138,7 @@ fn compare_trace<S: Store>(
 }
 
 /// The items that a value has on each stream of its port.
-fn items_of_value(
+pub(crate) fn items_of_value(
     alloc: Global,
     split: &Split<'_>,
     value: PortValue,

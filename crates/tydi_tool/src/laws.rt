@@ -20,6 +20,7 @@ ghost use Rattle.tydi_tool.specs.Causes.{
   OtherHeaderCause,
   OutputTooLongCause,
   ParserCause,
+  ReportCause,
   ResolverCause,
   TextCause,
   TooLongCause,
@@ -40,19 +41,30 @@ ghost use Rattle.tydi_tool.specs.DriveLaw.{AcceptedPortsAreDriven, WrittenTraces
 ghost use Rattle.tydi_tool.specs.DumpLaw.{ShownDumpsAreWritten, WrittenDumpsAreShown};
 ghost use Rattle.tydi_tool.specs.JobLaw.{WrittenSummariesAreOfJobs};
 ghost use Rattle.tydi_tool.specs.Laws.{OneAnswer, SomeAnswer};
+ghost use Rattle.tydi_tool.specs.WatchLaw.{
+  DrivenTracesAreSeen,
+  OtherItemsAreTold,
+  OtherValuesAreTold,
+  ShownValuesAreSeen,
+  WrittenLinesAreQuiet,
+  WrittenMonitorsReport,
+};
 ghost use Rattle.tydi_tool.specs.WiringLaw.{LanguagesAreAlike, LanguagesAreRefusedAlike, WrittenDesignsAreWired};
 
 use carried_values::traces_arrive_whole;
 use cycle_trace::traces_are_read_as_spelled;
 use link_check::{compatible_ports_carry, projects_have_one_answer};
+use monitor_bench::monitors_report_the_first_difference;
 use port_bench::benches_show_their_runs;
 use port_drive::driven_texts_are_traces;
 use port_gen::jobs_are_carried;
 use trace_compare::{no_differences_where_same, texts_have_one_comparison};
 use trace_decode::texts_have_one_outcome;
+use trace_watch::texts_have_one_watching;
 use value_text::values_are_read_as_printed;
 use vcd_read::{dumps_show_traces, faults_name_streams};
 use vhdl_writer::{checked_nets_carry, each_signal_is_assigned_once, first_clash_is_reported};
+use watch_text::monitors_are_read_as_printed;
 
 /// The laws of answers: to given words and files there is an answer, and one.
 pub fn answers_are_one()
@@ -64,6 +76,7 @@ pub fn answers_are_one()
     texts_have_one_outcome();
     faults_name_streams();
     texts_have_one_comparison();
+    texts_have_one_watching();
 }
 
 /// The table of causes: each row's answer comes exactly where its cause stands in the words and the files, and each answer is of a
@@ -90,6 +103,7 @@ pub fn causes_are_told()
     ensures unfinished { ExactlyWhere rows.AnUnfinished UnfinishedCause }
     ensures disagreement { ExactlyWhere rows.ADisagreement DisagreeCause }
     ensures difference { ExactlyWhere rows.ADifference DifferenceCause }
+    ensures report { ExactlyWhere rows.AReport ReportCause }
     ensures text { ExactlyWhere rows.AText TextCause }
     ensures no_test { ExactlyWhere rows.NoTest NoTestCause }
     ensures each { EachIsOfARow }
@@ -121,6 +135,22 @@ pub fn traces_are_compared()
     ensures driven { DrivenTracesAreSame }
 {
     no_differences_where_same();
+}
+
+/// The laws of `expect` and of `watch`, over the words and the files alone. Each text that `expect` writes is that of the monitor which expects the
+/// items of the value. It is read as this monitor, which says of each stream of a trace where the items done first leave the expected ones. Over
+/// each text that `drive` wrote for the value it says that all items are seen. Over a trace that `decode` reads as another value, some stream
+/// reports or has seen fewer items.
+pub fn monitors_are_watched()
+    ensures written { WrittenMonitorsReport }
+    ensures quiet { WrittenLinesAreQuiet }
+    ensures shown { ShownValuesAreSeen }
+    ensures items { OtherItemsAreTold }
+    ensures driven { DrivenTracesAreSeen }
+    ensures values { OtherValuesAreTold }
+{
+    monitors_are_read_as_printed();
+    monitors_report_the_first_difference();
 }
 
 /// The laws of `carry`. Each text that it writes is that of the trace that arrives at the leaf sink to which the nets lead from the leaf

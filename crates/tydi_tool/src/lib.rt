@@ -23,12 +23,14 @@ mod driven_text;
 mod driving;
 mod ending;
 mod entities;
+mod expect;
 mod gather;
 mod jobs;
 mod laws;
 mod link;
 mod loading;
 mod making;
+mod monitor_text;
 mod output;
 mod ports;
 mod projects;
@@ -44,13 +46,16 @@ mod traces;
 mod trees;
 mod vcd;
 mod vcd_file;
+mod watch;
+mod watch_file;
+mod watch_lines;
 mod words;
 
 pub use answer::{Answer, Reply};
 pub use laws::{
     answers_are_one, benches_drive_ports, carried_traces_arrive, causes_are_told, drives_are_legal,
-    dumps_are_sampled, jobs_are_reported, traces_are_compared, values_are_read_back,
-    written_designs_are_wired,
+    dumps_are_sampled, jobs_are_reported, monitors_are_watched, traces_are_compared,
+    values_are_read_back, written_designs_are_wired,
 };
 pub use output::Output;
 pub use running::run;

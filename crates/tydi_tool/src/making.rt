@@ -29,6 +29,7 @@ pub(crate) fn make_piece(
         Source::Design(pieces) => pieces.next(alloc, piece),
         Source::Lines(pieces) => pieces.next(alloc, piece),
         Source::Value(pieces) => pieces.next(alloc, piece),
+        Source::Watch(pieces) => pieces.next(alloc, piece),
         Source::Dump(text) => {
             next_part(text, piece);
             Ok(())

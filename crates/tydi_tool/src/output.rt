@@ -4,6 +4,7 @@ ghost use Rattle.port_drive.specs.PortText.{text_left};
 ghost use Rattle.vcd_read.specs.Kept.{bytes_of};
 ghost use Rattle.value_text.specs.Pieces as values;
 ghost use Rattle.vhdl_writer.specs.Designs as designs;
+ghost use Rattle.watch_text.specs.Pieces as monitors;
 ghost use Rattle.tydi_tool.specs.Output.{lines_left};
 
 use crate::making::make_piece;
@@ -19,6 +20,7 @@ use tydi_base::{List, Memory};
 use value_text::ValuePieces;
 use vcd_read::DumpText;
 use vhdl_writer::DesignPieces;
+use watch_text::WatchPieces;
 
 /// A text for out, which is made piece by piece as it is written. Contracts see what is left of it.
 #[derive(Drop)]
@@ -114,6 +116,17 @@ impl Output {
     {
         Output {
             source: Source::Value(pieces),
+            left,
+        }
+    }
+
+    /// The text of a monitor, which has so many bytes.
+    pub(crate) fn watch(pieces: WatchPieces, left: u64) -> Output
+        requires { left ≡ length (monitors.text_left pieces) }
+        ensures { result ≡ monitors.text_left pieces }
+    {
+        Output {
+            source: Source::Watch(pieces),
             left,
         }
     }

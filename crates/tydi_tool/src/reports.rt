@@ -37,7 +37,7 @@ pub(crate) fn report(alloc: Global, survey: &Survey) -> Reply
 }
 
 /// The path of the stream of this number.
-fn path_of(heads: &[Head], stream: usize) -> &Path
+pub(crate) fn path_of(heads: &[Head], stream: usize) -> &Path
     requires { stream < length heads.now }
     ensures { result.now ≡ path_of_stream heads.now stream }
 {

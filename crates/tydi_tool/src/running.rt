@@ -24,6 +24,8 @@ ghost use Rattle.tydi_tool.specs.Run.{
   WritesSampled,
   WritesCarried,
   WritesCompared,
+  WritesExpected,
+  WritesWatched,
   WritesWired,
   WritesLines,
   WritesTrace,
@@ -36,7 +38,7 @@ use crate::commands::reply_to;
 use crate::delivery::{deliver, deliver_line};
 use crate::laws::{
     benches_drive_ports, carried_traces_arrive, dumps_are_sampled, jobs_are_reported,
-    traces_are_compared, written_designs_are_wired,
+    monitors_are_watched, traces_are_compared, written_designs_are_wired,
 };
 use crate::status::Status;
 use crate::words::words_of;
@@ -107,6 +109,13 @@ pub fn run<S: Store, O: Sink, E: Sink>(
     // those of the value.
     ensures compared { result ≡ statuses.Done → IfSome (S.files store.old) (λ known. WritesCompared known (request_of words.now) (O.taken out.old)
         (O.taken out.new)) }
+    // Where a monitor of a port is written for a value, out has exactly the text of the monitor that expects the items of the value. It is read as this
+    // monitor, and over each trace with the heads of the port the monitor says of each stream where the items done first leave the expected ones.
+    ensures expected { result ≡ statuses.Done → IfSome (S.files store.old) (λ known. WritesExpected known (request_of words.now) (O.taken out.old)
+        (O.taken out.new)) }
+    // Where a monitor runs over a trace and no process of it reports, out has exactly a line for each stream, with how many items it has seen.
+    ensures watched { result ≡ statuses.Done → IfSome (S.files store.old) (λ known. WritesWatched known (request_of words.now) (O.taken out.old)
+        (O.taken out.new)) }
     // Where no count of faults rose, the run ends with that answer, as Usage, or for want of memory.
     ensures complete { (Rose (S.faults store.old) (S.faults store.new) → ⊥) →
         (Rose (O.faults out.old) (O.faults out.new) → ⊥) → (Rose (E.faults err.old) (E.faults err.new) → ⊥) →
@@ -138,6 +147,7 @@ pub fn run<S: Store, O: Sink, E: Sink>(
     dumps_are_sampled();
     jobs_are_reported();
     traces_are_compared();
+    monitors_are_watched();
     run_words(alloc, words, store, out, err)
 }
 

@@ -7,6 +7,7 @@ use tydi_base::List;
 use value_text::ValuePieces;
 use vcd_read::DumpText;
 use vhdl_writer::DesignPieces;
+use watch_text::WatchPieces;
 
 /// Where the pieces of a text come from.
 #[derive(Drop)]
@@ -25,4 +26,6 @@ pub(crate) enum Source {
     Dump(DumpText),
     /// The value of a port, whose text is made part after part.
     Value(ValuePieces),
+    /// The monitor of a port, whose tables and processes are made part after part.
+    Watch(WatchPieces),
 }

@@ -17,6 +17,8 @@ ghost use Rattle.tydi_tool.specs.Words.{
   decode_request,
   design_request,
   compare_request,
+  expect_request,
+  watch_request,
   bench_request,
   testbench_request,
   vcd_request,
@@ -148,6 +150,22 @@ pub enum Command<'a> {
         /// The file of the trace.
         trace: &'a Text,
     },
+    /// Write the monitor that watches a port for a value.
+    Expect {
+        /// The file of the project.
+        project: &'a Text,
+        /// The port, as `a::b::s.p`.
+        port: &'a Text,
+        /// The file of the value.
+        value: &'a Text,
+    },
+    /// Run a monitor over a trace by its meaning.
+    Watch {
+        /// The file of the monitor.
+        monitor: &'a Text,
+        /// The file of the trace.
+        trace: &'a Text,
+    },
     /// Write the summary of a job that two numbers make.
     Gen {
         /// The file of the project.
@@ -196,6 +214,10 @@ pub fn words_of<'a>(words: &'a [Text]) -> Option<Command<'a>>
         gen_of(rest)
     } else if command.as_str() == "compare" {
         compare_of(rest)
+    } else if command.as_str() == "expect" {
+        expect_of(rest)
+    } else if command.as_str() == "watch" {
+        watch_of(rest)
     } else {
         None
     }
@@ -370,6 +392,32 @@ fn compare_of<'a>(words: &'a [Text]) -> Option<Command<'a>>
                 value,
                 trace,
             })
+        }
+        _ => None,
+    }
+}
+
+fn expect_of<'a>(words: &'a [Text]) -> Option<Command<'a>>
+    ensures { option_map request_from result ≡ expect_request words.now }
+{
+    match words {
+        [project, port, value] if are_words(project, port) && is_word(value) => {
+            Some(Command::Expect {
+                project,
+                port,
+                value,
+            })
+        }
+        _ => None,
+    }
+}
+
+fn watch_of<'a>(words: &'a [Text]) -> Option<Command<'a>>
+    ensures { option_map request_from result ≡ watch_request words.now }
+{
+    match words {
+        [monitor, trace] if is_word(monitor) && is_word(trace) => {
+            Some(Command::Watch { monitor, trace })
         }
         _ => None,
     }

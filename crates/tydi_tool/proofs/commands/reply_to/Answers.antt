@@ -110,3 +110,19 @@ returns-in-Compare g c = record {
       (Rose (g.S.Store.faults c.args.store.now) (g.S.Store.faults c.compare.new.store)) (ask_of (request_from command)) c.compare.result)
       (sym c.in-Compare.is) c.compare.ensures.decided;
 }
+
+pub returns-in-Expect : goal.returns-in-Expect
+returns-in-Expect g c = record {
+  decided = subst (λ (command : Command). Decides
+      (g.S.Store.files c.args.store.now) (g.S.Store.started c.args.store.now) (g.S.Store.started c.expect.new.store)
+      (Rose (g.S.Store.faults c.args.store.now) (g.S.Store.faults c.expect.new.store)) (ask_of (request_from command)) c.expect.result)
+      (sym c.in-Expect.is) c.expect.ensures.decided;
+}
+
+pub returns-in-Watch : goal.returns-in-Watch
+returns-in-Watch g c = record {
+  decided = subst (λ (command : Command). Decides
+      (g.S.Store.files c.args.store.now) (g.S.Store.started c.args.store.now) (g.S.Store.started c.watch.new.store)
+      (Rose (g.S.Store.faults c.args.store.now) (g.S.Store.faults c.watch.new.store)) (ask_of (request_from command)) c.watch.result)
+      (sym c.in-Watch.is) c.watch.ensures.decided;
+}

@@ -65,6 +65,9 @@ returns-clause-disagreement c = exactly rows.ADisagreement
 pub returns-clause-difference : goal.returns-clause-difference
 returns-clause-difference c = exactly rows.ADifference
 
+pub returns-clause-report : goal.returns-clause-report
+returns-clause-report c = exactly rows.AReport
+
 pub returns-clause-text : goal.returns-clause-text
 returns-clause-text c = exactly rows.AText
 

@@ -2,6 +2,7 @@ use Rattle.tydi_tool.proofs.RunLemmas.{is_done, IsAnswered-run, IsCaused-answere
 use Rattle.tydi_tool.proofs.RunLemmas.{LeavesOut-run, Refusal-run, ErrFront-run, LeavesErr-run, StartedAtEnd-run, WritesReadBack-answered}
 use Rattle.tydi_tool.proofs.RunLemmas.{WritesTrace-answered, WritesValue-answered, usage-run, read-run, write-run, write_line-run, memory-run}
 use Rattle.tydi_tool.proofs.RunLemmas.{WritesCarried-answered, WritesWired-answered, usage-exactly, WritesLines-answered, WritesSampled-answered, WritesJob-answered, WritesCompared-answered, AnswersCauses-complete}
+use Rattle.tydi_tool.proofs.RunLemmas.{WritesExpected-answered, WritesWatched-answered}
 use Rattle.tydi_tool.proofs.running.run.Goals as goal
 
 pub returns-clause-read_fault_line : goal.returns-clause-read_fault_line
@@ -92,6 +93,16 @@ returns-clause-generated g c = λ done.
 pub returns-clause-compared : goal.returns-clause-compared
 returns-clause-compared g c = λ done.
     WritesCompared-answered c.traces_are_compared.ensures.same _ _ _ _ _ _ _ (IsAnswered-run _ _ _ _ _ _ _ _ _ _ _ _ c.run_words.ensures (is_done _ done))
+    done
+
+pub returns-clause-expected : goal.returns-clause-expected
+returns-clause-expected g c = λ done.
+    WritesExpected-answered c.monitors_are_watched.ensures.written _ _ _ _ _ _ _ (IsAnswered-run _ _ _ _ _ _ _ _ _ _ _ _ c.run_words.ensures (is_done _ done))
+    done
+
+pub returns-clause-watched : goal.returns-clause-watched
+returns-clause-watched g c = λ done.
+    WritesWatched-answered c.monitors_are_watched.ensures.quiet _ _ _ _ _ _ _ (IsAnswered-run _ _ _ _ _ _ _ _ _ _ _ _ c.run_words.ensures (is_done _ done))
     done
 
 pub returns-clause-usage : goal.returns-clause-usage
