@@ -27,7 +27,7 @@ $ check t t
 ! tydi: Usage
 = 2
 # a command that is not built yet
-$ watch m t
+$ reshape p n::s.p t
 ! tydi: Usage
 = 2
 # no such file
