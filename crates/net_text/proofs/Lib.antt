@@ -1,0 +1,7 @@
+mod Examples
+mod LineLemmas
+pub mod OrderLemmas
+mod CapacityLemmas
+mod NetLemmas
+pub mod FitLemmas
+pub mod NetFaults

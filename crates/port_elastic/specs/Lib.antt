@@ -1,0 +1,4 @@
+pub mod Elastic
+pub mod Laws
+pub mod Starting
+pub mod PortText

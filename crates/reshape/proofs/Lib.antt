@@ -1,0 +1,9 @@
+pub mod FrontLoads
+pub mod FrontLemmas
+pub mod DueLemmas
+pub mod FilledLemmas
+pub mod PoolLemmas
+pub mod CountLemmas
+pub mod ReshapeLemmas
+pub mod CrossLemmas
+pub mod TurnLemmas

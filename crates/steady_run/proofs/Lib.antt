@@ -1,0 +1,5 @@
+pub mod PauseLemmas
+pub mod GrowLemmas
+pub mod FrontLemmas
+pub mod GapLemmas
+pub mod LegalLemmas
