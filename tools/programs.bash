@@ -9,8 +9,7 @@ built=$top/crates/tydi/out/tydi   # proved and built here, by tools/build or `rt
 tried=$top/crates/tydi/out/tried  # built here without proof, by tools/try
 to_build="$top/tools/build proves and builds one in an hour or more, $top/tools/try builds one without proof in some minutes"
 
-# source_folders: sets `folders` to the src/, specs/ and proofs/ of each crate that the program stands on, as crates.txt lists them, and `lines` to
-# what it says of these crates
+# source_folders: sets `folders` to the src/, specs/ and proofs/ of each crate that the program stands on, as crates.txt lists them
 source_folders() {
   local name libraries part wanted=(tydi)
   declare -A listed=()
@@ -19,13 +18,11 @@ source_folders() {
     [ -z "$name" ] || listed[$name]=$libraries
   done <"$top/crates.txt"
   folders=()
-  lines=()
   while [ "${#wanted[@]}" -gt 0 ]; do
     name=${wanted[-1]}
     unset 'wanted[-1]'
     [ -n "${listed[$name]+listed}" ] || continue
     wanted+=(${listed[$name]})
-    lines+=("$name:${listed[$name]}")
     unset "listed[$name]"
     for part in src specs proofs; do
       [ ! -d "$top/crates/$name/$part" ] || folders+=("crates/$name/$part")
@@ -48,17 +45,13 @@ sources() {
   done
 }
 
-# sum_of_sources: prints the SHA-256 of the lines that sha256sum prints for the sources, in the order of their names as bytes. Of crates.txt it
-# takes what is said of the crates that the program stands on
+# sum_of_sources: prints the SHA-256 of the lines that sha256sum prints for the sources, in the order of their names as bytes
 sum_of_sources() (
   cd "$top" && sources || exit
   export LC_ALL=C
-  {
-    printf '%s\n' "${lines[@]}" | sort | sha256sum | sed 's/-$/crates.txt/'
-    for ((first = 0; first < ${#files[@]}; first += 500)); do
-      sha256sum -- "${files[@]:first:500}"
-    done | grep -v ' crates.txt$'
-  } | sort -k 2 | sha256sum
+  for ((first = 0; first < ${#files[@]}; first += 500)); do
+    sha256sum -- "${files[@]:first:500}"
+  done | sort -k 2 | sha256sum
 )
 
 # made_of PROGRAM KIT: prints the lines of PROGRAM.made where this kit made PROGRAM from the sources as they stand
